@@ -9,10 +9,10 @@ use Rattle.pcal_tree.specs.Offences.{first}
 use Rattle.pcal_tree.specs.OffencesNames.{process_names}
 use Rattle.pcal_tree.specs.OffencesCounts.{variable_names, procedure_names, all_label_names, first_past, long_chains, deep_definitions, count_offences}
 use Rattle.algorithm_limits.specs.declared.count.Count.{Count}
-use Rattle.algorithm_limits.specs.Joined.{joined}
+use Rattle.algorithm_answer.specs.Joined.{joined}
 use Rattle.algorithm_limits.specs.Counting.{none_of, counted, past_limit, variables_in, processes_in, procedures_in}
 use Rattle.algorithm_limits.specs.LabelsIn.{labels_in}
-use Rattle.algorithm_limits.proofs.Joins.{first_append}
+use Rattle.algorithm_answer.proofs.Joins.{first_append}
 use Rattle.algorithm_limits.proofs.Counts.{past_is_first, variables_are, procedures_are, processes_are}
 use Rattle.algorithm_limits.proofs.LabelWalks.{labels_are}
 

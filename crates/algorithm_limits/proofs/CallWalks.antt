@@ -19,10 +19,10 @@ use Rattle.pcal_tree.specs.InMemory.{span_of, binds_at, simple_at, Before, stmt_
 use Rattle.pcal_tree.specs.Offences.{offence_if, first}
 use Rattle.pcal_tree.specs.OffencesCounts.{calls_in, calls_of, calls_of_some, Chains, longest, chain_to, long_chains}
 use Rattle.pcal_tree.proofs.InMemoryEach.{label_at, simple_in_list_at, if_at, either_at, with_at, while_at}
-use Rattle.algorithm_limits.specs.Joined.{joined}
+use Rattle.algorithm_answer.specs.Joined.{joined}
 use Rattle.algorithm_limits.specs.Numbers.{Numbers, number_of, with_number}
 use Rattle.algorithm_limits.specs.ChainsIn.{longest_in, AreChains}
-use Rattle.algorithm_limits.proofs.Joins.{joined_assoc, joined_none, first_append}
+use Rattle.algorithm_answer.proofs.Joins.{joined_assoc, joined_none, first_append}
 use Rattle.algorithm_limits.proofs.Tables.{number_of_with}
 
 pub longest_append : (es : Numbers) (xs ys : List Word) → longest_in es (xs ++ ys) ≡ max (longest_in es xs) (longest_in es ys)

@@ -12,10 +12,10 @@ use Rattle.pcal_tree.specs.InMemory.{definition_at, definitions_at}
 use Rattle.pcal_tree.specs.Program.{inner}
 use Rattle.pcal_tree.specs.Offences.{offence_if, first}
 use Rattle.pcal_tree.specs.OffencesCounts.{deep_definitions}
-use Rattle.algorithm_limits.specs.Joined.{joined}
+use Rattle.algorithm_answer.specs.Joined.{joined}
 use Rattle.algorithm_limits.specs.Numbers.{Numbers, number_of, with_number}
 use Rattle.algorithm_limits.specs.DepthsIn.{depth_in, AreDepths}
-use Rattle.algorithm_limits.proofs.Joins.{joined_assoc, joined_none, first_append}
+use Rattle.algorithm_answer.proofs.Joins.{joined_assoc, joined_none, first_append}
 use Rattle.algorithm_limits.proofs.Tables.{number_of_with}
 
 -- what was found, with what is found from this definition on

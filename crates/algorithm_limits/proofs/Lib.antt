@@ -1,5 +1,4 @@
 -- That the first offences are found.
-pub mod Joins
 pub mod TokensFound
 pub mod Counts
 pub mod Heights
@@ -13,6 +12,3 @@ pub mod DeepFound
 pub mod AllCounts
 pub mod WithinLimits
 mod Rows
-pub mod PlacedTokens
-pub mod AnswerRules
-pub mod LeftOutFirst

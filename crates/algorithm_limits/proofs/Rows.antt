@@ -9,8 +9,8 @@ use Rattle.tla_token.specs.Lexemes.{Kind, name, one}
 use Rattle.tla_token.specs.Tokens.{Token}
 use Rattle.tla_tree.specs.Tree.{Name, local}
 use Rattle.pcal_tree.specs.Offences.{first}
-use Rattle.algorithm_limits.specs.Joined.{joined}
-use Rattle.algorithm_limits.specs.TokensRefused.{left_out_at, token_refusals}
+use Rattle.algorithm_answer.specs.Joined.{joined}
+use Rattle.algorithm_answer.specs.TokensRefused.{left_out_at, token_refusals}
 use Rattle.algorithm_limits.specs.Counting.{none_of, counted, past_limit}
 use Rattle.pcal_tree.specs.declared.mark.Mark.TheVariants.{Plain}
 use Rattle.pcal_tree.specs.Algorithm.{either, skip, done, then, mark, no_branches, or}

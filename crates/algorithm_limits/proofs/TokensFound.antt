@@ -13,9 +13,9 @@ use Rattle.tla_token.specs.Tokens.{Token}
 use Rattle.tla_token.specs.TokensSeen.{kind_seen, token_seen}
 use Rattle.tla_token.specs.AlgorithmOffences.{begins_path, is_left_out}
 use Rattle.pcal_tree.specs.Offences.{offence_if, first}
-use Rattle.algorithm_limits.specs.Joined.{joined}
-use Rattle.algorithm_limits.specs.TokensRefused.{left_out_at, at_first_token, past_tokens_at}
-use Rattle.algorithm_limits.proofs.Joins.{joined_assoc, joined_none, first_append}
+use Rattle.algorithm_answer.specs.Joined.{joined}
+use Rattle.algorithm_answer.specs.TokensRefused.{left_out_at, at_first_token, past_tokens_at}
+use Rattle.algorithm_answer.proofs.Joins.{joined_assoc, joined_none, first_append}
 
 -- ---- one token
 

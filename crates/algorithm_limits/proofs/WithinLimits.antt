@@ -7,10 +7,10 @@ use Rattle.tla_token.specs.Tokens.{Token}
 use Rattle.tla_tree.specs.Tree.{Tree}
 use Rattle.pcal_tree.specs.declared.algorithm.Algorithm as code
 use Rattle.pcal_tree.specs.Offences.{first}
-use Rattle.algorithm_limits.specs.Joined.{joined}
-use Rattle.algorithm_limits.specs.TokensRefused.{token_refusals}
-use Rattle.algorithm_limits.specs.Answered.{reading_offences}
-use Rattle.algorithm_limits.proofs.Joins.{first_append}
+use Rattle.algorithm_answer.specs.Joined.{joined}
+use Rattle.algorithm_answer.specs.TokensRefused.{token_refusals}
+use Rattle.algorithm_limits.specs.ReadOffences.{reading_offences}
+use Rattle.algorithm_answer.proofs.Joins.{first_append}
 
 pub first_is : (ts : List Tree) (tokens : List Token) (read : Result code.Algorithm Stop) (a b both : Option Refusal) → a ≡ first (token_refusals tokens) → b ≡ first (reading_offences ts read) → both ≡ joined a b
     → first (token_refusals tokens ++ reading_offences ts read) ≡ both

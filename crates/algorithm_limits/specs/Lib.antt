@@ -1,9 +1,7 @@
-pub mod Joined
-pub mod TokensRefused
 pub mod Counting
 pub mod LabelNames
 pub mod LabelsIn
 pub mod Numbers
 pub mod ChainsIn
 pub mod DepthsIn
-pub mod Answered
+pub mod ReadOffences

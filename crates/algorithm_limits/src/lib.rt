@@ -5,7 +5,6 @@ pub mod bound;
 pub mod chains;
 pub mod count;
 pub mod labels;
-pub mod laws;
 pub mod limits;
 pub mod names;
 pub mod nesting;

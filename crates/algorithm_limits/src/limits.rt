@@ -7,8 +7,8 @@ ghost use Rattle.tla_token.specs.TokensSeen.{tokens_seen};
 ghost use Rattle.pcal_tree.specs.InMemory.{algorithm_at, past_algorithm};
 ghost use Rattle.pcal_tree.specs.Offences.{first};
 ghost use Rattle.pcal_tree.specs.OffencesCounts.{count_offences};
-ghost use Rattle.algorithm_limits.specs.TokensRefused.{token_refusals};
-ghost use Rattle.algorithm_limits.specs.Answered.{reading_offences};
+ghost use Rattle.algorithm_answer.specs.TokensRefused.{token_refusals};
+ghost use Rattle.algorithm_limits.specs.ReadOffences.{reading_offences};
 
 use crate::chains::long_chain;
 use crate::labels::labels;

@@ -2,7 +2,7 @@
 
 ghost use Rattle.std.specs.Prelude.{◌≡◌, Some};
 ghost use Rattle.pcal_tree.specs.Offences.{offence_if, is_before, is_sooner, first};
-ghost use Rattle.algorithm_limits.specs.Joined.{joined};
+ghost use Rattle.algorithm_answer.specs.Joined.{joined};
 
 use tla_token::rule::number;
 use tla_token::{Place, Refusal, Rule};

@@ -8,7 +8,7 @@ ghost use Rattle.tla_token.specs.Signs.{is_among as is_among_of};
 ghost use Rattle.tla_token.specs.Words.{begins_fairness};
 ghost use Rattle.tla_token.specs.TokensSeen.{kind_seen, token_seen, tokens_seen};
 ghost use Rattle.pcal_tree.specs.Offences.{first};
-ghost use Rattle.algorithm_limits.specs.TokensRefused.{left_out_at, past_tokens_at, token_refusals};
+ghost use Rattle.algorithm_answer.specs.TokensRefused.{left_out_at, past_tokens_at, token_refusals};
 
 use crate::order::{least, or_offence};
 use tla_token::word::is_among;

@@ -27,12 +27,12 @@ use Rattle.pcal_tree.specs.InMemory.{algorithm_at, past_algorithm}
 use Rattle.pcal_tree.specs.Offences.{first}
 use Rattle.pcal_tree.specs.OffencesCounts.{count_offences}
 use Rattle.pcal_tree.specs.OffencesSyntax.{algorithms, PassesTokens, RefusesTokens}
-use Rattle.algorithm_limits.specs.TokensRefused.{left_out_at}
-use Rattle.algorithm_limits.specs.Answered.{AreAnswered}
-use Rattle.algorithm_limits.proofs.LeftOutFirst.{IsLeftOut, AreLater, counts_later, left_out_first, some_first, seen_alike}
+use Rattle.algorithm_answer.specs.TokensRefused.{left_out_at}
+use Rattle.algorithm_answer.specs.Answered.{AreAnswered}
+use Rattle.algorithm_answer.proofs.LeftOutFirst.{IsLeftOut, AreLater, counts_later, left_out_first, some_first, seen_alike}
 use Rattle.algorithm_reader.specs.PartsRead.{ReadsPart}
-use Rattle.algorithm_reader.proofs.StopsOf.{place_at}
-use Rattle.algorithm_reader.proofs.StopsWithin.{ReadsWithin, limited_passes, refused_through, is_refused_there, one_of_both}
+use Rattle.syntax_reading.proofs.StopsOf.{place_at}
+use Rattle.syntax_reading.proofs.StopsWithin.{ReadsWithin, limited_passes, refused_through, is_refused_there, one_of_both}
 use Rattle.algorithm_reader.specs.AnsweredRead.{Answers, AnswersRead}
 
 -- ---- tokens in memory, as both grammars see them

@@ -8,7 +8,7 @@ use Rattle.tla_tree.specs.TokenViews.{view}
 use Rattle.tla_tree.specs.Lexical.{Token}
 use Rattle.expr_nodes.specs.Ahead.{ahead}
 use Rattle.pcal_tree.specs.GrammarParts.{first_place, last_place}
-use Rattle.algorithm_reader.specs.TokenReaders.{first}
+use Rattle.syntax_reading.specs.TokenReaders.{first}
 
 last_first : (x : Token) (xs ys : List Token) → (first (drop (length xs) (x ∷ (xs ++ ys)))).place ≡ last_place (x ∷ xs)
 last_first x [] ys = refl

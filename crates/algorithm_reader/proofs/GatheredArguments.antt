@@ -10,8 +10,8 @@ use Rattle.expr_nodes.specs.declared.cursor.Halt.{Halt}
 use Rattle.expr_nodes.specs.ReadIn.{Reads, Fails}
 use Rattle.expr_nodes.specs.Ahead.{ahead}
 use Rattle.pcal_tree.specs.GrammarParts.{Arguments, some_arguments}
-use Rattle.algorithm_reader.specs.TokenReaders.{first, by_next, a_mark, Parts}
-use Rattle.algorithm_reader.specs.ReadSimple.{arguments_by, read_arguments}
+use Rattle.syntax_reading.specs.TokenReaders.{first, by_next, a_mark, Parts}
+use Rattle.syntax_reading.specs.ReadSimple.{arguments_by, read_arguments}
 use Rattle.algorithm_reader.proofs.Gathered.{fails_then}
 
 not_closed : (m : Parts) (p q : Place) (k : TokenView) (us : List Token) → is_mark tk.close_bracket k ≡ false → arguments_by m p q k us ≡ then_read (m.arguments us) (λ xs. a_mark tk.close_bracket >>= λ r. gives (some_arguments p xs r))

@@ -19,8 +19,8 @@ use Rattle.pcal_tree.specs.declared.algorithm.Assignment.{Assignment}
 use Rattle.pcal_tree.specs.InMemory.{assignments_at, past_assignment}
 use Rattle.pcal_tree.specs.Algorithm as tree
 use Rattle.pcal_tree.specs.GrammarParts.{Assignments, last_assignment, assignment, assignments_of}
-use Rattle.algorithm_reader.specs.TokenReaders.{first, by_next, a_mark, Parts}
-use Rattle.algorithm_reader.specs.ReadSimple.{read_left, read_assignments, assignments_by}
+use Rattle.syntax_reading.specs.TokenReaders.{first, by_next, a_mark, Parts}
+use Rattle.syntax_reading.specs.ReadSimple.{read_left, read_assignments, assignments_by}
 use Rattle.algorithm_reader.specs.PartsRead.{StandsFor}
 use Rattle.algorithm_reader.specs.SimpleRead.{left_reader, assignment_reader, assignments_reader, assignment_at, first_assigned, all_assigned_at, past_all_assigned}
 use Rattle.algorithm_reader.proofs.Gathered.{put_after, gives_put, fails_then, as_triple, GoesOn, EndsAt, StaysSame}

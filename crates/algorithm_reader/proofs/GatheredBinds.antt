@@ -19,8 +19,8 @@ use Rattle.pcal_tree.specs.InMemory.{bind_at, binds_at, past_bind}
 use Rattle.pcal_tree.specs.Algorithm as tree
 use Rattle.pcal_tree.specs.OpenForms.{after_binds}
 use Rattle.pcal_tree.specs.GrammarParts.{Separator, Binds, last_bind, bind, bound, binds_of}
-use Rattle.algorithm_reader.specs.TokenReaders.{first, by_next, past, name_of, name_within, Parts}
-use Rattle.algorithm_reader.specs.ReadParts.{read_separator, read_binds, bind_by, binds_by}
+use Rattle.syntax_reading.specs.TokenReaders.{first, by_next, past, name_of, name_within, Parts}
+use Rattle.syntax_reading.specs.ReadParts.{read_separator, read_binds, bind_by, binds_by}
 use Rattle.algorithm_reader.specs.PartsRead.{StandsFor, is_another, first_bound, bind_reader, all_bound_at, past_all_bound, bound_from}
 use Rattle.algorithm_reader.proofs.Gathered.{put_after, gives_put, fails_then, as_triple, GoesOn, EndsAt, StaysSame}
 use Rattle.algorithm_reader.proofs.GatheredVariables.{the_separator}

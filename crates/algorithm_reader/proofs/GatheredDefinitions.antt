@@ -16,8 +16,8 @@ use Rattle.pcal_tree.specs.declared.algorithm.Definition.{Definition}
 use Rattle.pcal_tree.specs.InMemory.{definition_at, past_definition}
 use Rattle.pcal_tree.specs.Algorithm as tree
 use Rattle.pcal_tree.specs.GrammarParts.{Names, Heading, plain, applied, Definitions, last_definition, more_definitions, definitions_of, definition_of}
-use Rattle.algorithm_reader.specs.TokenReaders.{first, by_next, a_mark, a_name, name_of, Parts}
-use Rattle.algorithm_reader.specs.ReadParts.{read_names, read_heading, heading_by, read_definitions, definitions_by}
+use Rattle.syntax_reading.specs.TokenReaders.{first, by_next, a_mark, a_name, name_of, Parts}
+use Rattle.syntax_reading.specs.ReadParts.{read_names, read_heading, heading_by, read_definitions, definitions_by}
 use Rattle.algorithm_reader.specs.PartsRead.{StandsFor, first_defined, definition_reader}
 use Rattle.algorithm_reader.proofs.Gathered.{put_after, gives_put, fails_then, as_triple, GoesOn, EndsAt, StaysSame}
 

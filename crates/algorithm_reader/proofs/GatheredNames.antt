@@ -11,8 +11,8 @@ use Rattle.expr_nodes.specs.declared.cursor.Halt.{Halt}
 use Rattle.expr_nodes.specs.ReadIn.{Fails}
 use Rattle.expr_nodes.specs.Ahead.{ahead}
 use Rattle.pcal_tree.specs.GrammarParts.{Names, last_name, more_names, names_of}
-use Rattle.algorithm_reader.specs.TokenReaders.{first, by_next, a_name}
-use Rattle.algorithm_reader.specs.ReadParts.{read_names, names_by}
+use Rattle.syntax_reading.specs.TokenReaders.{first, by_next, a_name}
+use Rattle.syntax_reading.specs.ReadParts.{read_names, names_by}
 use Rattle.algorithm_reader.proofs.Gathered.{put_after, gives_put, fails_then, GoesOn, EndsAt}
 
 no_comma : (r : Reader Names) (x : Name) (p : Place) (k : TokenView) (us : List Token) → is_mark tk.comma k ≡ false → names_by r x p k us ≡ Ok (last_name x, us)

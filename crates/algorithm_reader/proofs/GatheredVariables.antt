@@ -17,8 +17,8 @@ use Rattle.pcal_tree.specs.InMemory.{declaration_at, past_declaration}
 use Rattle.pcal_tree.proofs.InMemoryGrown.{start_at-kept}
 use Rattle.pcal_tree.specs.Algorithm as tree
 use Rattle.pcal_tree.specs.GrammarParts.{Separator, by_comma, Initial, Variables, last_variable, variable, declarations, Parameters, last_parameter, parameter, parameters_of, ProcedureParameters, some_parameters}
-use Rattle.algorithm_reader.specs.TokenReaders.{first, by_next, a_mark, a_name, name_of, Parts}
-use Rattle.algorithm_reader.specs.ReadParts.{read_initial, read_separator, read_variables, variables_by, read_parameters, parameters_by, read_procedure_parameters, procedure_parameters_by}
+use Rattle.syntax_reading.specs.TokenReaders.{first, by_next, a_mark, a_name, name_of, Parts}
+use Rattle.syntax_reading.specs.ReadParts.{read_initial, read_separator, read_variables, variables_by, read_parameters, parameters_by, read_procedure_parameters, procedure_parameters_by}
 use Rattle.algorithm_reader.specs.PartsRead.{StandsFor, first_declared, declaration_reader, is_another}
 use Rattle.algorithm_reader.proofs.Gathered.{put_after, gives_put, fails_then, as_pair, GoesOn, EndsAt, StaysSame}
 

@@ -21,8 +21,8 @@ use Rattle.expr_nodes.specs.Ahead.{ahead}
 use Rattle.expr_nodes.proofs.MakeLemmas.{one_subscript, more_subscripts}
 use Rattle.pcal_tree.specs.InMemory.{past_number}
 use Rattle.pcal_tree.proofs.InMemoryEach.{past_all_below}
-use Rattle.algorithm_reader.specs.TokenReaders.{first, Parts}
-use Rattle.algorithm_reader.specs.ReadSimple.{left_by, read_left}
+use Rattle.syntax_reading.specs.TokenReaders.{first, Parts}
+use Rattle.syntax_reading.specs.ReadSimple.{left_by, read_left}
 use Rattle.algorithm_reader.specs.PartsRead.{StandsFor, parts_in, row_at, past_row}
 use Rattle.algorithm_reader.specs.SimpleRead.{subscripted, selected, LeftStands, LinkOn}
 use Rattle.algorithm_reader.proofs.Gathered.{fails_then}

@@ -14,10 +14,10 @@ use Rattle.pcal_tree.specs.InMemory.{macro_at, past_macro}
 use Rattle.pcal_tree.specs.Algorithm as tree
 use Rattle.pcal_tree.specs.GrammarParts.{MacroParameters, macro_names}
 use Rattle.pcal_tree.specs.Grammar.{Body, body_tree, Macro, macro_tree, no_define}
-use Rattle.algorithm_reader.specs.TokenReaders.{first, a_name, is_reserved}
-use Rattle.algorithm_reader.specs.ReadParts.{read_macro_parameters}
-use Rattle.algorithm_reader.specs.ReadAround.{more_of}
-use Rattle.algorithm_reader.specs.ReadRoutines.{Ways, read_macro, macros_by, read_macros, define_by, read_define}
+use Rattle.syntax_reading.specs.TokenReaders.{first, a_name, is_reserved}
+use Rattle.syntax_reading.specs.ReadParts.{read_macro_parameters}
+use Rattle.syntax_reading.specs.ReadAround.{more_of}
+use Rattle.syntax_reading.specs.ReadRoutines.{Ways, read_macro, macros_by, read_macros, define_by, read_define}
 use Rattle.algorithm_reader.specs.PartsRead.{StandsFor}
 use Rattle.algorithm_reader.proofs.Gathered.{fails_then, GoesOn}
 use Rattle.algorithm_reader.specs.RoutinesRead.{body_at, past_body}

@@ -18,12 +18,12 @@ use Rattle.pcal_tree.specs.declared.algorithm.Main.TheVariants as code_main
 use Rattle.pcal_tree.specs.InMemory.{process_at, main_at, past_main}
 use Rattle.pcal_tree.specs.Algorithm as tree
 use Rattle.pcal_tree.specs.Grammar.{unfair, Process, process_tree, Main, processes, main_tree}
-use Rattle.algorithm_reader.specs.TokenReaders.{first, Parts}
-use Rattle.algorithm_reader.specs.ReadAround.{more_of}
-use Rattle.algorithm_reader.specs.ReadRoutines.{Ways, read_process, processes_by, read_processes}
+use Rattle.syntax_reading.specs.TokenReaders.{first, Parts}
+use Rattle.syntax_reading.specs.ReadAround.{more_of}
+use Rattle.syntax_reading.specs.ReadRoutines.{Ways, read_process, processes_by, read_processes}
 use Rattle.algorithm_reader.specs.PartsRead.{StandsFor}
 use Rattle.algorithm_reader.proofs.Gathered.{fails_then}
-use Rattle.algorithm_reader.proofs.OneAfter.{more_then}
+use Rattle.syntax_reading.proofs.OneAfter.{more_then}
 use Rattle.algorithm_reader.specs.RoutinesRead.{processes_at, past_processes, main_processes_by, read_main_processes}
 use Rattle.algorithm_reader.proofs.ProcessRounds.{fairly_by}
 

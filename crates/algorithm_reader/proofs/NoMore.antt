@@ -8,7 +8,7 @@ use Rattle.tla_tree.specs.Reader.{Out, Reader, ◌>>=◌, then_read, gives}
 use Rattle.tla_tree.specs.Nesting.{greatest}
 use Rattle.expr_nodes.specs.ReadIn.{Reads}
 use Rattle.expr_nodes.specs.Ahead.{ahead}
-use Rattle.algorithm_reader.specs.ReadAround.{more_of}
+use Rattle.syntax_reading.specs.ReadAround.{more_of}
 use Rattle.algorithm_reader.specs.PartsRead.{StandsFor}
 use Rattle.algorithm_reader.proofs.Gathered.{put_after, gives_put, SoFar, InPool}
 

@@ -16,10 +16,10 @@ use Rattle.pcal_tree.proofs.InMemoryGrown.{declarations_at-kept}
 use Rattle.pcal_tree.specs.Algorithm as tree
 use Rattle.pcal_tree.specs.GrammarParts.{ProcedureParameters, procedure_declarations, Section, declared}
 use Rattle.pcal_tree.specs.Grammar.{Body, body_tree, Procedure, procedure_tree}
-use Rattle.algorithm_reader.specs.TokenReaders.{first, a_name, is_reserved, Parts}
-use Rattle.algorithm_reader.specs.ReadParts.{read_procedure_parameters, read_section}
-use Rattle.algorithm_reader.specs.ReadAround.{more_of}
-use Rattle.algorithm_reader.specs.ReadRoutines.{Ways, read_procedure, procedures_by, read_procedures}
+use Rattle.syntax_reading.specs.TokenReaders.{first, a_name, is_reserved, Parts}
+use Rattle.syntax_reading.specs.ReadParts.{read_procedure_parameters, read_section}
+use Rattle.syntax_reading.specs.ReadAround.{more_of}
+use Rattle.syntax_reading.specs.ReadRoutines.{Ways, read_procedure, procedures_by, read_procedures}
 use Rattle.algorithm_reader.specs.PartsRead.{StandsFor, all_declared_at, past_all_declared}
 use Rattle.algorithm_reader.proofs.Gathered.{fails_then, GoesOn}
 use Rattle.algorithm_reader.specs.RoutinesRead.{body_at, past_body}

@@ -20,13 +20,13 @@ use Rattle.pcal_tree.proofs.InMemoryGrown.{declarations_at-kept}
 use Rattle.pcal_tree.specs.Algorithm as tree
 use Rattle.pcal_tree.specs.GrammarParts.{Section, declared}
 use Rattle.pcal_tree.specs.Grammar.{Body, body_tree, Fair, unfair, weak, strong, fairness_of, Identity, Process, process_tree}
-use Rattle.algorithm_reader.specs.TokenReaders.{first, by_next, a_key, Parts}
-use Rattle.algorithm_reader.specs.ReadParts.{read_section}
-use Rattle.algorithm_reader.specs.ReadAround.{fair_by, more_of}
-use Rattle.algorithm_reader.specs.ReadRoutines.{Ways, read_process, processes_by, read_processes}
+use Rattle.syntax_reading.specs.TokenReaders.{first, by_next, a_key, Parts}
+use Rattle.syntax_reading.specs.ReadParts.{read_section}
+use Rattle.syntax_reading.specs.ReadAround.{fair_by, more_of}
+use Rattle.syntax_reading.specs.ReadRoutines.{Ways, read_process, processes_by, read_processes}
 use Rattle.algorithm_reader.specs.PartsRead.{StandsFor, all_declared_at, past_all_declared}
 use Rattle.algorithm_reader.proofs.Gathered.{fails_then, GoesOn}
-use Rattle.algorithm_reader.proofs.OneAfter.{then_assoc, then_same}
+use Rattle.syntax_reading.proofs.OneAfter.{then_assoc, then_same}
 use Rattle.algorithm_reader.specs.RoutinesRead.{body_at, past_body, identity_at, past_identity, identity_tree, beginning_by, read_beginning, beginning_fairness}
 use Rattle.algorithm_reader.proofs.NoMore.{NoneAt, more_read}
 

@@ -13,11 +13,11 @@ use Rattle.pcal_tree.specs.GrammarParts as part
 use Rattle.pcal_tree.specs.GrammarP.{simple, last_statement}
 use Rattle.pcal_tree.specs.Grammar.{unfair, weak, strong, bare, begin_end, no_define, processes, algorithm, to_end}
 use Rattle.pcal_tree.specs.Grammar as g
-use Rattle.algorithm_reader.specs.TokenReaders.{past, a_key, a_name, Parts, parts_of}
-use Rattle.algorithm_reader.specs.ReadParts.{bind_by}
-use Rattle.algorithm_reader.specs.ReadRoutines.{Ways}
+use Rattle.syntax_reading.specs.TokenReaders.{past, a_key, a_name, Parts, parts_of}
+use Rattle.syntax_reading.specs.ReadParts.{bind_by}
+use Rattle.syntax_reading.specs.ReadRoutines.{Ways}
 use Rattle.algorithm_reader.specs.RoutinesRead.{is_plain, identity_tree, read_beginning, beginning_fairness, read_main_processes}
-use Rattle.algorithm_reader.specs.ReadWhole.{Frames, read_whole}
+use Rattle.syntax_reading.specs.ReadWhole.{Frames, read_whole}
 
 abbrev at : ℕ → Place
 at k = record { line = 1; col = k }

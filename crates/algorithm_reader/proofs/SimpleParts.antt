@@ -15,8 +15,8 @@ use Rattle.expr_nodes.specs.ReadIn.{Fails}
 use Rattle.tla_tree.proofs.SoundTokens.{ok_is}
 use Rattle.pcal_tree.specs.GrammarParts.{Arguments, Assignments, Simple}
 use Rattle.pcal_tree.specs.GrammarParts as g
-use Rattle.algorithm_reader.specs.TokenReaders.{first, by_next, is_reserved, name_of, a_name, Parts}
-use Rattle.algorithm_reader.specs.ReadSimple.{named_by, read_arguments, read_assignments, assign_if}
+use Rattle.syntax_reading.specs.TokenReaders.{first, by_next, is_reserved, name_of, a_name, Parts}
+use Rattle.syntax_reading.specs.ReadSimple.{named_by, read_arguments, read_assignments, assign_if}
 use Rattle.algorithm_reader.specs.SimpleRead.{assignments_reader, simple_by, simple_reader, named_reader, keyed_by, keyed_reader}
 use Rattle.algorithm_reader.proofs.Gathered.{fails_then}
 

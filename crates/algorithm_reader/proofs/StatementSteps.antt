@@ -10,7 +10,7 @@ use Rattle.pcal_tree.specs.declared.mark.Mark.TheVariants as mark
 use Rattle.pcal_tree.specs.Algorithm.{Statements}
 use Rattle.pcal_tree.specs.Algorithm as tree
 use Rattle.pcal_tree.specs.GrammarParts.{Colon, colon, colon_plus, colon_minus, Labels, no_labels, label, with_labels}
-use Rattle.algorithm_reader.specs.ReadAround.{with_label, within}
+use Rattle.syntax_reading.specs.ReadAround.{with_label, within}
 use Rattle.algorithm_reader.specs.PartsRead.{parts_in, mark_of}
 
 -- ---- readers one after the other

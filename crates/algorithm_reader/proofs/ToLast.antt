@@ -12,7 +12,7 @@ use Rattle.expr_nodes.specs.Ahead.{ahead}
 use Rattle.pcal_tree.specs.declared.algorithm.Algorithm.{Algorithm}
 use Rattle.pcal_tree.specs.InMemory.{algorithm_at, past_algorithm}
 use Rattle.pcal_tree.specs.Grammar.{Text, algorithm_of}
-use Rattle.algorithm_reader.specs.ReadAround.{to_last}
+use Rattle.syntax_reading.specs.ReadAround.{to_last}
 use Rattle.algorithm_reader.specs.PartsRead.{StandsFor}
 use Rattle.algorithm_reader.proofs.Between.{ahead_length}
 use Rattle.algorithm_reader.proofs.Gathered.{fails_then, refused_as}

@@ -10,12 +10,12 @@ use Rattle.expr_nodes.specs.ReadIn.{Reads, Fails}
 use Rattle.expr_nodes.specs.Ahead.{ahead}
 use Rattle.pcal_tree.specs.GrammarParts.{Section}
 use Rattle.pcal_tree.specs.Grammar.{Head, Define, Macro, Procedure, Main, Around, Text}
-use Rattle.algorithm_reader.specs.TokenReaders.{a_name, Parts}
-use Rattle.algorithm_reader.specs.ReadParts.{read_section}
-use Rattle.algorithm_reader.specs.ReadAround.{read_head}
-use Rattle.algorithm_reader.specs.ReadRoutines.{Ways, read_macros, read_procedures, read_define}
+use Rattle.syntax_reading.specs.TokenReaders.{a_name, Parts}
+use Rattle.syntax_reading.specs.ReadParts.{read_section}
+use Rattle.syntax_reading.specs.ReadAround.{read_head}
+use Rattle.syntax_reading.specs.ReadRoutines.{Ways, read_macros, read_procedures, read_define}
 use Rattle.algorithm_reader.proofs.Gathered.{fails_then}
-use Rattle.algorithm_reader.specs.ReadWhole.{Frames, read_whole}
+use Rattle.syntax_reading.specs.ReadWhole.{Frames, read_whole}
 
 abbrev made : Head → Name → Section → Define → List Macro → List Procedure → Main → Around → Text
 made h x vs d ms ps b a = record { head = h; name = x; around = a; variables = vs; define = d; macros = ms; procedures = ps; main = b }

@@ -11,7 +11,7 @@ use Rattle.pcal_tree.specs.declared.algorithm.Algorithm.{Algorithm}
 use Rattle.pcal_tree.specs.InMemory.{algorithm_at}
 use Rattle.pcal_tree.specs.Offences.{first}
 use Rattle.pcal_tree.specs.OffencesCounts.{count_offences}
-use Rattle.algorithm_limits.specs.TokensRefused.{token_refusals}
+use Rattle.algorithm_answer.specs.TokensRefused.{token_refusals}
 
 -- of what tokens offend one by one and of these offences, the one that counts, if there is any
 abbrev pub Answers : Tokens → List Refusal → Option Refusal → Type 0

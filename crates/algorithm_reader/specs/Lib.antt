@@ -1,17 +1,4 @@
-pub mod TokenReaders
-pub mod Completes
-pub mod Missing
-pub mod MissingParts
-pub mod MissingSimple
-pub mod MissingRoutines
-pub mod ReadParts
-pub mod ReadSimple
-pub mod ReadAround
-pub mod ReadRoutines
-pub mod Owners
 pub mod PartsRead
 pub mod SimpleRead
-pub mod StatementsRead
 pub mod RoutinesRead
-pub mod ReadWhole
 pub mod AnsweredRead

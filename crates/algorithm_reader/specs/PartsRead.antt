@@ -21,8 +21,8 @@ use Rattle.pcal_tree.specs.InMemory.{past_numbers, declarations_at, past_declara
 use Rattle.pcal_tree.specs.Algorithm as tree
 use Rattle.pcal_tree.specs.GrammarParts.{Colon, colon, colon_plus, colon_minus, Initial, declaration, Separator, Heading, plain, applied, names_of, Binds, binds_of, bound}
 use Rattle.pcal_tree.specs.OpenForms.{after_binds}
-use Rattle.algorithm_reader.specs.TokenReaders.{name_of, past, a_mark, a_name, name_within, Parts, limited_parts}
-use Rattle.algorithm_reader.specs.ReadParts.{read_initial, read_heading, bind_by}
+use Rattle.syntax_reading.specs.TokenReaders.{name_of, past, a_mark, a_name, name_within, Parts, limited_parts}
+use Rattle.syntax_reading.specs.ReadParts.{read_initial, read_heading, bind_by}
 
 -- ---- the readers, as reading a text of these tokens has them: within the limits of open forms, with steps enough for all of them
 abbrev pub parts_in : Tokens → Parts

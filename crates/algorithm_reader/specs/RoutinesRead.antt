@@ -22,9 +22,9 @@ use Rattle.pcal_tree.specs.declared.algorithm.Process.{Process}
 use Rattle.pcal_tree.specs.Algorithm as tree
 use Rattle.pcal_tree.specs.InMemory.{statements_at, past_statements, macro_at, past_macro, procedure_at, past_procedure, process_at, past_process}
 use Rattle.pcal_tree.specs.Grammar.{Fair, unfair, fairness_of, Identity, process_name, is_several, identifiers, Main}
-use Rattle.algorithm_reader.specs.TokenReaders.{by_next, a_key, pick, Parts}
-use Rattle.algorithm_reader.specs.ReadAround.{fair_by}
-use Rattle.algorithm_reader.specs.ReadRoutines.{Ways, main_processes}
+use Rattle.syntax_reading.specs.TokenReaders.{by_next, a_key, pick, Parts}
+use Rattle.syntax_reading.specs.ReadAround.{fair_by}
+use Rattle.syntax_reading.specs.ReadRoutines.{Ways, main_processes}
 
 -- a word that isn't reserved
 abbrev pub is_plain : Word → TokenView → Bool

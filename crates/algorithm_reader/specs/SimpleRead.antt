@@ -19,8 +19,8 @@ use Rattle.pcal_tree.specs.declared.algorithm.Assignment.{Assignment}
 use Rattle.pcal_tree.specs.InMemory.{assignments_at, past_assignment}
 use Rattle.pcal_tree.specs.Algorithm as tree
 use Rattle.pcal_tree.specs.GrammarParts.{Assignments, Simple}
-use Rattle.algorithm_reader.specs.TokenReaders.{by_next, a_mark, a_name, pick, Parts}
-use Rattle.algorithm_reader.specs.ReadSimple.{left_by, read_left, read_assignments, named_by, simple_words}
+use Rattle.syntax_reading.specs.TokenReaders.{by_next, a_mark, a_name, pick, Parts}
+use Rattle.syntax_reading.specs.ReadSimple.{left_by, read_left, read_assignments, named_by, simple_words}
 
 -- ---- left sides
 -- from the name on

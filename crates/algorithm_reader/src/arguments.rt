@@ -5,7 +5,7 @@ ghost use Rattle.tla_tree.specs.Pool.{Keeps};
 ghost use Rattle.expr_nodes.specs.Ahead.{ahead};
 ghost use Rattle.tla_expr.specs.Numbers.{NumbersFit};
 ghost use Rattle.pcal_tree.specs.GrammarParts.{arguments_of};
-ghost use Rattle.algorithm_reader.specs.ReadSimple.{read_arguments as arguments_reader};
+ghost use Rattle.syntax_reading.specs.ReadSimple.{read_arguments as arguments_reader};
 ghost use Rattle.algorithm_reader.specs.PartsRead.{ReadsPart, parts_in, row_at, past_row};
 
 use crate::expression::read_row;

@@ -7,8 +7,8 @@ ghost use Rattle.expr_nodes.specs.ReadIn.{Gives};
 ghost use Rattle.expr_nodes.specs.Ahead.{ahead};
 ghost use Rattle.tla_expr.specs.Numbers.{NumbersFit};
 ghost use Rattle.pcal_tree.specs.InMemory.{bind_at, past_bind};
-ghost use Rattle.algorithm_reader.specs.TokenReaders.{name_within, past};
-ghost use Rattle.algorithm_reader.specs.ReadParts.{bind_by, read_binds as binds_reader};
+ghost use Rattle.syntax_reading.specs.TokenReaders.{name_within, past};
+ghost use Rattle.syntax_reading.specs.ReadParts.{bind_by, read_binds as binds_reader};
 ghost use Rattle.algorithm_reader.specs.PartsRead.{ReadsPart, ReadsWords, parts_in, Enough, itself, among_of, first_bound, bind_reader, all_bound_at, past_all_bound, bound_from};
 
 use crate::colon::past_separator_to_name;

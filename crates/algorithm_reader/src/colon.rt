@@ -3,8 +3,8 @@
 ghost use Rattle.std.specs.Prelude.{◌≡◌, ◌≤◌, IfOk, Ok, length, is_some};
 ghost use Rattle.expr_nodes.specs.ReadIn.{Reads};
 ghost use Rattle.expr_nodes.specs.Ahead.{ahead};
-ghost use Rattle.algorithm_reader.specs.ReadParts.{read_colon as colon_reader, read_semicolon as semicolon_reader, read_separator as separator_reader};
-ghost use Rattle.algorithm_reader.specs.TokenReaders.{first};
+ghost use Rattle.syntax_reading.specs.ReadParts.{read_colon as colon_reader, read_semicolon as semicolon_reader, read_separator as separator_reader};
+ghost use Rattle.syntax_reading.specs.TokenReaders.{first};
 ghost use Rattle.algorithm_reader.specs.PartsRead.{ReadsWords, mark_of, itself, is_another};
 
 use crate::token_step::{after_mark, behind, is_next_name, next_token, past_mark};

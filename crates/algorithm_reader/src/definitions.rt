@@ -6,7 +6,7 @@ ghost use Rattle.expr_nodes.specs.Ahead.{ahead};
 ghost use Rattle.tla_expr.specs.Numbers.{NumbersFit};
 ghost use Rattle.pcal_tree.specs.InMemory.{definition_at, past_definition};
 ghost use Rattle.pcal_tree.specs.GrammarParts.{definitions_of};
-ghost use Rattle.algorithm_reader.specs.ReadParts.{read_heading as heading_reader, read_definitions as definitions_reader};
+ghost use Rattle.syntax_reading.specs.ReadParts.{read_heading as heading_reader, read_definitions as definitions_reader};
 ghost use Rattle.algorithm_reader.specs.PartsRead.{ReadsPart, ReadsWords, parts_in, Enough, StepLess, headed, heading_parts, first_defined, definition_reader, all_defined_at, past_all_defined};
 
 use crate::expression::read_expression;

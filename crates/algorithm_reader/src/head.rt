@@ -4,8 +4,8 @@ ghost use Rattle.std.specs.Prelude.{◌≡◌, ◌<◌, ◌≤◌, IfOk, IfSome,
 ghost use Rattle.tla_tree.specs.Reader as reader;
 ghost use Rattle.expr_nodes.specs.Ahead.{ahead};
 ghost use Rattle.pcal_tree.specs.Grammar.{is_fair};
-ghost use Rattle.algorithm_reader.specs.TokenReaders.{first, is_reserved};
-ghost use Rattle.algorithm_reader.specs.ReadAround.{read_head as head_reader};
+ghost use Rattle.syntax_reading.specs.TokenReaders.{first, is_reserved};
+ghost use Rattle.syntax_reading.specs.ReadAround.{read_head as head_reader};
 ghost use Rattle.algorithm_reader.specs.PartsRead.{ReadsWords, itself};
 ghost use Rattle.algorithm_reader.specs.RoutinesRead.{is_plain};
 

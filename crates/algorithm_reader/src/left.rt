@@ -8,7 +8,7 @@ ghost use Rattle.expr_nodes.specs.ReadIn.{Gives, Told, first_of, word_seen};
 ghost use Rattle.expr_nodes.specs.Ahead.{ahead};
 ghost use Rattle.tla_expr.specs.Numbers.{NumbersFit};
 ghost use Rattle.pcal_tree.specs.InMemory.{past_number};
-ghost use Rattle.algorithm_reader.specs.ReadSimple.{read_left as rest_reader};
+ghost use Rattle.syntax_reading.specs.ReadSimple.{read_left as rest_reader};
 ghost use Rattle.algorithm_reader.specs.PartsRead.{ReadsPart, StandsFor, parts_in, Enough, StepLess, row_at, past_row};
 ghost use Rattle.algorithm_reader.specs.SimpleRead.{left_reader, subscripted as subscripted_reader, selected as selected_reader, LeftStands, Linked};
 

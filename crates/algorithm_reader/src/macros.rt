@@ -7,7 +7,7 @@ ghost use Rattle.expr_nodes.specs.Ahead.{ahead};
 ghost use Rattle.tla_expr.specs.Numbers.{NumbersFit};
 ghost use Rattle.pcal_tree.specs.InMemory.{macro_at, past_macro};
 ghost use Rattle.pcal_tree.specs.Grammar.{macro_tree, defined};
-ghost use Rattle.algorithm_reader.specs.ReadRoutines as reader;
+ghost use Rattle.syntax_reading.specs.ReadRoutines as reader;
 ghost use Rattle.algorithm_reader.specs.PartsRead.{ReadsPart, parts_in, Enough, all_defined_at, past_all_defined};
 ghost use Rattle.algorithm_reader.specs.RoutinesRead.{macros_at, past_macros};
 

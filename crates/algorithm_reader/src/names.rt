@@ -3,7 +3,7 @@
 ghost use Rattle.std.specs.Prelude.{ℕ, ◌<◌, ◌≤◌, IfOk, length};
 ghost use Rattle.expr_nodes.specs.Ahead.{ahead};
 ghost use Rattle.pcal_tree.specs.GrammarParts.{names_of, macro_names};
-ghost use Rattle.algorithm_reader.specs.ReadParts.{read_names as names_reader, read_macro_parameters as macro_parameters_reader};
+ghost use Rattle.syntax_reading.specs.ReadParts.{read_names as names_reader, read_macro_parameters as macro_parameters_reader};
 ghost use Rattle.algorithm_reader.specs.PartsRead.{ReadsWords, items_of, Enough};
 
 use crate::token_step::{after_mark, past_mark, past_name};

@@ -5,7 +5,7 @@ ghost use Rattle.tla_tree.specs.Pool.{Keeps};
 ghost use Rattle.expr_nodes.specs.Ahead.{ahead};
 ghost use Rattle.tla_expr.specs.Numbers.{NumbersFit};
 ghost use Rattle.pcal_tree.specs.GrammarParts.{parameters_of, procedure_declarations};
-ghost use Rattle.algorithm_reader.specs.ReadParts.{read_parameters as parameters_reader, read_procedure_parameters as procedure_parameters_reader};
+ghost use Rattle.syntax_reading.specs.ReadParts.{read_parameters as parameters_reader, read_procedure_parameters as procedure_parameters_reader};
 ghost use Rattle.algorithm_reader.specs.PartsRead.{ReadsPart, parts_in, Enough, all_declared_at, past_all_declared};
 
 use crate::token_step::{after_mark, past_mark};

@@ -7,7 +7,7 @@ ghost use Rattle.expr_nodes.specs.Ahead.{ahead};
 ghost use Rattle.tla_expr.specs.Numbers.{NumbersFit};
 ghost use Rattle.pcal_tree.specs.InMemory.{procedure_at, past_procedure};
 ghost use Rattle.pcal_tree.specs.Grammar.{procedure_tree};
-ghost use Rattle.algorithm_reader.specs.ReadRoutines as reader;
+ghost use Rattle.syntax_reading.specs.ReadRoutines as reader;
 ghost use Rattle.algorithm_reader.specs.PartsRead.{ReadsPart, parts_in, Enough};
 ghost use Rattle.algorithm_reader.specs.RoutinesRead.{procedures_at, past_procedures};
 

@@ -8,9 +8,9 @@ ghost use Rattle.expr_nodes.specs.ReadIn.{Reads};
 ghost use Rattle.tla_expr.specs.Numbers.{NumbersFit};
 ghost use Rattle.pcal_tree.specs.InMemory.{process_at, past_process, main_at, past_main};
 ghost use Rattle.pcal_tree.specs.Grammar.{Fair, fairness_of, process_tree, main_tree};
-ghost use Rattle.algorithm_reader.specs.TokenReaders.{by_next};
-ghost use Rattle.algorithm_reader.specs.ReadAround.{fair_by};
-ghost use Rattle.algorithm_reader.specs.ReadRoutines as reader;
+ghost use Rattle.syntax_reading.specs.TokenReaders.{by_next};
+ghost use Rattle.syntax_reading.specs.ReadAround.{fair_by};
+ghost use Rattle.syntax_reading.specs.ReadRoutines as reader;
 ghost use Rattle.algorithm_reader.specs.PartsRead.{ReadsPart, ReadsWords, parts_in, itself, Enough};
 ghost use Rattle.algorithm_reader.specs.RoutinesRead.{read_beginning, beginning_fairness, processes_at, past_processes, read_main_processes as main_reader};
 

@@ -7,7 +7,7 @@ ghost use Rattle.expr_nodes.specs.ViewSeen.{mark_seen, view_seen};
 ghost use Rattle.expr_nodes.specs.ReadIn.{Gives};
 ghost use Rattle.expr_nodes.specs.Ahead.{ahead};
 ghost use Rattle.expr_nodes.specs.declared.cursor.Halt.TheVariants as halt;
-ghost use Rattle.algorithm_reader.specs.TokenReaders.{first, a_key, a_mark, a_name, is_reserved, name_of};
+ghost use Rattle.syntax_reading.specs.TokenReaders.{first, a_key, a_mark, a_name, is_reserved, name_of};
 
 use expr_nodes::cursor::{Halt, Next, is_mark};
 use expr_nodes::make::name_of as word_name;

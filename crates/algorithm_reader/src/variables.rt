@@ -6,7 +6,7 @@ ghost use Rattle.expr_nodes.specs.Ahead.{ahead};
 ghost use Rattle.tla_expr.specs.Numbers.{NumbersFit};
 ghost use Rattle.pcal_tree.specs.InMemory.{start_at, past_start, declaration_at, past_declaration};
 ghost use Rattle.pcal_tree.specs.GrammarParts.{start_of, declarations, declared};
-ghost use Rattle.algorithm_reader.specs.ReadParts.{read_initial as initial_reader, read_variables as variables_reader, read_section as section_reader};
+ghost use Rattle.syntax_reading.specs.ReadParts.{read_initial as initial_reader, read_variables as variables_reader, read_section as section_reader};
 ghost use Rattle.algorithm_reader.specs.PartsRead.{ReadsPart, parts_in, Enough, all_declared_at, past_all_declared, first_declared, declaration_reader};
 
 use crate::colon::past_separator_to_name;

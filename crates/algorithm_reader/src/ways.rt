@@ -6,8 +6,8 @@ ghost use Rattle.tla_tree.specs.Pool.{Keeps};
 ghost use Rattle.expr_nodes.specs.Ahead.{ahead};
 ghost use Rattle.tla_expr.specs.Numbers.{NumbersFit};
 ghost use Rattle.pcal_tree.specs.Grammar.{body_tree, defined};
-ghost use Rattle.algorithm_reader.specs.TokenReaders.{Parts};
-ghost use Rattle.algorithm_reader.specs.ReadRoutines as reader;
+ghost use Rattle.syntax_reading.specs.TokenReaders.{Parts};
+ghost use Rattle.syntax_reading.specs.ReadRoutines as reader;
 ghost use Rattle.algorithm_reader.specs.PartsRead.{ReadsPart, parts_in, Enough, all_defined_at, past_all_defined};
 ghost use Rattle.algorithm_reader.specs.RoutinesRead.{body_at, past_body, identity_at, past_identity, identity_tree};
 

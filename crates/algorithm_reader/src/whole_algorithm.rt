@@ -7,10 +7,10 @@ ghost use Rattle.expr_nodes.specs.Ahead.{ahead};
 ghost use Rattle.tla_expr.specs.Numbers.{NumbersFit};
 ghost use Rattle.pcal_tree.specs.InMemory.{main_at, past_main, algorithm_at, past_algorithm};
 ghost use Rattle.pcal_tree.specs.Grammar.{main_tree, algorithm_of};
-ghost use Rattle.algorithm_reader.specs.TokenReaders.{Parts};
+ghost use Rattle.syntax_reading.specs.TokenReaders.{Parts};
 ghost use Rattle.algorithm_reader.specs.PartsRead.{ReadsPart, parts_in, Enough};
 ghost use Rattle.algorithm_reader.specs.RoutinesRead.{Passes};
-ghost use Rattle.algorithm_reader.specs.ReadWhole as reader;
+ghost use Rattle.syntax_reading.specs.ReadWhole as reader;
 
 use crate::head::read_head;
 use crate::macros::{read_define, read_macros};

@@ -5,13 +5,13 @@ ghost use Rattle.tla_tree.specs.Lexical.{Token};
 ghost use Rattle.tla_tree.specs.Reader as reader;
 ghost use Rattle.expr_nodes.specs.ViewSeen.{mark_seen};
 ghost use Rattle.expr_nodes.specs.Ahead.{ahead};
-ghost use Rattle.algorithm_reader.specs.TokenReaders.{first};
+ghost use Rattle.syntax_reading.specs.TokenReaders.{first};
 ghost use Rattle.expr_nodes.specs.declared.cursor.Halt.TheVariants as halt;
 ghost use Rattle.tla_token.specs.declared.rule.Rule.TheVariants as rule;
 ghost use Rattle.tla_token.specs.Limits.{deepest_statement};
 ghost use Rattle.pcal_tree.specs.InMemory.{span_of};
 ghost use Rattle.pcal_tree.specs.GrammarParts.{span as span_of_tokens};
-ghost use Rattle.algorithm_reader.specs.StatementsRead.{is_label};
+ghost use Rattle.syntax_reading.specs.StatementsRead.{is_label};
 
 use crate::token_step::{behind, is_next_name, next_token, refused_there};
 use expr_nodes::cursor::{Halt, is_mark};

@@ -5,8 +5,8 @@ use Rattle.tla_token.specs.declared.place.Place.{Place}
 use Rattle.tla_tree.specs.Tree.{Tree}
 use Rattle.pcal_tree.specs.GrammarParts.{last_place}
 use Rattle.pcal_tree.specs.GrammarC.{Labelled, labelled_tokens}
-use Rattle.c_syntax.specs.ReadStatements.{Stack, bottom, in_block, in_then, in_else, in_body, in_either, first_arm, later_arm, if_test, with_opening, while_opening, closed}
-use Rattle.c_syntax.specs.ReadStatements as reader
+use Rattle.c_reading.specs.ReadStatements.{Stack, bottom, in_block, in_then, in_else, in_body, in_either, first_arm, later_arm, if_test, with_opening, while_opening, closed}
+use Rattle.c_reading.specs.ReadStatements as reader
 use Rattle.c_syntax.specs.StatesRead.{FrameStands, OpenStands, StackStands, ListStands, past_one, around}
 use Rattle.c_syntax.specs.Closes.{ask_seen, fate, fate_at, can_end, ended_with, EndStands, AllClosed}
 use Rattle.c_syntax.specs.declared.open.Frame.{Frame}

@@ -15,14 +15,14 @@ use Rattle.pcal_tree.specs.InMemory.{statements_at, branches_at, past_statements
 use Rattle.pcal_tree.proofs.InMemoryEach.{if_at, either_at, with_at, while_at, past_if, past_either, past_with, past_while, past_one_more}
 use Rattle.pcal_tree.specs.GrammarParts.{first_place, last_place, span, key, maybe_semicolon, Binds}
 use Rattle.pcal_tree.specs.GrammarC.{Statement, Labelled, labelled, branch, either, with, while, no_else, else_then, Branches, last_branch, more_branches, labelled_tokens, branches, flat, flat_statement, branch_trees, statement, labelled_ends_in_block, branches_end_in_block}
-use Rattle.c_syntax.specs.ReadStatements.{joined, Arms, Stack, bottom, in_block, in_then, in_else, in_body, in_either, if_test, with_opening, while_opening, first_arm, later_arm}
-use Rattle.algorithm_reader.specs.StatementsRead.{is_none}
+use Rattle.c_reading.specs.ReadStatements.{joined, Arms, Stack, bottom, in_block, in_then, in_else, in_body, in_either, if_test, with_opening, while_opening, first_arm, later_arm}
+use Rattle.syntax_reading.specs.StatementsRead.{is_none}
 use Rattle.c_syntax.specs.StatesRead.{FrameStands, ListStands, past_one, up_to, around, arms_labels, arms_place, arms_tree}
 use Rattle.c_syntax.specs.Closes.{can_end, ended_with}
 use Rattle.c_syntax.specs.declared.open.Begun.{Begun}
 use Rattle.c_syntax.specs.declared.open.Frame.TheVariants as frame
 use Rattle.c_syntax.proofs.InLists.{one_more_stands, all_of_list, in_branches-all, in_branches-append}
-use Rattle.c_syntax.proofs.Lasts.{last_labelled, last_put, some_put, some_labelled, put_after, put_both, put_one, put_phrase, put_binds, put_labelled, put_semicolon}
+use Rattle.c_reading.proofs.Lasts.{last_labelled, last_put, some_put, some_labelled, put_after, put_both, put_one, put_phrase, put_binds, put_labelled, put_semicolon}
 
 -- ---- the last tokens
 last_of_then : (p b : Place) (x : Phrase) (r : Place) (a : Labelled) → last_place (statement (branch p b x r a no_else) []) ≡ last_place (labelled_tokens a [])

@@ -13,13 +13,13 @@ use Rattle.pcal_tree.specs.declared.algorithm.Main.TheVariants as main
 use Rattle.pcal_tree.specs.Algorithm as tree
 use Rattle.pcal_tree.specs.InMemory.{main_at, past_main}
 use Rattle.pcal_tree.specs.Grammar.{Body, begin_end, braces, body_tree, Main, begin, block, main_tree}
-use Rattle.algorithm_reader.specs.TokenReaders.{first, a_mark, Parts}
-use Rattle.algorithm_reader.specs.ReadParts.{read_semicolon}
+use Rattle.syntax_reading.specs.TokenReaders.{first, a_mark, Parts}
+use Rattle.syntax_reading.specs.ReadParts.{read_semicolon}
 use Rattle.algorithm_reader.specs.PartsRead.{StandsFor}
 use Rattle.algorithm_reader.proofs.Gathered.{fails_then}
 use Rattle.algorithm_reader.specs.RoutinesRead.{main_processes_by, read_main_processes}
-use Rattle.c_syntax.specs.ReadStatements.{read_sequence}
-use Rattle.c_syntax.specs.ReadAlgorithm.{ways, read_body, main_by, read_main}
+use Rattle.c_reading.specs.ReadStatements.{read_sequence}
+use Rattle.c_reading.specs.ReadAlgorithm.{ways, read_body, main_by, read_main}
 use Rattle.c_syntax.specs.StatesRead.{list_at, past_list}
 
 abbrev pub as_main : Body → Main

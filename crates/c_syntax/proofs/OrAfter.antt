@@ -1,7 +1,7 @@
 -- Whether an `or` must stand right after a statement that comes: by what stands open in memory.
 use Rattle.std.proofs.Common.{◌≡◌, Bool, false, List, [], ◌∷◌, ◌++◌, length, Option, Some, None, refl, sym, ap, ◌∙◌, arith}
 use Rattle.tla_tree.specs.Tree.{Tree}
-use Rattle.c_syntax.specs.ReadStatements.{Stack, bottom, in_block, in_then, in_else, in_body, in_either, if_test, with_opening, while_opening, first_arm, later_arm, before_or}
+use Rattle.c_reading.specs.ReadStatements.{Stack, bottom, in_block, in_then, in_else, in_body, in_either, if_test, with_opening, while_opening, first_arm, later_arm, before_or}
 use Rattle.c_syntax.specs.StatesRead.{FrameStands, StackStands, around}
 use Rattle.c_syntax.specs.Closes.{or_by}
 use Rattle.c_syntax.specs.declared.open.Frame.{Frame}

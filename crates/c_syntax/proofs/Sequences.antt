@@ -12,8 +12,8 @@ use Rattle.pcal_tree.specs.GrammarParts.{no_labels}
 use Rattle.pcal_tree.specs.GrammarC.{Sequence, statements}
 use Rattle.algorithm_reader.specs.PartsRead.{StandsFor, parts_in, Enough, StepLess}
 use Rattle.algorithm_reader.proofs.Gathered.{fails_then}
-use Rattle.c_syntax.specs.ReadStatements as reader
-use Rattle.c_syntax.specs.ReadStatements.{none, bottom, begin, on, done, step, turned, run, read_sequence}
+use Rattle.c_reading.specs.ReadStatements as reader
+use Rattle.c_reading.specs.ReadStatements.{none, bottom, begin, on, done, step, turned, run, read_sequence}
 use Rattle.c_syntax.specs.declared.open.Point.TheVariants as point
 use Rattle.c_syntax.specs.declared.open.State.{State}
 use Rattle.c_syntax.specs.declared.open.Turn.TheVariants as turn

@@ -20,17 +20,17 @@ use Rattle.pcal_tree.proofs.InMemoryEach.{label_at, past_label, simple_in_list_a
 use Rattle.pcal_tree.proofs.InMemoryGrown.{binds_at-kept}
 use Rattle.pcal_tree.specs.GrammarParts.{span, Colon, Labels, no_labels, Simple, simple_tokens, simple_tree, GoodSimple}
 use Rattle.pcal_tree.specs.GrammarC.{labelled, simple}
-use Rattle.algorithm_reader.specs.TokenReaders.{Parts}
-use Rattle.algorithm_reader.specs.ReadAround.{with_label}
-use Rattle.algorithm_reader.specs.ReadSimple.{simple_words}
+use Rattle.syntax_reading.specs.TokenReaders.{Parts}
+use Rattle.syntax_reading.specs.ReadAround.{with_label}
+use Rattle.syntax_reading.specs.ReadSimple.{simple_words}
 use Rattle.algorithm_reader.specs.PartsRead.{mark_of}
 use Rattle.algorithm_reader.specs.SimpleRead.{simple_by, simple_reader}
-use Rattle.algorithm_reader.proofs.Sound.{Sound, SoundAt, here, sound_refuses, sound_next, sound_stays, sound_past, sound_pick}
-use Rattle.algorithm_reader.proofs.SoundParts.{SoundParts}
-use Rattle.algorithm_reader.proofs.SoundSimple.{named_sound, words_sound}
+use Rattle.syntax_reading.proofs.Sound.{Sound, SoundAt, here, sound_refuses, sound_next, sound_stays, sound_past, sound_pick}
+use Rattle.syntax_reading.proofs.SoundParts.{SoundParts}
+use Rattle.syntax_reading.proofs.SoundSimple.{named_sound, words_sound}
 use Rattle.algorithm_reader.proofs.StatementSteps.{label_mark}
-use Rattle.c_syntax.specs.ReadStatements as reader
-use Rattle.c_syntax.specs.ReadStatements.{Stack, none, bottom, in_block, in_then, in_else, in_body, in_either, if_test, with_opening, while_opening, first_arm, depth}
+use Rattle.c_reading.specs.ReadStatements as reader
+use Rattle.c_reading.specs.ReadStatements.{Stack, none, bottom, in_block, in_then, in_else, in_body, in_either, if_test, with_opening, while_opening, first_arm, depth}
 use Rattle.c_syntax.specs.declared.open.Frame.{Frame}
 use Rattle.c_syntax.specs.declared.open.Frame.TheVariants as frame
 use Rattle.c_syntax.specs.declared.open.Open.{Open}
@@ -39,7 +39,7 @@ use Rattle.c_syntax.specs.declared.open.Point.TheVariants as point
 use Rattle.c_syntax.specs.declared.open.State.{State}
 use Rattle.c_syntax.specs.StatesRead.{inner, up_to, past_one, around, in_list, ListStands, BegunStands, BranchesStand, FrameStands, OpenStands, StackStands, Stands, PointStands, StateStands}
 use Rattle.c_syntax.proofs.InLists.{one_more_stands, list_kept, in_branches-kept}
-use Rattle.c_syntax.proofs.Lasts.{last_labelled, put_simple}
+use Rattle.c_reading.proofs.Lasts.{last_labelled, put_simple}
 
 -- ---- a pool that grows keeps what stands open
 module _ (ts us : List Tree) (k : Keeps ts us) where

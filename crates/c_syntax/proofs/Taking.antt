@@ -10,8 +10,8 @@ use Rattle.pcal_tree.specs.InMemory.{statements_at, past_statements, past_branch
 use Rattle.pcal_tree.proofs.InMemoryEach.{past_one_more}
 use Rattle.pcal_tree.specs.GrammarParts.{mark, with_labels, last_place}
 use Rattle.pcal_tree.specs.GrammarC.{Labelled, labelled, compound, Sequence, last_statement, flat_sequence, more_statements, labelled_tokens}
-use Rattle.c_syntax.specs.ReadStatements.{Before, none, after, Stack, bottom, in_block, in_then, in_else, in_body, in_either, if_test, with_before}
-use Rattle.algorithm_reader.specs.StatementsRead.{is_none}
+use Rattle.c_reading.specs.ReadStatements.{Before, none, after, Stack, bottom, in_block, in_then, in_else, in_body, in_either, if_test, with_before}
+use Rattle.syntax_reading.specs.StatementsRead.{is_none}
 use Rattle.c_syntax.specs.StatesRead.{in_list, arms_tree, PointStands, FrameStands, StackStands, Stands, before_tree, inner, past_one, in_branches}
 use Rattle.c_syntax.specs.Takes.{else_taken, or_taken, brace_taken, BeginStands, MayTurn}
 use Rattle.c_syntax.specs.declared.open.Frame.{Frame}
@@ -23,7 +23,7 @@ use Rattle.c_syntax.specs.declared.open.Point.TheVariants as point
 use Rattle.c_syntax.specs.declared.open.State.{State}
 use Rattle.c_syntax.specs.declared.open.Turn.TheVariants as turn
 use Rattle.c_syntax.proofs.InLists.{all_of_list, in_branches-append}
-use Rattle.c_syntax.proofs.Lasts.{last_labelled, last_put, put_one, put_both, put_sequence}
+use Rattle.c_reading.proofs.Lasts.{last_labelled, last_put, put_one, put_both, put_sequence}
 use Rattle.c_syntax.proofs.Ending.{innermost_is}
 
 -- ---- nothing stands open

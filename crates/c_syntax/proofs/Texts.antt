@@ -5,16 +5,16 @@ use Rattle.tla_tree.specs.Lexical.{Token, open_brace, close_brace}
 use Rattle.tla_tree.specs.Reader.{Out, then_read, gives}
 use Rattle.expr_nodes.specs.Ahead.{ahead}
 use Rattle.pcal_tree.specs.Grammar.{in_braces, Text}
-use Rattle.algorithm_reader.specs.TokenReaders.{a_mark, a_name, Parts, limited_parts}
-use Rattle.algorithm_reader.specs.ReadParts.{read_section}
-use Rattle.algorithm_reader.specs.ReadAround.{read_head, to_last}
-use Rattle.algorithm_reader.specs.ReadRoutines.{read_define, read_macros, read_procedures}
+use Rattle.syntax_reading.specs.TokenReaders.{a_mark, a_name, Parts, limited_parts}
+use Rattle.syntax_reading.specs.ReadParts.{read_section}
+use Rattle.syntax_reading.specs.ReadAround.{read_head, to_last}
+use Rattle.syntax_reading.specs.ReadRoutines.{read_define, read_macros, read_procedures}
 use Rattle.algorithm_reader.specs.PartsRead.{parts_in}
 use Rattle.algorithm_reader.proofs.Between.{ahead_length}
-use Rattle.algorithm_reader.proofs.OneAfter.{then_same, then_assoc}
-use Rattle.algorithm_reader.specs.ReadWhole.{read_whole}
-use Rattle.c_syntax.specs.ReadAlgorithm.{ways, read_main, read_text, read_limited_algorithm}
-use Rattle.c_syntax.specs.Around.{frames}
+use Rattle.syntax_reading.proofs.OneAfter.{then_same, then_assoc}
+use Rattle.syntax_reading.specs.ReadWhole.{read_whole}
+use Rattle.c_reading.specs.ReadAlgorithm.{ways, read_main, read_text, read_limited_algorithm}
+use Rattle.c_reading.specs.Around.{frames}
 
 text_is_whole : (m : Parts) (n : ℕ) (ts : List Token) → read_text m n ts ≡ read_whole m (ways m) (frames m) n ts
 text_is_whole m n ts =

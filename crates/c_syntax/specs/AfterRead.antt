@@ -10,10 +10,10 @@ use Rattle.expr_nodes.specs.declared.cursor.Halt.{Halt}
 use Rattle.expr_nodes.specs.ReadIn.{Told}
 use Rattle.expr_nodes.specs.Ahead.{ahead}
 use Rattle.pcal_tree.specs.GrammarC.{Labelled}
-use Rattle.algorithm_reader.specs.TokenReaders.{by_next, Parts}
+use Rattle.syntax_reading.specs.TokenReaders.{by_next, Parts}
 use Rattle.algorithm_reader.specs.PartsRead.{parts_in, StepLess}
-use Rattle.c_syntax.specs.ReadStatements.{Stack, ask_else, ask_or, ask_other, closed, takes_else, takes_or, is_divided, list_by, ended_by, opens, on, done}
-use Rattle.c_syntax.specs.ReadStatements as reader
+use Rattle.c_reading.specs.ReadStatements.{Stack, ask_else, ask_or, ask_other, closed, takes_else, takes_or, is_divided, list_by, ended_by, opens, on, done}
+use Rattle.c_reading.specs.ReadStatements as reader
 use Rattle.c_syntax.specs.Takes.{another_taken}
 use Rattle.c_syntax.specs.StatesRead.{Ends, Stands, past_one, TurnStands}
 use Rattle.c_syntax.specs.declared.open.End.{End}

@@ -4,9 +4,9 @@ use Rattle.tla_token.specs.declared.place.Place.{Place}
 use Rattle.tla_tree.specs.Tree.{Tree}
 use Rattle.pcal_tree.specs.GrammarParts.{last_place}
 use Rattle.pcal_tree.specs.GrammarC.{Labelled, no_else, else_then, last_branch, labelled_tokens, labelled_ends_in_block}
-use Rattle.c_syntax.specs.ReadStatements.{Stack, bottom, in_block, in_then, in_else, in_body, in_either, first_arm, later_arm, tested, opened, joined}
-use Rattle.c_syntax.specs.ReadStatements as reader
-use Rattle.algorithm_reader.specs.StatementsRead.{is_none}
+use Rattle.c_reading.specs.ReadStatements.{Stack, bottom, in_block, in_then, in_else, in_body, in_either, first_arm, later_arm, tested, opened, joined}
+use Rattle.c_reading.specs.ReadStatements as reader
+use Rattle.syntax_reading.specs.StatementsRead.{is_none}
 use Rattle.c_syntax.specs.StatesRead.{is_first, past_one, Stands}
 use Rattle.c_syntax.specs.declared.open.Frame.{Frame}
 use Rattle.c_syntax.specs.declared.open.Frame.TheVariants as frame

@@ -1,10 +1,4 @@
-pub mod ReadStatements
-pub mod ReadAlgorithm
-pub mod MissingStatements
-pub mod MissingAlgorithm
-pub mod Resume
 pub mod StatesRead
 pub mod Closes
 pub mod Takes
 pub mod AfterRead
-pub mod Around

@@ -16,14 +16,14 @@ use Rattle.pcal_tree.specs.GrammarC.{Labelled, labelled_tokens, labelled_ends_in
 use Rattle.expr_nodes.specs.declared.cursor.Halt.{Halt}
 use Rattle.expr_nodes.specs.ReadIn.{Told}
 use Rattle.expr_nodes.specs.Ahead.{ahead}
-use Rattle.algorithm_reader.specs.StatementsRead.{is_none}
-use Rattle.algorithm_reader.specs.TokenReaders.{by_next, a_name, pick, Parts}
+use Rattle.syntax_reading.specs.StatementsRead.{is_none}
+use Rattle.syntax_reading.specs.TokenReaders.{by_next, a_name, pick, Parts}
 use Rattle.algorithm_reader.specs.PartsRead.{StandsFor, parts_in, StepLess}
 use Rattle.algorithm_reader.specs.SimpleRead.{simple_reader}
-use Rattle.algorithm_reader.specs.ReadParts.{read_colon}
-use Rattle.algorithm_reader.specs.ReadAround.{with_label, within}
-use Rattle.c_syntax.specs.ReadStatements as reader
-use Rattle.c_syntax.specs.ReadStatements.{Before, none, after, Arms, first_arm, later_arm, if_test, with_opening, while_opening, Stack, bottom, in_block, in_then, in_else, in_body, in_either, depth, opens, ends_simple, statement_words, statement_by}
+use Rattle.syntax_reading.specs.ReadParts.{read_colon}
+use Rattle.syntax_reading.specs.ReadAround.{with_label, within}
+use Rattle.c_reading.specs.ReadStatements as reader
+use Rattle.c_reading.specs.ReadStatements.{Before, none, after, Arms, first_arm, later_arm, if_test, with_opening, while_opening, Stack, bottom, in_block, in_then, in_else, in_body, in_either, depth, opens, ends_simple, statement_words, statement_by}
 use Rattle.c_syntax.specs.declared.open.Begun.{Begun}
 use Rattle.c_syntax.specs.declared.open.Frame.{Frame}
 use Rattle.c_syntax.specs.declared.open.Frame.TheVariants as frame

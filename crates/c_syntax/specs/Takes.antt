@@ -4,8 +4,8 @@ use Rattle.tla_token.specs.declared.place.Place.{Place}
 use Rattle.tla_tree.specs.Tree.{Tree}
 use Rattle.pcal_tree.specs.GrammarParts.{no_labels}
 use Rattle.pcal_tree.specs.GrammarC.{Labelled, labelled, compound, last_statement}
-use Rattle.c_syntax.specs.ReadStatements.{Stack, bottom, in_block, in_then, in_else, in_either, later_arm, after, begin, ended, on, done, with_before}
-use Rattle.c_syntax.specs.ReadStatements as reader
+use Rattle.c_reading.specs.ReadStatements.{Stack, bottom, in_block, in_then, in_else, in_either, later_arm, after, begin, ended, on, done, with_before}
+use Rattle.c_reading.specs.ReadStatements as reader
 use Rattle.c_syntax.specs.StatesRead.{StateStands, TurnStands}
 use Rattle.c_syntax.specs.declared.open.State.{State}
 use Rattle.c_syntax.specs.declared.open.Turn.{Turn}

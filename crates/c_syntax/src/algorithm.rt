@@ -8,10 +8,10 @@ ghost use Rattle.expr_nodes.specs.Ahead.{ahead};
 ghost use Rattle.tla_expr.specs.Numbers.{NumbersFit};
 ghost use Rattle.pcal_tree.specs.InMemory.{main_at, past_main, algorithm_at, past_algorithm};
 ghost use Rattle.pcal_tree.specs.Grammar.{main_tree, algorithm_of};
-ghost use Rattle.algorithm_reader.specs.TokenReaders.{first};
+ghost use Rattle.syntax_reading.specs.TokenReaders.{first};
 ghost use Rattle.algorithm_reader.specs.PartsRead.{ReadsPart, parts_in, Enough};
-ghost use Rattle.c_syntax.specs.ReadAlgorithm.{read_main, read_limited_algorithm};
-ghost use Rattle.c_syntax.specs.Around.{frames};
+ghost use Rattle.c_reading.specs.ReadAlgorithm.{read_main, read_limited_algorithm};
+ghost use Rattle.c_reading.specs.Around.{frames};
 
 use crate::ways::{CSyntax, read_body};
 use algorithm_reader::processes::read_main_processes;

@@ -4,7 +4,7 @@ ghost use Rattle.std.specs.Prelude.{◌≡◌, List, ◌<◌, ◌≤◌, IfOk, c
 ghost use Rattle.tla_tree.specs.Tree.{Tree};
 ghost use Rattle.tla_tree.specs.Pool.{Keeps};
 ghost use Rattle.tla_expr.specs.Numbers.{NumbersFit};
-ghost use Rattle.c_syntax.specs.ReadStatements.{Stack, before_or};
+ghost use Rattle.c_reading.specs.ReadStatements.{Stack, before_or};
 ghost use Rattle.c_syntax.specs.StatesRead.{StepRead, StackStands, opens_by, block_step, label_step, simple_step};
 
 use crate::open::{Begun, End, Frame, Open, Point, State, extended, opened, opened_block};

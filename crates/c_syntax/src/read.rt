@@ -11,9 +11,9 @@ ghost use Rattle.pcal_tree.specs.InMemory.{algorithm_at, past_algorithm};
 ghost use Rattle.pcal_tree.specs.Grammar.{c_syntax, Spells};
 ghost use Rattle.pcal_tree.specs.AlgorithmTokens.{views};
 ghost use Rattle.pcal_tree.specs.OffencesSyntax.{RefusesTokens};
-ghost use Rattle.algorithm_reader.specs.Completes.{Completes};
-ghost use Rattle.algorithm_limits.specs.Answered.{AreAnswered};
-ghost use Rattle.c_syntax.specs.MissingAlgorithm.{completion};
+ghost use Rattle.syntax_reading.specs.Completes.{Completes};
+ghost use Rattle.algorithm_answer.specs.Answered.{AreAnswered};
+ghost use Rattle.c_reading.specs.MissingAlgorithm.{completion};
 
 use crate::algorithm::read_algorithm;
 use algorithm_reader::answer::answered;

@@ -6,7 +6,7 @@ ghost use Rattle.expr_nodes.specs.Ahead.{ahead};
 ghost use Rattle.tla_expr.specs.Numbers.{NumbersFit};
 ghost use Rattle.pcal_tree.specs.GrammarC.{statements};
 ghost use Rattle.algorithm_reader.specs.PartsRead.{ReadsPart, parts_in, StepLess, Enough};
-ghost use Rattle.c_syntax.specs.ReadStatements as reader;
+ghost use Rattle.c_reading.specs.ReadStatements as reader;
 ghost use Rattle.c_syntax.specs.StatesRead.{StateStands, list_at, past_list};
 ghost use Rattle.c_syntax.specs.AfterRead.{TurnsTo, PassesOn};
 

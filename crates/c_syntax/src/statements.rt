@@ -4,7 +4,7 @@ ghost use Rattle.std.specs.Prelude.{◌≡◌, List, ◌<◌, ◌≤◌, IfOk, l
 ghost use Rattle.tla_tree.specs.Tree.{Tree};
 ghost use Rattle.tla_tree.specs.Pool.{Keeps};
 ghost use Rattle.tla_expr.specs.Numbers.{NumbersFit};
-ghost use Rattle.c_syntax.specs.ReadStatements.{Stack, before_or as before_or_there};
+ghost use Rattle.c_reading.specs.ReadStatements.{Stack, before_or as before_or_there};
 ghost use Rattle.c_syntax.specs.StatesRead.{StackStands, StepRead, statement_step};
 ghost use Rattle.c_syntax.specs.Closes.{or_by};
 

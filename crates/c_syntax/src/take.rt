@@ -4,7 +4,7 @@ ghost use Rattle.std.specs.Prelude.{IfOk, List, Option};
 ghost use Rattle.tla_token.specs.declared.place.Place.{Place};
 ghost use Rattle.tla_tree.specs.Tree.{Tree};
 ghost use Rattle.pcal_tree.specs.GrammarC.{Labelled};
-ghost use Rattle.c_syntax.specs.ReadStatements.{Stack};
+ghost use Rattle.c_reading.specs.ReadStatements.{Stack};
 ghost use Rattle.c_syntax.specs.StatesRead.{Stands, past_one};
 ghost use Rattle.c_syntax.specs.Takes.{else_taken, or_taken, brace_taken, BeginStands, MayTurn};
 

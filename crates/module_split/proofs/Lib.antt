@@ -1,5 +1,4 @@
 mod RowsStands
-pub mod LineLengths
 pub mod EndLine
 pub mod BarFronts
 pub mod SegmentFronts
@@ -18,6 +17,5 @@ pub mod Gaps
 pub mod SplitParts
 pub mod Titles
 pub mod SplitTitle
-pub mod SplitWhole
 pub mod SplitTokens
 pub mod SplitMade

@@ -12,7 +12,7 @@ use Rattle.module_tree.specs.ModuleParts.{module_part}
 use Rattle.module_tree.specs.Walk.{Segment, region, State, in_module, segment_at}
 use Rattle.module_split.specs.Walking.{outline, front_of, end_at}
 use Rattle.module_split.proofs.EndLine.{end_parts, end_is, end_none}
-use Rattle.module_split.proofs.LineLengths.{run_within}
+use Rattle.module_tree.proofs.LineLengths.{run_within}
 use Rattle.module_tree.proofs.WalkWhole.{region_front as region_at}
 
 abbrev marks : ℕ → Option Front

@@ -23,7 +23,7 @@ use Rattle.module_split.specs.AlgorithmSeen.{stage_seen}
 use Rattle.module_split.specs.SplitSeen.{span_seen, plain_token, plain_tokens, IsFound, IsAlgorithm, IsGap}
 use Rattle.module_split.proofs.SplitFine.{fine_file}
 use Rattle.module_split.proofs.SplitTokens.{tokens_before, tokens_after}
-use Rattle.module_split.proofs.SplitWhole.{some_algorithm, some_spot, some_title}
+use Rattle.module_tree.proofs.SplitWhole.{some_algorithm, some_spot, some_title}
 use Rattle.module_tree.proofs.WalkKept.{Sound}
 
 pub titled : (x : Text) (ds : List Stand) → stands_seen x ds ≡ walk x → splitting_offences x ≡ [] → is_some (title (stands_seen x ds)) ≡ true

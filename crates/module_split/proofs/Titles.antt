@@ -7,7 +7,7 @@ use Rattle.tla_token.specs.Lexemes.{is_word}
 use Rattle.tla_token.specs.Cut.{run}
 use Rattle.tla_token.specs.Tokens.{stretch}
 use Rattle.module_tree.specs.TextFront.{Text, begins, is_space, first_is, past_all, on_some, past_word, past_blanks, past_run}
-use Rattle.module_split.proofs.LineLengths.{run_within, run_taken, past_len}
+use Rattle.module_tree.proofs.LineLengths.{run_within, run_taken, past_len}
 
 abbrev pub IsLeft : Text → Text → Type 0
 IsLeft r t = (front : Text) × (t ≡ front ++ r)

@@ -71,3 +71,5 @@ pub mod PlacesAlike
 pub mod OptionsSwapped
 pub mod PartsSound
 pub mod FineFiles
+pub mod LineLengths
+pub mod SplitWhole

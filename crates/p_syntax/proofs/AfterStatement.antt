@@ -14,10 +14,10 @@ use Rattle.expr_nodes.specs.Ahead.{ahead}
 use Rattle.pcal_tree.specs.Algorithm as tree
 use Rattle.pcal_tree.specs.GrammarParts.{Labels}
 use Rattle.pcal_tree.specs.GrammarP as p
-use Rattle.algorithm_reader.specs.TokenReaders.{first, is_reserved, pick, Parts}
+use Rattle.syntax_reading.specs.TokenReaders.{first, is_reserved, pick, Parts}
 use Rattle.algorithm_reader.specs.PartsRead.{StandsFor}
-use Rattle.p_syntax.specs.ReadStatements as reader
-use Rattle.p_syntax.specs.ReadStatements.{Before, none, after, Stack, Turn, on, ended, with_before, closing_words, another_by, ended_by}
+use Rattle.p_reading.specs.ReadStatements as reader
+use Rattle.p_reading.specs.ReadStatements.{Before, none, after, Stack, Turn, on, ended, with_before, closing_words, another_by, ended_by}
 use Rattle.p_syntax.specs.declared.open.Point.{Point}
 use Rattle.p_syntax.specs.declared.open.Point.TheVariants as point
 use Rattle.p_syntax.specs.declared.open.State.{State}

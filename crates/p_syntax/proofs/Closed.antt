@@ -19,19 +19,19 @@ use Rattle.pcal_tree.specs.GrammarParts.{key, span, first_place, last_place, Lab
 use Rattle.pcal_tree.specs.GrammarP as p
 use Rattle.pcal_tree.specs.GrammarP.{sequence, else_tokens, branches, statement, Sequence, Else}
 use Rattle.algorithm_reader.specs.PartsRead.{StandsFor}
-use Rattle.p_syntax.specs.ReadStatements as reader
-use Rattle.p_syntax.specs.ReadStatements.{Before, Stack, bottom, inside, Tests, if_test, elsif_test, Arms, first_arm, later_arm, closed_if, closed_either, depth}
+use Rattle.p_reading.specs.ReadStatements as reader
+use Rattle.p_reading.specs.ReadStatements.{Before, Stack, bottom, inside, Tests, if_test, elsif_test, Arms, first_arm, later_arm, closed_if, closed_either, depth}
 use Rattle.p_syntax.specs.declared.open.Test.{Test}
 use Rattle.p_syntax.specs.declared.open.Frame.{Frame}
 use Rattle.p_syntax.specs.declared.open.Frame.TheVariants as frame
 use Rattle.p_syntax.specs.declared.open.Open.{Open}
 use Rattle.p_syntax.specs.declared.open.Point.TheVariants as point
 use Rattle.p_syntax.specs.declared.open.State.{State}
-use Rattle.algorithm_reader.specs.StatementsRead.{is_none}
+use Rattle.syntax_reading.specs.StatementsRead.{is_none}
 use Rattle.p_syntax.specs.StatesRead.{so_far, past_one, tests_place, tests_tree, tests_list, arms_place, arms_tree, nested, past_test, before_rest, ThenStands, ElseStands, EitherStands, FrameStands, OpenStands, StackStands, Stands, StateStands, list_at, past_list}
 use Rattle.p_syntax.proofs.InLists.{nested-append, in_branches-append, in_branches-all, one_more_stands}
-use Rattle.p_syntax.proofs.Ends.{Puts, spell_puts, binds_puts, sequence_puts, else_puts, branches_puts, last_put}
-use Rattle.p_syntax.proofs.SoundStatements.{tests, arms, closed_if_tokens, closed_either_tokens}
+use Rattle.p_reading.proofs.Ends.{Puts, spell_puts, binds_puts, sequence_puts, else_puts, branches_puts, last_put}
+use Rattle.p_reading.proofs.SoundStatements.{tests, arms, closed_if_tokens, closed_either_tokens}
 
 -- ---- the tree of a statement, and where it is
 if_tree : (t : Tests) (a : Sequence) (e : Else) (r q : Place) → p.statement_tree (closed_if t a e r q) ≡ tests_tree t q (p.statements a) (p.else_statements q e)

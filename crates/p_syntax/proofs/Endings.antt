@@ -17,18 +17,18 @@ use Rattle.pcal_tree.specs.declared.algorithm.Bind.{Bind}
 use Rattle.pcal_tree.specs.declared.algorithm.Stmt.{Stmt}
 use Rattle.pcal_tree.specs.GrammarParts.{Labels, Binds}
 use Rattle.pcal_tree.specs.GrammarP as p
-use Rattle.algorithm_reader.specs.TokenReaders.{a_key, Parts}
-use Rattle.algorithm_reader.specs.ReadAround.{within}
+use Rattle.syntax_reading.specs.TokenReaders.{a_key, Parts}
+use Rattle.syntax_reading.specs.ReadAround.{within}
 use Rattle.algorithm_reader.specs.PartsRead.{StandsFor, parts_in}
-use Rattle.p_syntax.specs.ReadStatements as reader
-use Rattle.p_syntax.specs.ReadStatements.{Before, Stack, inside, Turn, in_then, in_else, in_either, in_with, in_while, first_arm, later_arm, elsif_test, opens, closed_if, closed_either, ends, takes_else, takes_elsif, takes_or, takes_end, depth}
+use Rattle.p_reading.specs.ReadStatements as reader
+use Rattle.p_reading.specs.ReadStatements.{Before, Stack, inside, Turn, in_then, in_else, in_either, in_with, in_while, first_arm, later_arm, elsif_test, opens, closed_if, closed_either, ends, takes_else, takes_elsif, takes_or, takes_end, depth}
 use Rattle.p_syntax.specs.declared.open.Test.{Test}
 use Rattle.p_syntax.specs.declared.open.Frame.{Frame}
 use Rattle.p_syntax.specs.declared.open.Frame.TheVariants as frame
 use Rattle.p_syntax.specs.declared.open.Point.TheVariants as point
 use Rattle.p_syntax.specs.declared.open.State.{State}
 use Rattle.p_syntax.specs.declared.open.Turn.TheVariants as turn
-use Rattle.algorithm_reader.specs.StatementsRead.{is_none}
+use Rattle.syntax_reading.specs.StatementsRead.{is_none}
 use Rattle.p_syntax.specs.StatesRead.{so_far, ThenStands, ElseStands, EitherStands, FrameStands, Stands, TurnStands, list_at, past_list}
 use Rattle.p_syntax.specs.StepsRead.{test_reader}
 use Rattle.algorithm_reader.proofs.Gathered.{as_pair, fails_then, refused_as}

@@ -11,8 +11,8 @@ use Rattle.pcal_tree.specs.InMemory.{past_statements, past_branches}
 use Rattle.pcal_tree.proofs.InMemoryGrown.{stmt_at-kept, statements_at-kept, binds_at-kept}
 use Rattle.pcal_tree.specs.GrammarP.{Sequence, statements}
 use Rattle.algorithm_reader.specs.PartsRead.{StandsFor}
-use Rattle.p_syntax.specs.ReadStatements as reader
-use Rattle.p_syntax.specs.ReadStatements.{Stack, bottom, inside}
+use Rattle.p_reading.specs.ReadStatements as reader
+use Rattle.p_reading.specs.ReadStatements.{Stack, bottom, inside}
 use Rattle.p_syntax.specs.declared.open.Test.{Test}
 use Rattle.p_syntax.specs.declared.open.Frame.{Frame}
 use Rattle.p_syntax.specs.declared.open.Frame.TheVariants as frame

@@ -7,11 +7,11 @@ use Rattle.tla_tree.specs.Lexical as tk
 use Rattle.tla_tree.specs.Reader.{◌>>=◌, then_read, gives, skip, tail}
 use Rattle.expr_nodes.specs.Ahead.{ahead}
 use Rattle.pcal_tree.specs.Grammar.{begin}
-use Rattle.algorithm_reader.specs.TokenReaders.{first, is_reserved, Parts}
-use Rattle.algorithm_reader.specs.ReadRoutines.{main_processes}
+use Rattle.syntax_reading.specs.TokenReaders.{first, is_reserved, Parts}
+use Rattle.syntax_reading.specs.ReadRoutines.{main_processes}
 use Rattle.algorithm_reader.specs.RoutinesRead.{main_processes_by, read_main_processes}
-use Rattle.p_syntax.specs.ReadStatements.{read_sequence}
-use Rattle.p_syntax.specs.ReadAlgorithm.{ways, main_by, read_main}
+use Rattle.p_reading.specs.ReadStatements.{read_sequence}
+use Rattle.p_reading.specs.ReadAlgorithm.{ways, main_by, read_main}
 
 module _ (m : Parts) (n : ℕ) where
   begin_comes : (p : Place) (k : TokenView) (ts : List Token) → is_reserved (codes "begin") k ≡ true → main_by m n p k ts ≡ then_read (read_sequence m n (tail ts)) (λ ss. gives (begin p ss))

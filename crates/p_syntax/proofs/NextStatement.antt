@@ -17,13 +17,13 @@ use Rattle.tla_tree.specs.Lexical as tk
 use Rattle.tla_tree.specs.Reader.{Out, Reader, ◌>>=◌, then_read, gives, refuses, took, tail, is_mark}
 use Rattle.tla_tree.proofs.SoundTokens.{mark_is}
 use Rattle.pcal_tree.specs.GrammarParts.{Labels}
-use Rattle.algorithm_reader.specs.TokenReaders.{first, is_reserved, name_of, pick, Parts}
-use Rattle.algorithm_reader.specs.ReadParts.{read_colon}
-use Rattle.algorithm_reader.specs.ReadAround.{with_label}
-use Rattle.algorithm_reader.specs.ReadSimple.{named_by, simple_words}
+use Rattle.syntax_reading.specs.TokenReaders.{first, is_reserved, name_of, pick, Parts}
+use Rattle.syntax_reading.specs.ReadParts.{read_colon}
+use Rattle.syntax_reading.specs.ReadAround.{with_label}
+use Rattle.syntax_reading.specs.ReadSimple.{named_by, simple_words}
 use Rattle.algorithm_reader.specs.SimpleRead.{simple_by}
-use Rattle.algorithm_reader.specs.StatementsRead.{is_label}
-use Rattle.p_syntax.specs.ReadStatements.{Before, Stack, Turn, begin, on, after_name, ends_simple, statement_words, statement_by}
+use Rattle.syntax_reading.specs.StatementsRead.{is_label}
+use Rattle.p_reading.specs.ReadStatements.{Before, Stack, Turn, begin, on, after_name, ends_simple, statement_words, statement_by}
 use Rattle.p_syntax.specs.StatesRead.{TurnStands}
 use Rattle.p_syntax.specs.StepsRead.{StepRead, opens_by, label_step, simple_step, statement_step}
 

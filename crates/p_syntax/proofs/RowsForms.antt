@@ -15,11 +15,11 @@ use Rattle.pcal_tree.specs.GrammarParts as part
 use Rattle.pcal_tree.specs.GrammarP.{Sequence, sequence, simple, branch, with, no_else, last_statement, more_statements}
 use Rattle.pcal_tree.specs.Grammar.{Text, spell}
 use Rattle.pcal_tree.specs.Grammar as g
-use Rattle.algorithm_reader.specs.TokenReaders.{parts_of}
-use Rattle.p_syntax.specs.ReadStatements.{read_sequence}
+use Rattle.syntax_reading.specs.TokenReaders.{parts_of}
+use Rattle.p_reading.specs.ReadStatements.{read_sequence}
 use Rattle.algorithm_reader.specs.RoutinesRead.{identity_at, past_identity, identity_tree}
-use Rattle.p_syntax.specs.ReadAlgorithm.{read_algorithm}
-use Rattle.p_syntax.specs.Around.{frames, closing}
+use Rattle.p_reading.specs.ReadAlgorithm.{read_algorithm}
+use Rattle.p_reading.specs.Around.{frames, closing}
 
 abbrev at : Place
 at = record { line = 1; col = 1 }

@@ -11,8 +11,8 @@ use Rattle.pcal_tree.specs.GrammarParts.{no_labels}
 use Rattle.pcal_tree.specs.GrammarP.{Sequence, statements}
 use Rattle.algorithm_reader.specs.PartsRead.{StandsFor, parts_in, Enough, StepLess}
 use Rattle.algorithm_reader.proofs.Gathered.{fails_then}
-use Rattle.p_syntax.specs.ReadStatements as reader
-use Rattle.p_syntax.specs.ReadStatements.{none, bottom, begin, on, done, step, turned, run, read_sequence}
+use Rattle.p_reading.specs.ReadStatements as reader
+use Rattle.p_reading.specs.ReadStatements.{none, bottom, begin, on, done, step, turned, run, read_sequence}
 use Rattle.p_syntax.specs.declared.open.Point.TheVariants as point
 use Rattle.p_syntax.specs.declared.open.State.{State}
 use Rattle.p_syntax.specs.declared.open.Turn.TheVariants as turn

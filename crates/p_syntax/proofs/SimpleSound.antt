@@ -10,14 +10,14 @@ use Rattle.tla_tree.specs.Lexical as tk
 use Rattle.tla_tree.specs.Reader.{refuses}
 use Rattle.pcal_tree.specs.GrammarParts.{Assignments, last_assignment, assignment, assignments, Simple, simple_tokens, GoodSimple}
 use Rattle.pcal_tree.specs.GrammarParts as g
-use Rattle.algorithm_reader.specs.TokenReaders.{Parts}
-use Rattle.algorithm_reader.specs.ReadSimple.{simple_words}
-use Rattle.algorithm_reader.proofs.Sound.{Sound, SoundAt, here, sound_refuses, sound_next, sound_stays, sound_past, sound_pick}
-use Rattle.algorithm_reader.proofs.SoundParts.{SoundParts}
-use Rattle.algorithm_reader.proofs.SoundSimple.{named_sound, words_sound}
+use Rattle.syntax_reading.specs.TokenReaders.{Parts}
+use Rattle.syntax_reading.specs.ReadSimple.{simple_words}
+use Rattle.syntax_reading.proofs.Sound.{Sound, SoundAt, here, sound_refuses, sound_next, sound_stays, sound_past, sound_pick}
+use Rattle.syntax_reading.proofs.SoundParts.{SoundParts}
+use Rattle.syntax_reading.proofs.SoundSimple.{named_sound, words_sound}
 use Rattle.algorithm_reader.specs.SimpleRead.{simple_by, simple_reader}
 use Rattle.algorithm_reader.proofs.Between.{ahead_length}
-use Rattle.p_syntax.proofs.Ends.{simple_puts}
+use Rattle.p_reading.proofs.Ends.{simple_puts}
 
 module _ (m : Parts) (h : SoundParts m) where
   by_simple_sound : (n : ℕ) (p : Place) (k : TokenView) → SoundAt p k here GoodSimple simple_tokens (simple_by m n p k)

@@ -15,11 +15,11 @@ use Rattle.pcal_tree.specs.InMemory.{span_of, simple_at, past_simple}
 use Rattle.pcal_tree.proofs.InMemoryEach.{label_at, past_label, simple_in_list_at, past_simple_in_list}
 use Rattle.pcal_tree.specs.GrammarParts.{span, Colon, Labels, no_labels, Simple, simple_tokens, simple_tree}
 use Rattle.pcal_tree.specs.GrammarP as p
-use Rattle.algorithm_reader.specs.ReadAround.{with_label}
+use Rattle.syntax_reading.specs.ReadAround.{with_label}
 use Rattle.algorithm_reader.specs.PartsRead.{mark_of}
 use Rattle.algorithm_reader.proofs.StatementSteps.{label_mark}
-use Rattle.p_syntax.specs.ReadStatements as reader
-use Rattle.p_syntax.specs.ReadStatements.{Before, none, inside, Stack, if_test, first_arm, inside_frame, depth}
+use Rattle.p_reading.specs.ReadStatements as reader
+use Rattle.p_reading.specs.ReadStatements.{Before, none, inside, Stack, if_test, first_arm, inside_frame, depth}
 use Rattle.p_syntax.specs.declared.open.Test.{Test}
 use Rattle.p_syntax.specs.declared.open.Frame.{Frame}
 use Rattle.p_syntax.specs.declared.open.Point.TheVariants as point

@@ -5,16 +5,16 @@ use Rattle.tla_tree.specs.Lexical.{Token}
 use Rattle.tla_tree.specs.Reader.{Out, Reader, ◌>>=◌, then_read, gives}
 use Rattle.expr_nodes.specs.Ahead.{ahead}
 use Rattle.pcal_tree.specs.Grammar.{Around, to_end, Text}
-use Rattle.algorithm_reader.specs.TokenReaders.{a_key, a_name, Parts, limited_parts}
-use Rattle.algorithm_reader.specs.ReadParts.{read_section}
-use Rattle.algorithm_reader.specs.ReadAround.{read_head, to_last}
-use Rattle.algorithm_reader.specs.ReadRoutines.{read_define, read_macros, read_procedures}
+use Rattle.syntax_reading.specs.TokenReaders.{a_key, a_name, Parts, limited_parts}
+use Rattle.syntax_reading.specs.ReadParts.{read_section}
+use Rattle.syntax_reading.specs.ReadAround.{read_head, to_last}
+use Rattle.syntax_reading.specs.ReadRoutines.{read_define, read_macros, read_procedures}
 use Rattle.algorithm_reader.specs.PartsRead.{parts_in}
 use Rattle.algorithm_reader.proofs.Between.{ahead_length}
-use Rattle.algorithm_reader.proofs.OneAfter.{then_same, then_assoc}
-use Rattle.algorithm_reader.specs.ReadWhole.{read_whole}
-use Rattle.p_syntax.specs.ReadAlgorithm.{ways, read_main, read_text, read_limited_algorithm}
-use Rattle.p_syntax.specs.Around.{closing, frames}
+use Rattle.syntax_reading.proofs.OneAfter.{then_same, then_assoc}
+use Rattle.syntax_reading.specs.ReadWhole.{read_whole}
+use Rattle.p_reading.specs.ReadAlgorithm.{ways, read_main, read_text, read_limited_algorithm}
+use Rattle.p_reading.specs.Around.{closing, frames}
 
 closed_then : {B : Type 0} (ts : List Token) (g : Around → Reader B) → then_read (closing ts) g ≡ then_read (a_key (codes "end") ts) (λ e. a_key (codes "algorithm") >>= λ f. g (to_end e f))
 closed_then ts g =

@@ -1,8 +1,2 @@
-pub mod ReadStatements
-pub mod ReadAlgorithm
-pub mod MissingStatements
-pub mod MissingAlgorithm
-pub mod Resume
 pub mod StatesRead
 pub mod StepsRead
-pub mod Around

@@ -10,13 +10,13 @@ use Rattle.pcal_tree.specs.GrammarP as p
 use Rattle.expr_nodes.specs.declared.cursor.Halt.{Halt}
 use Rattle.expr_nodes.specs.ReadIn.{Told}
 use Rattle.expr_nodes.specs.Ahead.{ahead}
-use Rattle.algorithm_reader.specs.TokenReaders.{by_next, a_key, a_name, pick, Parts}
-use Rattle.algorithm_reader.specs.ReadParts.{read_colon}
-use Rattle.algorithm_reader.specs.ReadAround.{with_label, within}
+use Rattle.syntax_reading.specs.TokenReaders.{by_next, a_key, a_name, pick, Parts}
+use Rattle.syntax_reading.specs.ReadParts.{read_colon}
+use Rattle.syntax_reading.specs.ReadAround.{with_label, within}
 use Rattle.algorithm_reader.specs.PartsRead.{StandsFor, parts_in, StepLess}
 use Rattle.algorithm_reader.specs.SimpleRead.{simple_reader}
-use Rattle.p_syntax.specs.ReadStatements as reader
-use Rattle.p_syntax.specs.ReadStatements.{Before, Stack, inside, depth, statement_words, statement_by, closing_words, takes_end, another_by, ended_by, ends_simple}
+use Rattle.p_reading.specs.ReadStatements as reader
+use Rattle.p_reading.specs.ReadStatements.{Before, Stack, inside, depth, statement_words, statement_by, closing_words, takes_end, another_by, ended_by, ends_simple}
 use Rattle.p_syntax.specs.declared.open.State.{State}
 use Rattle.p_syntax.specs.declared.open.Turn.{Turn}
 use Rattle.p_syntax.specs.declared.open.Turn.TheVariants as turn

@@ -10,9 +10,9 @@ ghost use Rattle.pcal_tree.specs.InMemory.{main_at, past_main, algorithm_at, pas
 ghost use Rattle.pcal_tree.specs.Grammar.{begin, main_tree, algorithm_of};
 ghost use Rattle.algorithm_reader.specs.PartsRead.{ReadsPart, parts_in, Enough};
 ghost use Rattle.algorithm_reader.specs.RoutinesRead.{Passes};
-ghost use Rattle.p_syntax.specs.ReadStatements.{read_sequence as list_reader};
-ghost use Rattle.p_syntax.specs.ReadAlgorithm.{read_main, read_limited_algorithm};
-ghost use Rattle.p_syntax.specs.Around.{closing, frames};
+ghost use Rattle.p_reading.specs.ReadStatements.{read_sequence as list_reader};
+ghost use Rattle.p_reading.specs.ReadAlgorithm.{read_main, read_limited_algorithm};
+ghost use Rattle.p_reading.specs.Around.{closing, frames};
 
 use crate::sequence::read_sequence;
 use crate::ways::PSyntax;

@@ -14,9 +14,9 @@ ghost use Rattle.pcal_tree.specs.GrammarParts.{Binds};
 ghost use Rattle.pcal_tree.specs.GrammarP as p;
 ghost use Rattle.p_syntax.specs.declared.open.Turn as code;
 ghost use Rattle.p_syntax.specs.declared.open.Frame.TheVariants as frame;
-ghost use Rattle.algorithm_reader.specs.TokenReaders.{first};
+ghost use Rattle.syntax_reading.specs.TokenReaders.{first};
 ghost use Rattle.algorithm_reader.specs.PartsRead.{parts_in, StandsFor};
-ghost use Rattle.p_syntax.specs.ReadStatements as reader;
+ghost use Rattle.p_reading.specs.ReadStatements as reader;
 ghost use Rattle.p_syntax.specs.StatesRead.{TurnStands, StackStands, ElseStands, EitherStands, FrameStands, list_at, past_list};
 ghost use Rattle.p_syntax.specs.StepsRead.{ClosingRead, closes_by, test_reader, EndRead, PassesOn, end_step};
 

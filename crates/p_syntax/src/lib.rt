@@ -4,7 +4,6 @@
 pub mod algorithm;
 pub mod close;
 pub mod ending;
-pub mod laws;
 pub mod open;
 pub mod opening;
 pub mod read;

@@ -6,7 +6,7 @@ ghost use Rattle.expr_nodes.specs.Ahead.{ahead};
 ghost use Rattle.tla_expr.specs.Numbers.{NumbersFit};
 ghost use Rattle.pcal_tree.specs.GrammarP as p;
 ghost use Rattle.algorithm_reader.specs.PartsRead.{ReadsPart, parts_in, Enough};
-ghost use Rattle.p_syntax.specs.ReadStatements as reader;
+ghost use Rattle.p_reading.specs.ReadStatements as reader;
 ghost use Rattle.p_syntax.specs.StatesRead.{StateStands, list_at, past_list};
 
 use crate::open::{State, Turn, start};

@@ -7,7 +7,7 @@ ghost use Rattle.expr_nodes.specs.Ahead.{ahead};
 ghost use Rattle.tla_expr.specs.Numbers.{NumbersFit};
 ghost use Rattle.pcal_tree.specs.Grammar.{body_tree, defined};
 ghost use Rattle.algorithm_reader.specs.PartsRead.{ReadsPart, parts_in, Enough, all_defined_at, past_all_defined};
-ghost use Rattle.p_syntax.specs.ReadAlgorithm.{read_body as body_reader, read_identity as identity_reader, define_from, ways};
+ghost use Rattle.p_reading.specs.ReadAlgorithm.{read_body as body_reader, read_identity as identity_reader, define_from, ways};
 ghost use Rattle.p_syntax.specs.StatesRead.{list_at, past_list};
 ghost use Rattle.algorithm_reader.specs.RoutinesRead.{identity_at, past_identity, identity_tree};
 

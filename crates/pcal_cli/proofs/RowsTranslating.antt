@@ -12,9 +12,9 @@ use Rattle.pcal_tree.specs.Grammar as grammar
 use Rattle.pcal_tree.specs.OpenForms.{opens}
 use Rattle.first_path.specs.Worked.{worked_text, worked_parts}
 use Rattle.first_path.proofs.WorkedForms.{form_worked}
-use Rattle.rewriting.specs.Spelling.{AnswersRewriting}
+use Rattle.file_answer.specs.Spelling.{AnswersRewriting}
 use Rattle.pcal_cli.specs.Translating.{AnswersTranslation}
-use Rattle.rewriting.proofs.RowsSpelling.{nothing, r, file, no_algorithm}
+use Rattle.file_answer.proofs.RowsSpelling.{nothing, r, file, no_algorithm}
 
 abbrev at : ℕ → ℕ → Place
 at l k = record { line = l; col = k }

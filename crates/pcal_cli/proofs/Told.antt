@@ -8,7 +8,7 @@ use Rattle.tla_token.specs.declared.rule.Refusal.{Refusal}
 use Rattle.tla_token.specs.Limits.{most_bytes}
 use Rattle.tla_tree.specs.Tree.{Word}
 use Rattle.command_words.specs.Commands.{Command, translates, checks, rewrites, maps, runs, traces, makes}
-use Rattle.rewriting.proofs.OneAnswer as rewritings
+use Rattle.file_answer.proofs.OneAnswer as rewritings
 use Rattle.pcal_cli.specs.Words.{file_of, file_meant}
 use Rattle.pcal_cli.specs.Translating.{AnswersTranslation}
 use Rattle.pcal_cli.proofs.Translating.{one_answer}

@@ -15,13 +15,13 @@ use Rattle.first_path.specs.TreeForm.{HasForm, tree_form}
 use Rattle.first_path.specs.Written.{Written}
 use Rattle.first_path.proofs.SpelledInFile.{stand_there}
 use Rattle.first_path.proofs.TreeForms.{form_found, form_read, form_promise}
-use Rattle.rewriting.specs.Refusals.{IsStop}
-use Rattle.rewriting.specs.Spelling.{AnswersRewriting}
-use Rattle.rewriting.specs.Holds.{HoldsTree}
-use Rattle.rewriting.proofs.OneAnswer.{one_answer as one_rewriting}
-use Rattle.rewriting.proofs.OneTree.{one_stands}
-use Rattle.rewriting.proofs.SplitDecides.{split_decides}
-use Rattle.rewriting.proofs.Unrefused.{unrefused_is_fine}
+use Rattle.file_answer.specs.Refusals.{IsStop}
+use Rattle.file_answer.specs.Spelling.{AnswersRewriting}
+use Rattle.file_answer.specs.Holds.{HoldsTree}
+use Rattle.file_answer.proofs.OneAnswer.{one_answer as one_rewriting}
+use Rattle.file_answer.proofs.OneTree.{one_stands}
+use Rattle.file_answer.proofs.SplitDecides.{split_decides}
+use Rattle.file_answer.proofs.Unrefused.{unrefused_is_fine}
 use Rattle.pcal_cli.specs.Translating.{left_out, AnswersForm, AnswersAfter, AnswersTranslation}
 
 pub has_form : (x : Text) → AnswersTranslation x None → (f : Parts) × HasForm x f

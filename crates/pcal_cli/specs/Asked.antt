@@ -6,9 +6,9 @@ use Rattle.command_words.specs.Commands.{Command, translates, rewrites}
 use Rattle.promise.specs.Options.{Options}
 use Rattle.promise.specs.Headline.{Headline}
 use Rattle.first_path.specs.Written.{Written}
-use Rattle.syntax_print.specs.Rewritten.{Rewritten}
-use Rattle.syntax_print.specs.Rewrites.{Rewrites}
-use Rattle.rewriting.specs.Spelling.{AnswersRewriting}
+use Rattle.printed_text.specs.Rewritten.{Rewritten}
+use Rattle.printed_text.specs.Rewrites.{Rewrites}
+use Rattle.file_answer.specs.Spelling.{AnswersRewriting}
 use Rattle.pcal_cli.specs.Words.{plain}
 use Rattle.pcal_cli.specs.Translating.{AnswersTranslation}
 

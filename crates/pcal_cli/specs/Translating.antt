@@ -7,7 +7,7 @@ use Rattle.tla_token.specs.Places.{start}
 use Rattle.module_tree.specs.TextFront.{Text}
 use Rattle.first_path.specs.Form.{Parts}
 use Rattle.first_path.specs.TreeForm.{HasForm}
-use Rattle.rewriting.specs.Spelling.{AnswersRewriting}
+use Rattle.file_answer.specs.Spelling.{AnswersRewriting}
 
 -- rule 11 at the file's start
 abbrev pub left_out : Refusal

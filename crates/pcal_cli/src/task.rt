@@ -2,7 +2,7 @@
 
 ghost use Rattle.std.specs.Prelude.{◌≡◌, ◌<◌, ◌^◌, length, option_map, Some, IfOk, IfErr};
 ghost use Rattle.command_words.specs.Meant.{meant};
-ghost use Rattle.rewriting.specs.Refusals.{IsStop};
+ghost use Rattle.file_answer.specs.Refusals.{IsStop};
 ghost use Rattle.pcal_cli.specs.Words.{if_run, command_in, file_of};
 ghost use Rattle.pcal_cli.specs.Tasks.{as_command};
 ghost use Rattle.pcal_cli.specs.Asked.{Refuses, Accepts, Makes, Promises};

@@ -10,7 +10,7 @@ ghost use Rattle.first_path.specs.Form.{is_fit as is_fit_of};
 ghost use Rattle.first_path.specs.TreeForm.{tree_form};
 ghost use Rattle.first_path.specs.Placed.{region_of, translation_of};
 ghost use Rattle.first_path.specs.Written.{Written};
-ghost use Rattle.rewriting.specs.Refusals.{IsStop};
+ghost use Rattle.file_answer.specs.Refusals.{IsStop};
 ghost use Rattle.pcal_cli.specs.FormSeen.{parts_of};
 ghost use Rattle.pcal_cli.specs.Translating.{AnswersTranslation};
 

@@ -22,16 +22,16 @@ use Rattle.module_tree.specs.TextFront.{Text}
 use Rattle.module_tree.specs.AlgorithmText.{AlgorithmText, algorithm_tokens}
 use Rattle.module_tree.specs.FileOffences.{splitting_offences, RefusesSplit}
 use Rattle.module_split.specs.Splitting.{Splits}
-use Rattle.algorithm_limits.specs.TokensRefused.{left_out_at}
-use Rattle.algorithm_limits.specs.Answered.{AreAnswered}
-use Rattle.rewriting.specs.Refusals.{IsStop}
-use Rattle.rewriting.specs.Spelling.{syntax_at, AnswersRewriting}
-use Rattle.rewriting.specs.Holds.{HoldsTree}
+use Rattle.algorithm_answer.specs.TokensRefused.{left_out_at}
+use Rattle.algorithm_answer.specs.Answered.{AreAnswered}
+use Rattle.file_answer.specs.Refusals.{IsStop}
+use Rattle.file_answer.specs.Spelling.{syntax_at, AnswersRewriting}
+use Rattle.file_answer.specs.Holds.{HoldsTree}
 use Rattle.rewriting.specs.TokensRead.{AreOfAlgorithm}
-use Rattle.rewriting.proofs.SplitDecides.{split_decides}
-use Rattle.rewriting.proofs.AlgorithmStretch.{has_tokens, opens_with, stretch_within, word_within}
-use Rattle.rewriting.proofs.TokensAnswered.{tokens_answer, words_are, or_later, numbers_answer}
-use Rattle.rewriting.proofs.TokensScanned.{rest_tok, never_refused, scanned, scanned_small, scanned_big, word_len}
+use Rattle.file_answer.proofs.SplitDecides.{split_decides}
+use Rattle.file_answer.proofs.AlgorithmStretch.{has_tokens, opens_with, stretch_within, word_within}
+use Rattle.file_answer.proofs.TokensAnswered.{tokens_answer, words_are, or_later, numbers_answer}
+use Rattle.file_answer.proofs.TokensScanned.{rest_tok, never_refused, scanned, scanned_small, scanned_big, word_len}
 
 -- in the syntax that the parts tell
 abbrev pub told_syntax : Bool → Syntax

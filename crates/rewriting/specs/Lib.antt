@@ -1,5 +1,1 @@
-pub mod Refusals
-pub mod Spelling
-pub mod Holds
 pub mod TokensRead
-pub mod laws

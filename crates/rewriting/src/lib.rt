@@ -1,8 +1,6 @@
 //! Rewriting a file's algorithm in the other syntax: what a rewriting is answered, and the file that it gives.
 #![tactic(auto)]
 
-pub mod laws;
-pub mod one_tree;
 pub mod read_file;
 pub mod write_file;
 

@@ -13,11 +13,11 @@ ghost use Rattle.pcal_tree.specs.Grammar.{p_syntax, c_syntax, Spells};
 ghost use Rattle.pcal_tree.specs.Syntaxes.{syntax_of};
 ghost use Rattle.module_tree.specs.FileOffences.{splitting_offences};
 ghost use Rattle.module_split.specs.Splitting.{Splits};
-ghost use Rattle.algorithm_limits.specs.Answered.{AreAnswered};
-ghost use Rattle.syntax_print.specs.Rewrites.{Rewrites};
-ghost use Rattle.rewriting.specs.Refusals.{IsStop};
-ghost use Rattle.rewriting.specs.Spelling.{AnswersRewriting};
-ghost use Rattle.rewriting.specs.Holds.{HoldsTree};
+ghost use Rattle.algorithm_answer.specs.Answered.{AreAnswered};
+ghost use Rattle.printed_text.specs.Rewrites.{Rewrites};
+ghost use Rattle.file_answer.specs.Refusals.{IsStop};
+ghost use Rattle.file_answer.specs.Spelling.{AnswersRewriting};
+ghost use Rattle.file_answer.specs.Holds.{HoldsTree};
 ghost use Rattle.rewriting.specs.TokensRead.{AreOfAlgorithm};
 
 use crate::write_file::rewritten;

@@ -5,8 +5,8 @@ ghost use Rattle.tla_tree.specs.laws.InText.{ends_word};
 ghost use Rattle.pcal_tree.specs.InMemory.{algorithm_at, past_algorithm};
 ghost use Rattle.module_split.specs.Splitting.{Splits};
 ghost use Rattle.pcal_tree.specs.Syntaxes.{syntax_of};
-ghost use Rattle.syntax_print.specs.Rewritten.{gap, Rewritten};
-ghost use Rattle.rewriting.specs.Holds.{HoldsTree};
+ghost use Rattle.printed_text.specs.Rewritten.{gap, Rewritten};
+ghost use Rattle.file_answer.specs.Holds.{HoldsTree};
 
 use module_tree::Parts;
 use pcal_tree::Syntax;

@@ -1,7 +1,6 @@
 //! The printed text of algorithms in both syntaxes.
 #![tactic(auto)]
 
-pub mod laws;
 pub mod syntax;
 pub mod write_algorithm;
 pub mod write_part;

@@ -5,7 +5,7 @@ use Rattle.pcal_tree.specs.declared.algorithm.Definition.{Definition}
 use Rattle.pcal_tree.specs.InMemory.{macro_at, definitions_at}
 use Rattle.pcal_tree.specs.Offences.{first}
 use Rattle.pcal_tree.specs.OffencesCounts.{long_chains, deep_definitions}
-use Rattle.algorithm_limits.specs.Joined.{joined}
+use Rattle.algorithm_answer.specs.Joined.{joined}
 use Rattle.algorithm_limits.proofs.AllCounts.{counts_first}
 use Rattle.algorithm_limits.proofs.limits.count_refusal.Goals as goal
 

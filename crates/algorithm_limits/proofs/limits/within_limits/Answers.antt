@@ -4,7 +4,7 @@ use Rattle.tla_token.specs.declared.rule.Stop.{Stop}
 use Rattle.tla_token.specs.TokensSeen.{tokens_seen}
 use Rattle.pcal_tree.specs.declared.algorithm.Algorithm.{Algorithm}
 use Rattle.pcal_tree.specs.Offences.{first}
-use Rattle.algorithm_limits.specs.Answered.{reading_offences}
+use Rattle.algorithm_limits.specs.ReadOffences.{reading_offences}
 use Rattle.algorithm_limits.proofs.WithinLimits.{first_is, same_refusal}
 use Rattle.algorithm_limits.proofs.limits.within_limits.Goals as goal
 

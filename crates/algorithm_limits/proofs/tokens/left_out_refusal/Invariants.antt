@@ -2,7 +2,7 @@
 use Rattle.std.proofs.Common.{◌≡◌}
 use Rattle.tla_token.specs.TokensSeen.{tokens_seen}
 use Rattle.pcal_tree.specs.Offences.{first}
-use Rattle.algorithm_limits.specs.TokensRefused.{left_out_at}
+use Rattle.algorithm_answer.specs.TokensRefused.{left_out_at}
 use Rattle.algorithm_limits.proofs.TokensFound.{found_from}
 use Rattle.algorithm_limits.proofs.tokens.left_out_refusal.Given as goal
 

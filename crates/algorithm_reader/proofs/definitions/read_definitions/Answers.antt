@@ -5,7 +5,7 @@ use Rattle.tla_tree.proofs.PoolNumbers.{Keeps-then}
 use Rattle.expr_nodes.specs.Ahead.{ahead}
 use Rattle.pcal_tree.specs.InMemory.{definition_at, past_definition}
 use Rattle.pcal_tree.specs.GrammarParts.{definitions_of}
-use Rattle.algorithm_reader.specs.ReadParts.{read_definitions as definitions_reader}
+use Rattle.syntax_reading.specs.ReadParts.{read_definitions as definitions_reader}
 use Rattle.algorithm_reader.specs.PartsRead.{parts_in}
 use Rattle.algorithm_reader.proofs.Gathered.{none_in_pool, one_more_in_pool, last_in_pool, one_fails_in_pool}
 use Rattle.algorithm_reader.proofs.GatheredDefinitions.{definition_told, definitions_stay, definitions_go_on, definitions_end, definitions_fail}

@@ -3,7 +3,7 @@ use Rattle.std.proofs.Common.{ℕ, ◌<◌, ◌≤◌, ◌-◌, length}
 use Rattle.tla_tree.specs.Pool.{Keeps}
 use Rattle.tla_tree.specs.Spelling.{Phrase}
 use Rattle.expr_nodes.specs.Ahead.{ahead}
-use Rattle.algorithm_reader.specs.ReadSimple.{read_left}
+use Rattle.syntax_reading.specs.ReadSimple.{read_left}
 use Rattle.algorithm_reader.specs.PartsRead.{parts_in, Enough}
 use Rattle.algorithm_reader.specs.SimpleRead.{LeftStands}
 use Rattle.algorithm_reader.proofs.LeftSides.{LeftSoFar}

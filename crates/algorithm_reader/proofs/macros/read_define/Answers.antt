@@ -3,7 +3,7 @@ use Rattle.std.proofs.Common.{subst, arith}
 use Rattle.tla_tree.specs.Reader.{Out}
 use Rattle.expr_nodes.specs.Ahead.{ahead}
 use Rattle.pcal_tree.specs.Grammar.{Define, defined}
-use Rattle.algorithm_reader.specs.TokenReaders.{first}
+use Rattle.syntax_reading.specs.TokenReaders.{first}
 use Rattle.algorithm_reader.specs.PartsRead.{ReadsPart, parts_in, all_defined_at, past_all_defined}
 use Rattle.algorithm_reader.proofs.MacroRounds.{define_read}
 use Rattle.algorithm_reader.proofs.macros.read_define.Goals as goal

@@ -5,7 +5,7 @@ use Rattle.tla_token.specs.Places.{nowhere}
 use Rattle.tla_tree.proofs.PoolNumbers.{Keeps-then}
 use Rattle.pcal_tree.specs.InMemory.{macro_at, past_macro}
 use Rattle.pcal_tree.specs.Grammar.{macro_tree}
-use Rattle.algorithm_reader.specs.ReadRoutines as reader
+use Rattle.syntax_reading.specs.ReadRoutines as reader
 use Rattle.algorithm_reader.specs.PartsRead.{parts_in}
 use Rattle.algorithm_reader.proofs.Gathered.{none_in_pool, one_more_in_pool, one_fails_in_pool}
 use Rattle.algorithm_reader.proofs.NoMore.{no_more_in_pool, tree_told}

@@ -3,7 +3,7 @@ use Rattle.std.proofs.Common.{ℕ, ◌≤◌, ◌-◌, length, map}
 use Rattle.tla_tree.specs.Pool.{Keeps}
 use Rattle.pcal_tree.specs.InMemory.{macro_at, past_macro}
 use Rattle.pcal_tree.specs.Grammar.{macro_tree}
-use Rattle.algorithm_reader.specs.ReadRoutines as reader
+use Rattle.syntax_reading.specs.ReadRoutines as reader
 use Rattle.algorithm_reader.specs.PartsRead.{parts_in, Enough}
 use Rattle.algorithm_reader.proofs.Gathered.{InPool}
 use Rattle.algorithm_reader.proofs.macros.read_macros.Given as goal

@@ -4,7 +4,7 @@ use Rattle.std.proofs.lemmas.Result.{err_from_is_err_and}
 use Rattle.tla_tree.specs.Tree.{Name}
 use Rattle.pcal_tree.specs.GrammarParts.{names_of}
 use Rattle.expr_nodes.specs.Ahead.{ahead}
-use Rattle.algorithm_reader.specs.ReadParts.{read_names as names_reader}
+use Rattle.syntax_reading.specs.ReadParts.{read_names as names_reader}
 use Rattle.algorithm_reader.proofs.Gathered.{SoFar, none_so_far, one_more, last_one, one_fails}
 use Rattle.algorithm_reader.proofs.GatheredNames.{name_and_more, last_of_names, no_first_name}
 use Rattle.algorithm_reader.proofs.names.read_names.Goals as goal

@@ -1,7 +1,7 @@
 -- What the loop keeps: the names so far.
 use Rattle.std.proofs.Common.{ℕ, ◌≤◌, ◌-◌, length}
 use Rattle.pcal_tree.specs.GrammarParts.{names_of}
-use Rattle.algorithm_reader.specs.ReadParts.{read_names as names_reader}
+use Rattle.syntax_reading.specs.ReadParts.{read_names as names_reader}
 use Rattle.algorithm_reader.specs.PartsRead.{Enough}
 use Rattle.algorithm_reader.proofs.Gathered.{SoFar}
 use Rattle.algorithm_reader.proofs.names.read_names.Given as goal

@@ -5,7 +5,7 @@ use Rattle.tla_tree.proofs.PoolNumbers.{Keeps-then}
 use Rattle.expr_nodes.specs.Ahead.{ahead}
 use Rattle.pcal_tree.specs.InMemory.{declaration_at, past_declaration}
 use Rattle.pcal_tree.specs.GrammarParts.{parameters_of}
-use Rattle.algorithm_reader.specs.ReadParts.{read_parameters as parameters_reader}
+use Rattle.syntax_reading.specs.ReadParts.{read_parameters as parameters_reader}
 use Rattle.algorithm_reader.specs.PartsRead.{parts_in}
 use Rattle.algorithm_reader.proofs.Gathered.{none_in_pool, one_more_in_pool, last_in_pool, one_fails_in_pool}
 use Rattle.algorithm_reader.proofs.GatheredVariables.{declaration_told, declarations_stay, parameters_go_on, parameters_end, parameters_fail}

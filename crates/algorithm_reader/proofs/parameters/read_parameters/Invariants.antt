@@ -3,7 +3,7 @@ use Rattle.std.proofs.Common.{ℕ, ◌≤◌, ◌-◌, length}
 use Rattle.tla_tree.specs.Pool.{Keeps}
 use Rattle.pcal_tree.specs.InMemory.{declaration_at, past_declaration}
 use Rattle.pcal_tree.specs.GrammarParts.{parameters_of}
-use Rattle.algorithm_reader.specs.ReadParts.{read_parameters as parameters_reader}
+use Rattle.syntax_reading.specs.ReadParts.{read_parameters as parameters_reader}
 use Rattle.algorithm_reader.specs.PartsRead.{parts_in, Enough}
 use Rattle.algorithm_reader.proofs.Gathered.{InPool}
 use Rattle.algorithm_reader.proofs.parameters.read_parameters.Given as goal

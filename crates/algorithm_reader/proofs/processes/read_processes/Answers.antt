@@ -9,7 +9,7 @@ use Rattle.expr_nodes.specs.Ahead.{ahead}
 use Rattle.pcal_tree.specs.declared.mark.Fairness.{Fairness}
 use Rattle.pcal_tree.specs.InMemory.{process_at, past_process}
 use Rattle.pcal_tree.specs.Grammar.{process_tree}
-use Rattle.algorithm_reader.specs.ReadRoutines as reader
+use Rattle.syntax_reading.specs.ReadRoutines as reader
 use Rattle.algorithm_reader.specs.PartsRead.{parts_in}
 use Rattle.algorithm_reader.proofs.Gathered.{none_in_pool, one_more_in_pool, one_fails_in_pool}
 use Rattle.algorithm_reader.specs.RoutinesRead.{read_beginning, beginning_fairness}

@@ -5,7 +5,7 @@ use Rattle.tla_tree.proofs.PoolNumbers.{Keeps-then}
 use Rattle.expr_nodes.specs.Ahead.{ahead}
 use Rattle.pcal_tree.specs.InMemory.{declaration_at, past_declaration}
 use Rattle.pcal_tree.specs.GrammarParts.{declarations}
-use Rattle.algorithm_reader.specs.ReadParts.{read_variables as variables_reader}
+use Rattle.syntax_reading.specs.ReadParts.{read_variables as variables_reader}
 use Rattle.algorithm_reader.specs.PartsRead.{parts_in}
 use Rattle.algorithm_reader.proofs.Gathered.{none_in_pool, one_more_in_pool, last_in_pool, one_fails_in_pool}
 use Rattle.algorithm_reader.proofs.GatheredVariables.{declaration_told, declarations_stay, separator_told, variables_go_on, variables_end, variables_fail}

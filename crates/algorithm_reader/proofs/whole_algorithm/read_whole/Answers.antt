@@ -4,7 +4,7 @@ use Rattle.std.proofs.lemmas.Result.{err_from_is_err_and}
 use Rattle.expr_nodes.specs.Ahead.{ahead}
 use Rattle.pcal_tree.specs.declared.algorithm.Algorithm as code
 use Rattle.algorithm_reader.specs.PartsRead.{parts_in}
-use Rattle.algorithm_reader.specs.ReadWhole.{read_whole}
+use Rattle.syntax_reading.specs.ReadWhole.{read_whole}
 use Rattle.algorithm_reader.proofs.WholeRead.{head_passed, name_passed, opening_passed, variables_passed, define_passed, macros_passed, procedures_passed, main_passed, closing_passed, no_head, no_name, no_opening, no_variables, no_define_there, no_macros, no_procedures, no_main, no_closing}
 use Rattle.algorithm_reader.proofs.TextStands.{text_stands}
 use Rattle.algorithm_reader.proofs.whole_algorithm.read_whole.Goals as goal

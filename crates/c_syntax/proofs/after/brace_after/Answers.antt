@@ -1,6 +1,6 @@
 -- Proves what is asked of `brace_after`.
 use Rattle.std.proofs.Common.{None}
-use Rattle.c_syntax.specs.ReadStatements.{ask_other, closed}
+use Rattle.c_reading.specs.ReadStatements.{ask_other, closed}
 use Rattle.c_syntax.specs.Takes.{brace_taken, MayTurn}
 use Rattle.c_syntax.proofs.OrAfter.{none_from}
 use Rattle.c_syntax.proofs.AfterStatement.{none_takes, one_takes}

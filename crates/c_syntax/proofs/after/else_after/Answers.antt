@@ -1,7 +1,7 @@
 -- Proves what is asked of `else_after`.
 use Rattle.std.proofs.Common.{None}
 use Rattle.std.proofs.lemmas.Result.{IfOk-weaker}
-use Rattle.c_syntax.specs.ReadStatements.{ask_else, closed}
+use Rattle.c_reading.specs.ReadStatements.{ask_else, closed}
 use Rattle.c_syntax.specs.Takes.{else_taken, BeginStands}
 use Rattle.c_syntax.proofs.OrAfter.{none_from}
 use Rattle.c_syntax.proofs.AfterStatement.{none_takes, one_takes}

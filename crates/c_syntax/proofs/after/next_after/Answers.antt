@@ -1,6 +1,6 @@
 -- Proves what is asked of `next_after`.
 use Rattle.std.proofs.Common.{None, sym, ◌∙◌}
-use Rattle.c_syntax.specs.ReadStatements.{ask_other, closed}
+use Rattle.c_reading.specs.ReadStatements.{ask_other, closed}
 use Rattle.c_syntax.specs.Takes.{BeginStands}
 use Rattle.c_syntax.specs.AfterRead.{next_taken}
 use Rattle.c_syntax.proofs.OrAfter.{none_from}

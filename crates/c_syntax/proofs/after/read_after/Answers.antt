@@ -1,7 +1,7 @@
 -- Proves what is asked of `read_after`.
 use Rattle.std.proofs.Common.{Bool, sym, ap, subst, ◌∙◌, codes}
 use Rattle.expr_nodes.specs.Ahead.{ahead}
-use Rattle.algorithm_reader.specs.TokenReaders.{first}
+use Rattle.syntax_reading.specs.TokenReaders.{first}
 use Rattle.algorithm_reader.specs.PartsRead.{parts_in}
 use Rattle.c_syntax.specs.AfterRead.{is_its_semicolon, TurnsTo}
 use Rattle.c_syntax.proofs.NextStatement.{word_is_there}

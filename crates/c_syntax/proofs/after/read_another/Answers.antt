@@ -2,9 +2,9 @@
 use Rattle.std.proofs.Common.{Option, sym, subst, ◌∙◌}
 use Rattle.expr_nodes.specs.Ahead.{ahead}
 use Rattle.pcal_tree.specs.GrammarParts.{no_labels}
-use Rattle.algorithm_reader.specs.TokenReaders.{first}
+use Rattle.syntax_reading.specs.TokenReaders.{first}
 use Rattle.algorithm_reader.specs.PartsRead.{parts_in}
-use Rattle.c_syntax.specs.ReadStatements.{ask_other, closed}
+use Rattle.c_reading.specs.ReadStatements.{ask_other, closed}
 use Rattle.c_syntax.specs.Takes.{BeginStands}
 use Rattle.c_syntax.specs.AfterRead.{taken, next_taken, TurnsTo}
 use Rattle.c_syntax.specs.declared.open.State.{State}

@@ -3,9 +3,9 @@ use Rattle.std.proofs.Common.{sym, subst, ◌∙◌}
 use Rattle.tla_tree.specs.Lexical.{TokenView, close_brace}
 use Rattle.tla_tree.proofs.SoundTokens.{mark_is}
 use Rattle.expr_nodes.specs.Ahead.{ahead}
-use Rattle.algorithm_reader.specs.TokenReaders.{first}
+use Rattle.syntax_reading.specs.TokenReaders.{first}
 use Rattle.algorithm_reader.specs.PartsRead.{parts_in}
-use Rattle.c_syntax.specs.ReadStatements.{ask_other, closed, list_by}
+use Rattle.c_reading.specs.ReadStatements.{ask_other, closed, list_by}
 use Rattle.c_syntax.specs.AfterRead.{TurnsTo}
 use Rattle.c_syntax.proofs.NextStatement.{mark_is_there}
 use Rattle.c_syntax.proofs.after.read_in_list.Goals as goal

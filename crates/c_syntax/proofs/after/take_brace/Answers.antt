@@ -3,9 +3,9 @@ use Rattle.std.proofs.Common.{sym, ap, subst}
 use Rattle.tla_token.specs.declared.place.Place.{Place}
 use Rattle.tla_tree.specs.Lexical.{Token}
 use Rattle.expr_nodes.specs.Ahead.{ahead}
-use Rattle.algorithm_reader.specs.TokenReaders.{first}
+use Rattle.syntax_reading.specs.TokenReaders.{first}
 use Rattle.algorithm_reader.specs.PartsRead.{parts_in}
-use Rattle.c_syntax.specs.ReadStatements.{ask_other, closed}
+use Rattle.c_reading.specs.ReadStatements.{ask_other, closed}
 use Rattle.c_syntax.specs.Takes.{brace_taken, MayTurn}
 use Rattle.c_syntax.specs.AfterRead.{taken, TurnsTo}
 use Rattle.c_syntax.proofs.AfterStatement.{brace_as, ends_there}

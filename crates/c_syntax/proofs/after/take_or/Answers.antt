@@ -1,8 +1,8 @@
 -- Proves what is asked of `take_or`.
 use Rattle.std.proofs.Common.{sym, subst}
 use Rattle.expr_nodes.specs.Ahead.{ahead}
-use Rattle.algorithm_reader.specs.TokenReaders.{first}
-use Rattle.c_syntax.specs.ReadStatements.{ask_or, closed}
+use Rattle.syntax_reading.specs.TokenReaders.{first}
+use Rattle.c_reading.specs.ReadStatements.{ask_or, closed}
 use Rattle.c_syntax.specs.Takes.{or_taken}
 use Rattle.c_syntax.specs.AfterRead.{taken, TurnsTo}
 use Rattle.c_syntax.proofs.AfterStatement.{or_as, ends_there}

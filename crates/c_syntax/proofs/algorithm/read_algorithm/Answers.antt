@@ -3,7 +3,7 @@ use Rattle.std.proofs.Common.{suc, length, arith}
 use Rattle.std.proofs.lemmas.Result.{err_from_is_err_and}
 use Rattle.expr_nodes.specs.Ahead.{ahead}
 use Rattle.algorithm_reader.proofs.ToLast.{ends_there, goes_further, whole_fails}
-use Rattle.c_syntax.specs.ReadAlgorithm.{read_limited_algorithm}
+use Rattle.c_reading.specs.ReadAlgorithm.{read_limited_algorithm}
 use Rattle.c_syntax.proofs.Texts.{whole, limited_is_whole}
 use Rattle.c_syntax.proofs.algorithm.read_algorithm.Goals as goal
 

@@ -2,7 +2,7 @@
 use Rattle.std.proofs.Common.{Bool, List, length}
 use Rattle.tla_tree.specs.Tree.{Tree}
 use Rattle.pcal_tree.specs.GrammarC.{Labelled}
-use Rattle.c_syntax.specs.ReadStatements.{Stack}
+use Rattle.c_reading.specs.ReadStatements.{Stack}
 use Rattle.c_syntax.specs.Closes.{EndStands}
 use Rattle.c_syntax.proofs.Ending.{SoFar}
 use Rattle.c_syntax.proofs.close.closed.Given as goal

@@ -4,9 +4,9 @@ use Rattle.tla_token.specs.Limits.{deepest_statement}
 use Rattle.tla_tree.specs.Reader.{gives}
 use Rattle.expr_nodes.proofs.AheadLemmas.{ahead_tail}
 use Rattle.expr_nodes.specs.Ahead.{ahead}
-use Rattle.algorithm_reader.specs.TokenReaders.{first}
+use Rattle.syntax_reading.specs.TokenReaders.{first}
 use Rattle.algorithm_reader.proofs.StatementSteps.{fits_within}
-use Rattle.c_syntax.specs.ReadStatements.{Turn, opens, in_block, none, depth}
+use Rattle.c_reading.specs.ReadStatements.{Turn, opens, in_block, none, depth}
 use Rattle.c_syntax.proofs.Steps.{block_stands}
 use Rattle.c_syntax.proofs.opening.open_block.Goals as goal
 

@@ -5,10 +5,10 @@ use Rattle.tla_tree.specs.Lexical.{Token}
 use Rattle.tla_tree.specs.Reader.{gives}
 use Rattle.expr_nodes.proofs.AheadLemmas.{ahead_tail}
 use Rattle.expr_nodes.specs.Ahead.{ahead}
-use Rattle.algorithm_reader.specs.TokenReaders.{first}
+use Rattle.syntax_reading.specs.TokenReaders.{first}
 use Rattle.algorithm_reader.specs.PartsRead.{parts_in}
 use Rattle.algorithm_reader.proofs.StatementSteps.{fits_within}
-use Rattle.c_syntax.specs.ReadStatements.{Turn, opens, either_if, in_either, first_arm, depth}
+use Rattle.c_reading.specs.ReadStatements.{Turn, opens, either_if, in_either, first_arm, depth}
 use Rattle.c_syntax.specs.declared.open.Frame.TheVariants as frame
 use Rattle.c_syntax.proofs.Steps.{begun_stands, opened_stands, first_branch_stands}
 use Rattle.c_syntax.proofs.opening.open_either.Goals as goal

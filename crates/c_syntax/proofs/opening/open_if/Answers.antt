@@ -7,10 +7,10 @@ use Rattle.tla_tree.specs.Lexical as tk
 use Rattle.tla_tree.specs.Spelling.{Phrase}
 use Rattle.tla_tree.specs.Reader.{Reader, ◌>>=◌, gives}
 use Rattle.expr_nodes.specs.Ahead.{ahead}
-use Rattle.algorithm_reader.specs.TokenReaders.{first, a_mark}
+use Rattle.syntax_reading.specs.TokenReaders.{first, a_mark}
 use Rattle.algorithm_reader.specs.PartsRead.{parts_in}
 use Rattle.algorithm_reader.proofs.StatementSteps.{goes_on, fits_within}
-use Rattle.c_syntax.specs.ReadStatements.{Stack, Turn, opens, bracketed, in_then, if_test, depth}
+use Rattle.c_reading.specs.ReadStatements.{Stack, Turn, opens, bracketed, in_then, if_test, depth}
 use Rattle.c_syntax.specs.declared.open.Frame.TheVariants as frame
 use Rattle.c_syntax.proofs.Steps.{stands_kept, begun_stands, opened_stands}
 use Rattle.c_syntax.proofs.opening.open_if.Goals as goal

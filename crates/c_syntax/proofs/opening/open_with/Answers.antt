@@ -11,11 +11,11 @@ use Rattle.expr_nodes.proofs.AheadLemmas.{ahead_tail}
 use Rattle.expr_nodes.specs.Ahead.{ahead}
 use Rattle.pcal_tree.specs.GrammarParts.{Binds}
 use Rattle.pcal_tree.specs.OpenForms.{after_binds}
-use Rattle.algorithm_reader.specs.TokenReaders.{first, a_mark}
-use Rattle.algorithm_reader.specs.ReadParts.{read_binds}
+use Rattle.syntax_reading.specs.TokenReaders.{first, a_mark}
+use Rattle.syntax_reading.specs.ReadParts.{read_binds}
 use Rattle.algorithm_reader.specs.PartsRead.{parts_in}
 use Rattle.algorithm_reader.proofs.StatementSteps.{goes_on}
-use Rattle.c_syntax.specs.ReadStatements.{Stack, Turn, opens, bracketed, in_body, with_opening, depth}
+use Rattle.c_reading.specs.ReadStatements.{Stack, Turn, opens, bracketed, in_body, with_opening, depth}
 use Rattle.c_syntax.specs.declared.open.Frame.TheVariants as frame
 use Rattle.c_syntax.proofs.Steps.{fails_on, stands_kept, begun_stands, opened_stands}
 use Rattle.c_syntax.proofs.opening.open_with.Goals as goal

@@ -8,10 +8,10 @@ use Rattle.pcal_tree.specs.GrammarC.{simple, labelled}
 use Rattle.algorithm_reader.specs.PartsRead.{parts_in}
 use Rattle.algorithm_reader.specs.SimpleRead.{simple_reader}
 use Rattle.algorithm_reader.proofs.Between.{ahead_length}
-use Rattle.algorithm_reader.proofs.Lengths.{grow_simple}
-use Rattle.algorithm_reader.proofs.WithinParts.{limited_sound}
+use Rattle.syntax_reading.proofs.Lengths.{grow_simple}
+use Rattle.syntax_reading.proofs.WithinParts.{limited_sound}
 use Rattle.algorithm_reader.proofs.StatementSteps.{goes_on}
-use Rattle.c_syntax.specs.ReadStatements.{ended, on}
+use Rattle.c_reading.specs.ReadStatements.{ended, on}
 use Rattle.c_syntax.proofs.Steps.{stands_kept, simple_between, simple_stands}
 use Rattle.c_syntax.proofs.opening.read_alone.Goals as goal
 

@@ -3,12 +3,12 @@ use Rattle.std.proofs.Common.{Some}
 use Rattle.tla_token.specs.TokensSeen.{tokens_seen}
 use Rattle.pcal_tree.specs.AlgorithmTokens.{views}
 use Rattle.pcal_tree.specs.Grammar.{c_syntax}
-use Rattle.algorithm_limits.proofs.AnswerRules.{late_is_read}
-use Rattle.algorithm_reader.proofs.CompletedOf.{completed_there}
+use Rattle.algorithm_answer.proofs.AnswerRules.{late_is_read}
+use Rattle.syntax_reading.proofs.CompletedOf.{completed_there}
 use Rattle.algorithm_reader.proofs.Answered.{answers, below, past_there, spelled_there, answered_there}
-use Rattle.c_syntax.specs.ReadAlgorithm.{read_algorithm, read_limited_algorithm}
-use Rattle.c_syntax.proofs.Stops.{reads_all}
-use Rattle.c_syntax.proofs.StopsWithin.{reads_within}
+use Rattle.c_reading.specs.ReadAlgorithm.{read_algorithm, read_limited_algorithm}
+use Rattle.c_reading.proofs.Stops.{reads_all}
+use Rattle.c_reading.proofs.StopsWithin.{reads_within}
 use Rattle.c_syntax.proofs.read.read_c.Goals as goal
 
 pub answered-requires : goal.answered-requires

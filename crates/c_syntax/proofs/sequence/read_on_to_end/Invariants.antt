@@ -3,7 +3,7 @@ use Rattle.std.proofs.Common.{ℕ, ◌≤◌, ◌-◌, length}
 use Rattle.tla_tree.specs.Pool.{Keeps}
 use Rattle.expr_nodes.specs.Ahead.{ahead}
 use Rattle.algorithm_reader.specs.PartsRead.{parts_in, Enough}
-use Rattle.c_syntax.specs.ReadStatements as reader
+use Rattle.c_reading.specs.ReadStatements as reader
 use Rattle.c_syntax.specs.StatesRead.{StateStands}
 use Rattle.c_syntax.proofs.Sequences.{RunsOn}
 use Rattle.c_syntax.proofs.sequence.read_on_to_end.Given as goal

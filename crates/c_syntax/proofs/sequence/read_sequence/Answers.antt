@@ -4,7 +4,7 @@ use Rattle.std.proofs.lemmas.Result.{err_from_is_err_and}
 use Rattle.pcal_tree.specs.GrammarParts.{no_labels}
 use Rattle.pcal_tree.specs.GrammarC.{statements}
 use Rattle.algorithm_reader.specs.PartsRead.{ReadsPart}
-use Rattle.c_syntax.specs.ReadStatements.{none, bottom}
+use Rattle.c_reading.specs.ReadStatements.{none, bottom}
 use Rattle.c_syntax.specs.StatesRead.{list_at, past_list}
 use Rattle.c_syntax.proofs.Sequences.{begins_there, goes_first, fails_first}
 use Rattle.c_syntax.proofs.sequence.read_sequence.Goals as goal

@@ -1,7 +1,7 @@
 -- Proves what is asked of `read_step`.
 use Rattle.expr_nodes.specs.Ahead.{ahead}
 use Rattle.algorithm_reader.specs.PartsRead.{parts_in}
-use Rattle.c_syntax.specs.ReadStatements as reader
+use Rattle.c_reading.specs.ReadStatements as reader
 use Rattle.c_syntax.specs.AfterRead.{TurnsTo}
 use Rattle.c_syntax.proofs.AfterStatement.{begins_is, ended_is}
 use Rattle.c_syntax.proofs.sequence.read_step.Goals as goal

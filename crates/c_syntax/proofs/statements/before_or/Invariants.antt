@@ -1,7 +1,7 @@
 -- What the loop keeps: what is left tells the same.
 use Rattle.std.proofs.Common.{List, length}
 use Rattle.tla_tree.specs.Tree.{Tree}
-use Rattle.c_syntax.specs.ReadStatements.{Stack}
+use Rattle.c_reading.specs.ReadStatements.{Stack}
 use Rattle.c_syntax.specs.StatesRead.{StackStands}
 use Rattle.c_syntax.proofs.OrAfter.{Left}
 use Rattle.c_syntax.proofs.statements.before_or.Given as goal

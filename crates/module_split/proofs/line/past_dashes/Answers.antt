@@ -1,4 +1,4 @@
-use Rattle.module_split.proofs.LineLengths.{dashed}
+use Rattle.module_tree.proofs.LineLengths.{dashed}
 use Rattle.module_split.proofs.line.past_dashes.Goals as goal
 
 pub returns : goal.returns

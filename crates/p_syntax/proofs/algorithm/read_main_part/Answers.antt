@@ -3,7 +3,7 @@ use Rattle.std.proofs.Common.{subst, arith}
 use Rattle.expr_nodes.specs.Ahead.{ahead}
 use Rattle.pcal_tree.specs.InMemory.{main_at, past_main}
 use Rattle.pcal_tree.specs.Grammar.{main_tree}
-use Rattle.algorithm_reader.specs.TokenReaders.{first}
+use Rattle.syntax_reading.specs.TokenReaders.{first}
 use Rattle.algorithm_reader.specs.PartsRead.{ReadsPart, parts_in}
 use Rattle.p_syntax.proofs.MainParts.{main_is_list, main_is_processes}
 use Rattle.p_syntax.proofs.algorithm.read_main_part.Goals as goal

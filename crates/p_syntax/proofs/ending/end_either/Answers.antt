@@ -4,8 +4,8 @@ use Rattle.tla_tree.specs.Reader.{◌>>=◌, gives}
 use Rattle.expr_nodes.proofs.AheadLemmas.{ahead_tail}
 use Rattle.expr_nodes.specs.Ahead.{ahead}
 use Rattle.pcal_tree.specs.GrammarP.{last_branch}
-use Rattle.algorithm_reader.specs.TokenReaders.{a_key}
-use Rattle.p_syntax.specs.ReadStatements.{closed_either, on, ended}
+use Rattle.syntax_reading.specs.TokenReaders.{a_key}
+use Rattle.p_reading.specs.ReadStatements.{closed_either, on, ended}
 use Rattle.algorithm_reader.proofs.StatementSteps.{goes_on}
 use Rattle.p_syntax.proofs.Closed.{ended_stands, either_stands}
 use Rattle.p_syntax.proofs.ending.end_either.Goals as goal

@@ -9,8 +9,8 @@ use Rattle.tla_token.specs.declared.token.Tokens.{Tokens}
 use Rattle.std.specs.Prelude.{Result}
 use Rattle.pcal_tree.specs.InMemory.{statements_at, past_statements}
 use Rattle.pcal_tree.specs.GrammarP.{no_else, else_then}
-use Rattle.algorithm_reader.specs.TokenReaders.{first}
-use Rattle.p_syntax.specs.ReadStatements as reader
+use Rattle.syntax_reading.specs.TokenReaders.{first}
+use Rattle.p_reading.specs.ReadStatements as reader
 use Rattle.p_syntax.specs.declared.open.State.{State}
 use Rattle.p_syntax.specs.declared.open.Turn.TheVariants as turn
 use Rattle.p_syntax.specs.declared.open.Frame.{Frame}

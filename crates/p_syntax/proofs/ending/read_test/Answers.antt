@@ -2,7 +2,7 @@
 use Rattle.std.proofs.Common.{refl, sym, ap, ◌∙◌, codes}
 use Rattle.tla_tree.specs.Reader.{◌>>=◌, gives}
 use Rattle.expr_nodes.specs.Ahead.{ahead}
-use Rattle.algorithm_reader.specs.TokenReaders.{a_key}
+use Rattle.syntax_reading.specs.TokenReaders.{a_key}
 use Rattle.algorithm_reader.specs.PartsRead.{parts_in}
 use Rattle.algorithm_reader.proofs.StatementSteps.{goes_on, fits_within}
 use Rattle.p_syntax.proofs.ending.read_test.Goals as goal

@@ -1,7 +1,7 @@
 -- Proves what is asked of `take_else`.
 use Rattle.std.proofs.Common.{◌++◌, ◌∷◌, [], ap, ◌∙◌}
 use Rattle.expr_nodes.specs.Ahead.{ahead}
-use Rattle.algorithm_reader.specs.TokenReaders.{first}
+use Rattle.syntax_reading.specs.TokenReaders.{first}
 use Rattle.algorithm_reader.proofs.Gathered.{refused_as}
 use Rattle.p_syntax.specs.declared.open.Frame.{Frame}
 use Rattle.p_syntax.specs.declared.open.Frame.TheVariants as frame

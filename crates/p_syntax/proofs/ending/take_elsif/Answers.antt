@@ -5,10 +5,10 @@ use Rattle.tla_token.specs.declared.place.Place.{Place}
 use Rattle.tla_tree.specs.Lexical.{Token}
 use Rattle.expr_nodes.specs.ReadIn.{Reads}
 use Rattle.expr_nodes.specs.Ahead.{ahead}
-use Rattle.algorithm_reader.specs.TokenReaders.{first}
+use Rattle.syntax_reading.specs.TokenReaders.{first}
 use Rattle.algorithm_reader.specs.PartsRead.{parts_in}
 use Rattle.algorithm_reader.proofs.Gathered.{refused_as}
-use Rattle.p_syntax.specs.ReadStatements.{takes_elsif}
+use Rattle.p_reading.specs.ReadStatements.{takes_elsif}
 use Rattle.p_syntax.specs.declared.open.Frame.{Frame}
 use Rattle.p_syntax.specs.declared.open.Frame.TheVariants as frame
 use Rattle.p_syntax.proofs.Grows.{stack_grows, whole_grows}

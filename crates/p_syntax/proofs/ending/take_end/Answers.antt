@@ -2,8 +2,8 @@
 use Rattle.std.proofs.Common.{sym, subst}
 use Rattle.expr_nodes.specs.ReadIn.{Reads}
 use Rattle.expr_nodes.specs.Ahead.{ahead}
-use Rattle.algorithm_reader.specs.TokenReaders.{first}
-use Rattle.p_syntax.specs.ReadStatements.{Stack, takes_end}
+use Rattle.syntax_reading.specs.TokenReaders.{first}
+use Rattle.p_reading.specs.ReadStatements.{Stack, takes_end}
 use Rattle.p_syntax.proofs.Closed.{innermost_stands}
 use Rattle.p_syntax.proofs.Endings.{On}
 use Rattle.p_syntax.proofs.ending.take_end.Goals as goal

@@ -5,8 +5,8 @@ use Rattle.tla_tree.specs.Lexical.{Token}
 use Rattle.tla_tree.specs.Reader.{gives}
 use Rattle.expr_nodes.proofs.AheadLemmas.{ahead_tail}
 use Rattle.expr_nodes.specs.Ahead.{ahead}
-use Rattle.algorithm_reader.specs.TokenReaders.{first}
-use Rattle.p_syntax.specs.ReadStatements.{Turn, opens, in_either, first_arm, depth}
+use Rattle.syntax_reading.specs.TokenReaders.{first}
+use Rattle.p_reading.specs.ReadStatements.{Turn, opens, in_either, first_arm, depth}
 use Rattle.algorithm_reader.proofs.StatementSteps.{fits_within}
 use Rattle.p_syntax.proofs.Steps.{opened_stands, first_branch_stands}
 use Rattle.p_syntax.proofs.opening.open_either.Goals as goal

@@ -4,9 +4,9 @@ use Rattle.tla_token.specs.Limits.{deepest_statement}
 use Rattle.tla_tree.specs.Lexical.{Token}
 use Rattle.tla_tree.specs.Reader.{◌>>=◌, gives}
 use Rattle.expr_nodes.specs.Ahead.{ahead}
-use Rattle.algorithm_reader.specs.TokenReaders.{first, a_key}
+use Rattle.syntax_reading.specs.TokenReaders.{first, a_key}
 use Rattle.algorithm_reader.specs.PartsRead.{parts_in}
-use Rattle.p_syntax.specs.ReadStatements.{opens, in_while, depth}
+use Rattle.p_reading.specs.ReadStatements.{opens, in_while, depth}
 use Rattle.p_syntax.proofs.Grows.{stands_grow}
 use Rattle.algorithm_reader.proofs.StatementSteps.{goes_on, fits_within}
 use Rattle.p_syntax.proofs.Steps.{opened_stands}

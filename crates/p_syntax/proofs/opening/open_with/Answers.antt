@@ -11,10 +11,10 @@ use Rattle.algorithm_reader.proofs.Gathered.{fails_then}
 use Rattle.std.proofs.lemmas.Result.{err_from_is_err_and}
 use Rattle.expr_nodes.proofs.AheadLemmas.{ahead_tail}
 use Rattle.expr_nodes.specs.Ahead.{ahead}
-use Rattle.algorithm_reader.specs.TokenReaders.{first, a_key}
-use Rattle.algorithm_reader.specs.ReadParts.{read_binds}
+use Rattle.syntax_reading.specs.TokenReaders.{first, a_key}
+use Rattle.syntax_reading.specs.ReadParts.{read_binds}
 use Rattle.algorithm_reader.specs.PartsRead.{parts_in}
-use Rattle.p_syntax.specs.ReadStatements.{Turn, opens, in_with, depth}
+use Rattle.p_reading.specs.ReadStatements.{Turn, opens, in_with, depth}
 use Rattle.p_syntax.proofs.Grows.{stands_grow}
 use Rattle.algorithm_reader.proofs.StatementSteps.{goes_on}
 use Rattle.p_syntax.proofs.Steps.{opened_stands}

@@ -4,8 +4,8 @@ use Rattle.tla_tree.specs.Reader.{gives}
 use Rattle.expr_nodes.specs.Ahead.{ahead}
 use Rattle.pcal_tree.specs.GrammarP.{simple}
 use Rattle.algorithm_reader.specs.PartsRead.{parts_in}
-use Rattle.algorithm_reader.proofs.WithinParts.{limited_sound}
-use Rattle.p_syntax.specs.ReadStatements.{ended, on}
+use Rattle.syntax_reading.proofs.WithinParts.{limited_sound}
+use Rattle.p_reading.specs.ReadStatements.{ended, on}
 use Rattle.algorithm_reader.specs.SimpleRead.{simple_reader}
 use Rattle.p_syntax.proofs.Grows.{stands_grow}
 use Rattle.p_syntax.proofs.SimpleSound.{simple_between, simple_further}

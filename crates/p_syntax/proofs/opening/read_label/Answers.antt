@@ -2,10 +2,10 @@
 use Rattle.std.proofs.Common.{refl}
 use Rattle.tla_tree.specs.Reader.{◌>>=◌, gives}
 use Rattle.expr_nodes.specs.Ahead.{ahead}
-use Rattle.algorithm_reader.specs.TokenReaders.{a_name}
-use Rattle.algorithm_reader.specs.ReadParts.{read_colon}
-use Rattle.algorithm_reader.specs.ReadAround.{with_label}
-use Rattle.p_syntax.specs.ReadStatements.{begin, on}
+use Rattle.syntax_reading.specs.TokenReaders.{a_name}
+use Rattle.syntax_reading.specs.ReadParts.{read_colon}
+use Rattle.syntax_reading.specs.ReadAround.{with_label}
+use Rattle.p_reading.specs.ReadStatements.{begin, on}
 use Rattle.algorithm_reader.proofs.StatementSteps.{goes_on}
 use Rattle.p_syntax.proofs.Steps.{label_stands}
 use Rattle.p_syntax.proofs.opening.read_label.Goals as goal

@@ -3,12 +3,12 @@ use Rattle.std.proofs.Common.{Some}
 use Rattle.tla_token.specs.TokensSeen.{tokens_seen}
 use Rattle.pcal_tree.specs.AlgorithmTokens.{views}
 use Rattle.pcal_tree.specs.Grammar.{p_syntax}
-use Rattle.algorithm_limits.proofs.AnswerRules.{late_is_read}
-use Rattle.algorithm_reader.proofs.CompletedOf.{completed_there}
+use Rattle.algorithm_answer.proofs.AnswerRules.{late_is_read}
+use Rattle.syntax_reading.proofs.CompletedOf.{completed_there}
 use Rattle.algorithm_reader.proofs.Answered.{answers, below, past_there, spelled_there, answered_there}
-use Rattle.p_syntax.specs.ReadAlgorithm.{read_algorithm, read_limited_algorithm}
-use Rattle.p_syntax.proofs.Stops.{reads_all}
-use Rattle.p_syntax.proofs.StopsWithin.{reads_within}
+use Rattle.p_reading.specs.ReadAlgorithm.{read_algorithm, read_limited_algorithm}
+use Rattle.p_reading.proofs.Stops.{reads_all}
+use Rattle.p_reading.proofs.StopsWithin.{reads_within}
 use Rattle.p_syntax.proofs.read.read_p.Goals as goal
 
 pub answered-requires : goal.answered-requires

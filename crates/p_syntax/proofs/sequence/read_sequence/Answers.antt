@@ -4,7 +4,7 @@ use Rattle.std.proofs.lemmas.Result.{err_from_is_err_and}
 use Rattle.pcal_tree.specs.GrammarParts.{no_labels}
 use Rattle.pcal_tree.specs.GrammarP.{statements}
 use Rattle.algorithm_reader.specs.PartsRead.{ReadsPart}
-use Rattle.p_syntax.specs.ReadStatements.{none, bottom}
+use Rattle.p_reading.specs.ReadStatements.{none, bottom}
 use Rattle.p_syntax.specs.StatesRead.{list_at, past_list}
 use Rattle.p_syntax.proofs.Sequences.{starts, goes_on, fails_there}
 use Rattle.p_syntax.proofs.sequence.read_sequence.Goals as goal

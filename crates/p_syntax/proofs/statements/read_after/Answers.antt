@@ -9,8 +9,8 @@ use Rattle.expr_nodes.specs.ReadIn.{Told}
 use Rattle.expr_nodes.specs.Ahead.{ahead}
 use Rattle.pcal_tree.specs.GrammarP.{last_statement}
 use Rattle.algorithm_reader.specs.PartsRead.{parts_in}
-use Rattle.p_syntax.specs.ReadStatements as reader
-use Rattle.p_syntax.specs.ReadStatements.{with_before}
+use Rattle.p_reading.specs.ReadStatements as reader
+use Rattle.p_reading.specs.ReadStatements.{with_before}
 use Rattle.p_syntax.specs.declared.open.Turn.{Turn}
 use Rattle.p_syntax.specs.StatesRead.{TurnStands}
 use Rattle.p_syntax.proofs.NextStatement.{word_is_there}

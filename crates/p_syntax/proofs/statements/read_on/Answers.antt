@@ -8,7 +8,7 @@ use Rattle.expr_nodes.specs.ReadIn.{Told}
 use Rattle.expr_nodes.specs.Ahead.{ahead}
 use Rattle.pcal_tree.specs.GrammarP.{last_statement}
 use Rattle.algorithm_reader.specs.PartsRead.{parts_in}
-use Rattle.p_syntax.specs.ReadStatements.{Turn, with_before}
+use Rattle.p_reading.specs.ReadStatements.{Turn, with_before}
 use Rattle.p_syntax.specs.declared.open.State.{State}
 use Rattle.p_syntax.specs.declared.open.Turn.TheVariants as turn
 use Rattle.p_syntax.specs.StatesRead.{TurnStands}

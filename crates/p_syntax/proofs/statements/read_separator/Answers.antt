@@ -3,10 +3,10 @@ use Rattle.std.proofs.Common.{List, Some, Ok, refl, sym, ap, ◌∙◌}
 use Rattle.tla_tree.specs.Lexical as tk
 use Rattle.tla_tree.specs.Lexical.{Token}
 use Rattle.expr_nodes.specs.Ahead.{ahead}
-use Rattle.algorithm_reader.specs.TokenReaders.{first}
+use Rattle.syntax_reading.specs.TokenReaders.{first}
 use Rattle.algorithm_reader.specs.PartsRead.{parts_in}
 use Rattle.algorithm_reader.proofs.Gathered.{refused_as}
-use Rattle.p_syntax.specs.ReadStatements.{Turn, on, ended}
+use Rattle.p_reading.specs.ReadStatements.{Turn, on, ended}
 use Rattle.p_syntax.proofs.AfterStatement.{separator_there, no_separator_there, mark_is_passed}
 use Rattle.p_syntax.proofs.statements.read_separator.Goals as goal
 

@@ -4,7 +4,7 @@ use Rattle.std.proofs.lemmas.Result.{err_from_is_err_and}
 use Rattle.expr_nodes.specs.ReadIn.{Told, Reads, Fails}
 use Rattle.expr_nodes.specs.Ahead.{ahead}
 use Rattle.algorithm_reader.specs.PartsRead.{parts_in}
-use Rattle.p_syntax.specs.ReadStatements as reader
+use Rattle.p_reading.specs.ReadStatements as reader
 use Rattle.p_syntax.specs.declared.open.Turn.{Turn}
 use Rattle.p_syntax.specs.declared.open.Turn.TheVariants as turn
 use Rattle.p_syntax.specs.StatesRead.{TurnStands}

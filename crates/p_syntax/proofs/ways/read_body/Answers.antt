@@ -6,7 +6,7 @@ use Rattle.expr_nodes.specs.Ahead.{ahead}
 use Rattle.algorithm_reader.specs.PartsRead.{parts_in}
 use Rattle.algorithm_reader.proofs.Gathered.{fails_then}
 use Rattle.pcal_tree.specs.Grammar.{begin_end}
-use Rattle.p_syntax.proofs.Bodies.{behind_list, behind_end, behind_word, body_at_list, body_at_end, body_at_word, body_whole}
+use Rattle.p_reading.proofs.Bodies.{behind_list, behind_end, behind_word, body_at_list, body_at_end, body_at_word, body_whole}
 use Rattle.p_syntax.proofs.ways.read_body.Goals as goal
 
 pub returns-clause-read : goal.returns-clause-read

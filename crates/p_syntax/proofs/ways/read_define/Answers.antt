@@ -5,7 +5,7 @@ use Rattle.expr_nodes.specs.ReadIn.{Fails}
 use Rattle.algorithm_reader.specs.PartsRead.{parts_in}
 use Rattle.algorithm_reader.proofs.Gathered.{fails_then}
 use Rattle.pcal_tree.specs.Grammar.{define_end}
-use Rattle.p_syntax.proofs.Bodies.{behind_definitions, behind_its_end, behind_define, define_at_end, define_at_word, define_whole}
+use Rattle.p_reading.proofs.Bodies.{behind_definitions, behind_its_end, behind_define, define_at_end, define_at_word, define_whole}
 use Rattle.p_syntax.proofs.ways.read_define.Goals as goal
 
 pub returns-clause-read : goal.returns-clause-read

@@ -3,8 +3,8 @@ use Rattle.std.proofs.Common.{refl, arith}
 use Rattle.tla_tree.specs.Reader.{◌>>=◌, gives}
 use Rattle.pcal_tree.specs.Grammar.{bare}
 use Rattle.expr_nodes.specs.Ahead.{ahead}
-use Rattle.algorithm_reader.specs.TokenReaders.{past, a_name}
-use Rattle.algorithm_reader.specs.ReadParts.{bind_by}
+use Rattle.syntax_reading.specs.TokenReaders.{past, a_name}
+use Rattle.syntax_reading.specs.ReadParts.{bind_by}
 use Rattle.algorithm_reader.specs.PartsRead.{parts_in}
 use Rattle.algorithm_reader.proofs.StatementSteps.{goes_on}
 use Rattle.p_syntax.proofs.ways.read_identity.Goals as goal

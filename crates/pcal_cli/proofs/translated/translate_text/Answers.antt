@@ -2,7 +2,7 @@
 use Rattle.std.proofs.Common.{ap, Err}
 use Rattle.tla_token.specs.declared.rule.Stop.{Stop}
 use Rattle.pcal_tree.specs.InMemory.{algorithm_at}
-use Rattle.rewriting.proofs.Unrefused.{unrefused_is_fine}
+use Rattle.file_answer.proofs.Unrefused.{unrefused_is_fine}
 use Rattle.pcal_cli.specs.FormSeen.{parts_of}
 use Rattle.pcal_cli.proofs.Translating.{formed, split_stopped, read_stopped, memory_stopped, unformed_there, translated_there, written_there}
 use Rattle.pcal_cli.proofs.translated.translate_text.Goals as goal

@@ -3,9 +3,9 @@ use Rattle.std.proofs.Common.{ap, subst, None, Err}
 use Rattle.tla_token.specs.declared.rule.Stop.{Stop}
 use Rattle.pcal_tree.specs.Syntaxes.{syntax_of}
 use Rattle.module_tree.specs.TextFront.{Text}
-use Rattle.syntax_print.specs.Rewritten.{Rewritten}
-use Rattle.rewriting.specs.Spelling.{AnswersRewriting}
-use Rattle.rewriting.proofs.Changed.{rewrites_it}
+use Rattle.printed_text.specs.Rewritten.{Rewritten}
+use Rattle.file_answer.specs.Spelling.{AnswersRewriting}
+use Rattle.file_answer.proofs.Changed.{rewrites_it}
 use Rattle.rewriting.proofs.FileRead.{split_stop}
 use Rattle.rewriting.proofs.read_file.rewrite_text.Goals as goal
 

@@ -6,7 +6,7 @@ use Rattle.pcal_tree.specs.InMemory.{algorithm_at}
 use Rattle.module_tree.specs.TextFront.{Text}
 use Rattle.module_tree.specs.AlgorithmText.{AlgorithmText}
 use Rattle.pcal_tree.specs.Syntaxes.{syntax_of}
-use Rattle.syntax_print.specs.Rewritten.{gap}
+use Rattle.printed_text.specs.Rewritten.{gap}
 use Rattle.rewriting.proofs.write_file.rewritten.Goals as goal
 
 -- what was appended, one after the other

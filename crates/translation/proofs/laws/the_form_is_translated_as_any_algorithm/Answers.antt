@@ -12,7 +12,7 @@ use Rattle.first_path.proofs.OutsideApart.{Apart}
 use Rattle.first_path.proofs.Placing.{around}
 use Rattle.first_path.proofs.ReadsModule.{apart_read}
 use Rattle.first_path.proofs.TreeForms.{form_stands}
-use Rattle.rewriting.proofs.OneTree.{one_stands}
+use Rattle.file_answer.proofs.OneTree.{one_stands}
 use Rattle.translation.specs.Region.{written_module}
 use Rattle.translation.proofs.OfForm.{nowhere_at_all, written_of_form}
 use Rattle.translation.proofs.laws.the_form_is_translated_as_any_algorithm.Goals as goal

@@ -1,0 +1,4 @@
+pub mod Joins
+pub mod PlacedTokens
+pub mod AnswerRules
+pub mod LeftOutFirst

@@ -1,6 +1,0 @@
--- Proves the law.
-use Rattle.algorithm_limits.proofs.AnswerRules.{answered_by_spelling}
-use Rattle.algorithm_limits.proofs.laws.tokens_are_answered_by_spelling.Goals as goal
-
-pub returns : goal.returns
-returns c = answered_by_spelling

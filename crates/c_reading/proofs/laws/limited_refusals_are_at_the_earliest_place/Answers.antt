@@ -1,0 +1,12 @@
+-- Proves the law `limited_refusals_are_at_the_earliest_place`.
+use Rattle.pcal_tree.specs.Grammar.{c_syntax}
+use Rattle.syntax_reading.proofs.StopsWithin.{refused_through, refused_passes}
+use Rattle.c_reading.specs.ReadAlgorithm.{read_algorithm, read_limited_algorithm}
+use Rattle.c_reading.proofs.StopsWithin.{reads_within}
+use Rattle.c_reading.proofs.laws.limited_refusals_are_at_the_earliest_place.Goals as goal
+
+pub returns-clause-through : goal.returns-clause-through
+returns-clause-through c = refused_through c_syntax read_algorithm read_limited_algorithm reads_within
+
+pub returns-clause-passed : goal.returns-clause-passed
+returns-clause-passed c = refused_passes c_syntax read_algorithm read_limited_algorithm reads_within

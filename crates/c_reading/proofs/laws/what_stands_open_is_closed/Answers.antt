@@ -1,0 +1,13 @@
+-- Proves the law `what_stands_open_is_closed`.
+use Rattle.c_reading.proofs.Closing.{closed_by_rest, few_rest}
+use Rattle.c_reading.proofs.Apart.{stays_apart}
+use Rattle.c_reading.proofs.laws.what_stands_open_is_closed.Goals as goal
+
+pub returns-clause-closed : goal.returns-clause-closed
+returns-clause-closed c = closed_by_rest
+
+pub returns-clause-few : goal.returns-clause-few
+returns-clause-few c = few_rest
+
+pub returns-clause-apart : goal.returns-clause-apart
+returns-clause-apart c = stays_apart

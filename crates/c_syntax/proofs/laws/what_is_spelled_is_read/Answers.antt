@@ -1,6 +1,0 @@
--- Proves the law `what_is_spelled_is_read`.
-use Rattle.c_syntax.proofs.WholeAlgorithm.{spelled_is_read}
-use Rattle.c_syntax.proofs.laws.what_is_spelled_is_read.Goals as goal
-
-pub returns : goal.returns
-returns c = spelled_is_read

@@ -1,0 +1,4 @@
+pub mod Refusals
+pub mod Spelling
+pub mod Holds
+pub mod laws

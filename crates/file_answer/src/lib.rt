@@ -1,0 +1,5 @@
+//! What a rewriting of a file is answered, the one algorithm that a text has, and the laws of both.
+#![tactic(auto)]
+
+pub mod laws;
+pub mod one_tree;

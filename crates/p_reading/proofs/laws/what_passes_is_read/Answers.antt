@@ -1,0 +1,12 @@
+-- Proves the law `what_passes_is_read`.
+use Rattle.pcal_tree.specs.Grammar.{p_syntax}
+use Rattle.syntax_reading.proofs.StopsOf.{read_passes, passed_is_read}
+use Rattle.p_reading.specs.ReadAlgorithm.{read_algorithm}
+use Rattle.p_reading.proofs.Stops.{reads_all}
+use Rattle.p_reading.proofs.laws.what_passes_is_read.Goals as goal
+
+pub returns-clause-read : goal.returns-clause-read
+returns-clause-read c = read_passes p_syntax read_algorithm reads_all
+
+pub returns-clause-passes : goal.returns-clause-passes
+returns-clause-passes c = passed_is_read p_syntax read_algorithm reads_all

@@ -1,0 +1,4 @@
+//! Reading algorithms in P-syntax, as functions of tokens, and the laws of it.
+#![tactic(auto)]
+
+pub mod laws;

@@ -1,9 +1,0 @@
--- Proves the law `nothing_passes_where_reading_stops`.
-use Rattle.p_syntax.proofs.FairAlgorithm.{none_through, unspelled}
-use Rattle.p_syntax.proofs.laws.nothing_passes_where_reading_stops.Goals as goal
-
-pub returns-clause-refused : goal.returns-clause-refused
-returns-clause-refused c = none_through
-
-pub returns-clause-unspelled : goal.returns-clause-unspelled
-returns-clause-unspelled c = unspelled

@@ -1,6 +1,0 @@
--- Proves the law `what_is_read_is_spelled`.
-use Rattle.p_syntax.proofs.SoundAlgorithm.{read_is_spelled}
-use Rattle.p_syntax.proofs.laws.what_is_read_is_spelled.Goals as goal
-
-pub returns : goal.returns
-returns c = read_is_spelled

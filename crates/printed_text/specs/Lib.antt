@@ -1,0 +1,3 @@
+pub mod Rewritten
+pub mod Rewrites
+pub mod laws

@@ -1,6 +1,0 @@
--- Proves the law `files_that_are_not_refused_are_rewritten`.
-use Rattle.rewriting.proofs.Changed.{is_rewritten}
-use Rattle.rewriting.proofs.laws.files_that_are_not_refused_are_rewritten.Goals as goal
-
-pub returns : goal.returns
-returns c = is_rewritten

@@ -1,6 +1,0 @@
--- Proves the law `the_algorithm_decides`.
-use Rattle.rewriting.proofs.Decided.{algorithm_decides}
-use Rattle.rewriting.proofs.laws.the_algorithm_decides.Goals as goal
-
-pub returns : goal.returns
-returns c = algorithm_decides

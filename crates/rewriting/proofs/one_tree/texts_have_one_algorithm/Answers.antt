@@ -1,9 +1,0 @@
--- Proves the law `texts_have_one_algorithm`.
-use Rattle.rewriting.proofs.OneTree.{one_held, one_stands}
-use Rattle.rewriting.proofs.one_tree.texts_have_one_algorithm.Goals as goal
-
-pub returns-clause-held : goal.returns-clause-held
-returns-clause-held c = one_held
-
-pub returns-clause-stands : goal.returns-clause-stands
-returns-clause-stands c = one_stands

@@ -1,9 +1,0 @@
--- Proves the law `rewritten_files_break_few_rules`.
-use Rattle.syntax_print.proofs.Rewritten.{breaks_few, fine_without}
-use Rattle.syntax_print.proofs.laws.rewritten_files_break_few_rules.Goals as goal
-
-pub returns-clause-few : goal.returns-clause-few
-returns-clause-few c = breaks_few
-
-pub returns-clause-fine : goal.returns-clause-fine
-returns-clause-fine c = fine_without

@@ -1,6 +1,0 @@
--- Proves the law `spelled_algorithms_can_be_printed`.
-use Rattle.syntax_print.proofs.FitAlgorithm.{spelled_printable}
-use Rattle.syntax_print.proofs.laws.spelled_algorithms_can_be_printed.Goals as goal
-
-pub returns : goal.returns
-returns c = spelled_printable

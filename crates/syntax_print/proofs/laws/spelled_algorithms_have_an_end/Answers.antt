@@ -1,6 +1,0 @@
--- Proves the law `spelled_algorithms_have_an_end`.
-use Rattle.syntax_print.proofs.EndFound.{spelled_end}
-use Rattle.syntax_print.proofs.laws.spelled_algorithms_have_an_end.Goals as goal
-
-pub returns : goal.returns
-returns c = spelled_end

@@ -1,6 +1,0 @@
--- Proves the law `spelled_tokens_are_refused_for_depth_alone`.
-use Rattle.syntax_print.proofs.Rewritten.{too_deep}
-use Rattle.syntax_print.proofs.laws.spelled_tokens_are_refused_for_depth_alone.Goals as goal
-
-pub returns : goal.returns
-returns c = too_deep
