@@ -1,4 +1,4 @@
-//! Rewriting a file's algorithm in the other syntax: what a rewriting is answered, and the file that it gives.
+//! Rewriting a file's algorithm in the other syntax: the algorithm read of its file, and the file that a rewriting gives.
 #![tactic(auto)]
 
 pub mod read_file;
