@@ -211,7 +211,8 @@ impl Sink for MemSink {
     ghost faults = { λ s. (writes s).failed };
 
     fn write(&mut self, piece: &[u8]) -> Result<usize, Failed>
-        ensures some { IfOk result (λ n. 0 < length piece.now → 0 < n) }
+        requires { 0 < length piece.now }
+        ensures some { IfOk result (λ n. 0 < n) }
         ensures within { IfOk result (λ n. n ≤ length piece.now) }
         ensures grows { IfOk result (λ n. Grows (taken_of self.old) (taken_of self.new) (take n piece.now)) }
         ensures none_taken { OnErr result (taken_of self.new ≡ taken_of self.old) }
@@ -222,8 +223,8 @@ impl Sink for MemSink {
 
         // So far the trait's clauses. These say which calls fail.
         ensures fails { IsTrue (next_fails (writes self.old)) → IsErr result }
-        ensures full { 0 < length piece.now → room_left self.old ≡ 0 → IsErr result }
-        ensures ok { IsFalse (next_fails (writes self.old)) → (0 < length piece.now → 0 < room_left self.old) → IsOk result }
+        ensures full { room_left self.old ≡ 0 → IsErr result }
+        ensures ok { IsFalse (next_fails (writes self.old)) → 0 < room_left self.old → IsOk result }
         ensures call { AddsCall (writes self.old) (writes self.new) }
         ensures few { IfOk result (λ n. n ≤ most_taken self.old) }
         ensures most_stays { most_taken self.new ≡ most_taken self.old }
@@ -233,7 +234,7 @@ impl Sink for MemSink {
         let fails = self.calls.begins_failing();
         let left = self.room - self.bytes.len();
         let n = piece.len().min(self.most).min(left);
-        if fails || (n == 0 && !piece.is_empty()) {
+        if fails || n == 0 {
             return Err(self.calls.fail());
         }
         self.bytes.extend_from_slice(&piece[..n]).unwrap();

@@ -82,13 +82,15 @@ pub fn load<H: Shelf>(
     ensures short { IfOk result (λ v. length v.items ≤ most) }
     ensures given { IfOk result (λ v. RoseBy (length v.items) (H.given shelf.old) (H.given shelf.new)) }
 
-    // When each error comes; `Memory` may come at any time.
+    // When each error comes; `Memory` may come at any time, but not of a text that turned out too long.
     ensures failed { IsErrOf result LoadFault.Failed → RoseBy 1 (H.faults shelf.old) (H.faults shelf.new)
         ⊎ HasNoText (H.texts shelf.old) name.now }
     ensures lacking { HasNoText (H.texts shelf.old) name.now → IsErrOf result LoadFault.Failed }
     ensures too_long { IsErrOf result LoadFault.TooLong → RoseAbove most (H.given shelf.old) (H.given shelf.new) }
     ensures longer { IsErrOf result LoadFault.TooLong
         → Tells (H.texts shelf.old) name.now (λ text. most < length text) }
+
+    ensures within { IsErrOf result LoadFault.TooLong ⊎ (H.given shelf.new ≤ H.given shelf.old + most) }
 
     // What was handed out, whatever the answer: no byte twice, and no piece after the first that is too much.
     ensures read_once { Tells (H.texts shelf.old) name.now (λ text. H.given shelf.new ≤ H.given shelf.old + length text) }

@@ -12,10 +12,10 @@ pub trait Sink {
     /// How many calls failed, a count of 64 bits.
     ghost faults: { Self → ℕ };
 
-    /// Takes the first bytes of `piece`, and returns how many it took: at least one, where `piece` isn't empty. A call
-    /// that fails took none.
+    /// Takes the first bytes of `piece`, and returns how many it took: at least one. A call that fails took none.
     fn write(&mut self, piece: &[u8]) -> Result<usize, Failed>
-        ensures some { IfOk result (λ n. 0 < length piece.now → 0 < n) }
+        requires { 0 < length piece.now }
+        ensures some { IfOk result (λ n. 0 < n) }
         ensures within { IfOk result (λ n. n ≤ length piece.now) }
         ensures grows { IfOk result (λ n. Grows (wrote self.old) (wrote self.new) (take n piece.now)) }
         ensures none_taken { OnErr result (wrote self.new ≡ wrote self.old) }

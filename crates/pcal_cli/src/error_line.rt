@@ -1,14 +1,19 @@
-//! The line that an answer has on the error output. It takes no memory: its texts go out one after the other.
+//! The line that an answer has on the error output. It is put together in memory that is taken before its file is read, and
+//! goes out at once.
 
-ghost use Rattle.std.specs.Prelude.{◌≡◌, ◌+◌, ◌≤◌, ◌++◌, drop, OnOk, OnErr, decimal, codes};
-ghost use Rattle.outer_io.specs.Outer.{RoseBy, Grows, GrowsInPart};
+ghost use Rattle.std.specs.Prelude.{◌≡◌, ◌+◌, ◌≤◌, ◌++◌, [], drop, length, decimal, codes, IfOk, vec_len, vec_capacity};
 ghost use Rattle.tla_token.specs.Rules.{rule_text, refusal_text};
 ghost use Rattle.pcal_cli.specs.Answers.{refused_line, line_of};
+ghost use Rattle.pcal_cli.specs.Causes.{Told};
 
 use crate::status::Answer;
-use outer_io::{Failed, Sink, put_all};
+use outer_io::{Sink, put_all};
+use std::alloc::{AllocError, Global};
 use tla_token::rule::{name, number};
 use tla_token::{Place, Refusal, Rule};
+
+/// The most bytes of a line but for the name of its file.
+const MOST_BESIDE: usize = 80;
 
 /// The digits of a number: these bytes, from an index on.
 #[derive(Clone, Copy)]
@@ -37,99 +42,129 @@ fn digits_of(number: u32) -> Digits
 /// The bytes of digits.
 fn bytes_of(digits: &Digits) -> &[u8]
     requires { digits.now.from ≤ 10 }
-    ensures { result.now ≡ drop digits.now.from digits.now.bytes }
+    ensures value { result.now ≡ drop digits.now.from digits.now.bytes }
+    ensures few { length result.now ≤ 10 }
 {
     &digits.bytes[digits.from..]
 }
 
-/// Writes three texts, one after the other.
-fn put_three<E: Sink>(err: &mut E, first: &[u8], second: &[u8], third: &[u8]) -> Result<(), Failed>
-    ensures ok { OnOk result (Grows (E.wrote err.old) (E.wrote err.new) (first.now ++ (second.now ++ third.now))) }
-    ensures err { OnErr result (GrowsInPart (E.wrote err.old) (E.wrote err.new) (first.now ++ (second.now ++ third.now))) }
-    ensures cause { OnErr result (RoseBy 1 (E.faults err.old) (E.faults err.new)) }
-    ensures ok_faults { OnOk result (E.faults err.new ≡ E.faults err.old) }
-    ensures faults_grow { E.faults err.old ≤ E.faults err.new }
-    ensures once { E.faults err.new ≤ E.faults err.old + 1 }
+/// Memory for the line of any answer about a file.
+///
+/// # Errors
+///
+/// Want of memory.
+pub fn line_room(alloc: Global, file: &str) -> Result<Vec<u8>, AllocError>
+    ensures empty { IfOk result (λ v. v.items ≡ []) }
+    ensures room { IfOk result (λ v. length file.now + 80 ≤ vec_capacity v) }
 {
-    put_all(err, first)?;
-    put_all(err, second)?;
-    put_all(err, third)?;
-    Ok(())
+    Vec::with_capacity(alloc, file.len() + MOST_BESIDE)
 }
 
-/// Writes a place: its line and its column.
-fn put_place<E: Sink>(err: &mut E, place: Place) -> Result<(), Failed>
-    ensures ok { OnOk result (Grows (E.wrote err.old) (E.wrote err.new) (decimal place.line ++ (codes ":" ++ decimal place.col))) }
-    ensures err { OnErr result (GrowsInPart (E.wrote err.old) (E.wrote err.new) (decimal place.line ++ (codes ":" ++ decimal place.col))) }
-    ensures cause { OnErr result (RoseBy 1 (E.faults err.old) (E.faults err.new)) }
-    ensures ok_faults { OnOk result (E.faults err.new ≡ E.faults err.old) }
-    ensures faults_grow { E.faults err.old ≤ E.faults err.new }
-    ensures once { E.faults err.new ≤ E.faults err.old + 1 }
+/// Adds bytes to a line that has room for them.
+fn add(line: &mut Vec<u8>, bytes: &[u8])
+    requires { vec_len line.old + length bytes.now ≤ vec_capacity line.old }
+    ensures items { line.new.items ≡ line.old.items ++ bytes.now }
+    ensures len { vec_len line.new ≡ vec_len line.old + length bytes.now }
+    ensures room { vec_capacity line.old ≤ vec_capacity line.new }
 {
-    let line = digits_of(place.line);
-    let col = digits_of(place.col);
-    put_three(err, bytes_of(&line), b":", bytes_of(&col))
+    line.extend_from_slice(bytes).unwrap();
 }
 
-/// Writes a rule: its number and its name.
-fn put_rule<E: Sink>(err: &mut E, rule: Rule) -> Result<(), Failed>
-    ensures ok { OnOk result (Grows (E.wrote err.old) (E.wrote err.new) (rule_text rule)) }
-    ensures err { OnErr result (GrowsInPart (E.wrote err.old) (E.wrote err.new) (rule_text rule)) }
-    ensures cause { OnErr result (RoseBy 1 (E.faults err.old) (E.faults err.new)) }
-    ensures ok_faults { OnOk result (E.faults err.new ≡ E.faults err.old) }
-    ensures faults_grow { E.faults err.old ≤ E.faults err.new }
-    ensures once { E.faults err.new ≤ E.faults err.old + 1 }
+/// Adds a number.
+fn add_number(line: &mut Vec<u8>, number: u32)
+    requires { vec_len line.old + 10 ≤ vec_capacity line.old }
+    ensures items { line.new.items ≡ line.old.items ++ decimal number }
+    ensures len { vec_len line.new ≤ vec_len line.old + 10 }
+    ensures room { vec_capacity line.old ≤ vec_capacity line.new }
 {
-    let digits = digits_of(number(rule) as u32);
-    put_three(err, bytes_of(&digits), b" ", name(rule).as_bytes())
+    let digits = digits_of(number);
+    add(line, bytes_of(&digits));
 }
 
-/// Writes a refusal.
-fn put_refusal<E: Sink>(err: &mut E, refusal: Refusal) -> Result<(), Failed>
-    ensures ok { OnOk result (Grows (E.wrote err.old) (E.wrote err.new) (refusal_text refusal)) }
-    ensures err { OnErr result (GrowsInPart (E.wrote err.old) (E.wrote err.new) (refusal_text refusal)) }
-    ensures cause { OnErr result (RoseBy 1 (E.faults err.old) (E.faults err.new)) }
-    ensures ok_faults { OnOk result (E.faults err.new ≡ E.faults err.old) }
-    ensures faults_grow { E.faults err.old ≤ E.faults err.new }
-    ensures once { E.faults err.new ≤ E.faults err.old + 1 }
+/// Adds a place: its line and its column.
+fn add_place(line: &mut Vec<u8>, place: Place)
+    requires { vec_len line.old + 21 ≤ vec_capacity line.old }
+    ensures items { line.new.items ≡ line.old.items ++ (decimal place.line ++ (codes ":" ++ decimal place.col)) }
+    ensures len { vec_len line.new ≤ vec_len line.old + 21 }
+    ensures room { vec_capacity line.old ≤ vec_capacity line.new }
 {
-    put_place(err, refusal.place)?;
-    put_all(err, b": ")?;
-    put_rule(err, refusal.rule)?;
-    Ok(())
+    add_number(line, place.line);
+    add(line, b":");
+    add_number(line, place.col);
 }
 
-/// Writes the line of a refusal.
-fn put_refused<E: Sink>(err: &mut E, refusal: Refusal, file: &[u8]) -> Result<(), Failed>
-    ensures ok { OnOk result (Grows (E.wrote err.old) (E.wrote err.new) (refused_line file.now refusal)) }
-    ensures err { OnErr result (GrowsInPart (E.wrote err.old) (E.wrote err.new) (refused_line file.now refusal)) }
-    ensures cause { OnErr result (RoseBy 1 (E.faults err.old) (E.faults err.new)) }
-    ensures ok_faults { OnOk result (E.faults err.new ≡ E.faults err.old) }
-    ensures faults_grow { E.faults err.old ≤ E.faults err.new }
-    ensures once { E.faults err.new ≤ E.faults err.old + 1 }
+/// Adds a rule: its number and its name.
+#[tactic(auto, using(crate::proofs::ErrorLine::short_name))]
+fn add_rule(line: &mut Vec<u8>, rule: Rule)
+    requires { vec_len line.old + 30 ≤ vec_capacity line.old }
+    ensures items { line.new.items ≡ line.old.items ++ rule_text rule }
+    ensures len { vec_len line.new ≤ vec_len line.old + 30 }
+    ensures room { vec_capacity line.old ≤ vec_capacity line.new }
 {
-    put_three(err, b"pcal: ", file, b":")?;
-    put_refusal(err, refusal)?;
-    put_all(err, b"\n")?;
-    Ok(())
+    add_number(line, number(rule) as u32);
+    add(line, b" ");
+    add(line, name(rule).as_bytes());
 }
 
-/// Writes the line that an answer has on the error output.
-pub fn tell<E: Sink>(err: &mut E, answer: Answer, file: &[u8]) -> Result<(), Failed>
-    ensures ok { OnOk result (Grows (E.wrote err.old) (E.wrote err.new) (line_of answer file.now)) }
-    ensures err { OnErr result (GrowsInPart (E.wrote err.old) (E.wrote err.new) (line_of answer file.now)) }
-    ensures cause { OnErr result (RoseBy 1 (E.faults err.old) (E.faults err.new)) }
-    ensures ok_faults { OnOk result (E.faults err.new ≡ E.faults err.old) }
-    ensures faults_grow { E.faults err.old ≤ E.faults err.new }
-    ensures once { E.faults err.new ≤ E.faults err.old + 1 }
+/// Adds the line of a refusal.
+fn add_refused(line: &mut Vec<u8>, refusal: Refusal, file: &[u8])
+    requires { vec_len line.old + length file.now + 61 ≤ vec_capacity line.old }
+    ensures items { line.new.items ≡ line.old.items ++ refused_line file.now refusal }
+{
+    add_three(line, b"pcal: ", file, b":");
+    add_place(line, refusal.place);
+    add(line, b": ");
+    add_rule(line, refusal.rule);
+    add(line, b"\n");
+}
+
+/// Adds three texts, one after the other.
+fn add_three(line: &mut Vec<u8>, first: &[u8], second: &[u8], third: &[u8])
+    requires { vec_len line.old + (length first.now + (length second.now + length third.now)) ≤ vec_capacity line.old }
+    ensures items { line.new.items ≡ line.old.items ++ (first.now ++ (second.now ++ third.now)) }
+    ensures len { vec_len line.new ≡ vec_len line.old + (length first.now + (length second.now + length third.now)) }
+    ensures room { vec_capacity line.old ≤ vec_capacity line.new }
+{
+    add(line, first);
+    add(line, second);
+    add(line, third);
+}
+
+/// Puts the line of an answer about a file into the room for it.
+fn fill(line: &mut Vec<u8>, answer: Answer, file: &[u8])
+    requires empty { line.old.items ≡ [] }
+    requires room { length file.now + 80 ≤ vec_capacity line.old }
+    ensures { line.new.items ≡ line_of answer file.now }
 {
     match answer {
-        Answer::Fine => put_all(err, b""),
-        Answer::Memory => put_all(err, b"pcal: out of memory\n"),
-        Answer::Usage => put_all(err, b"pcal: usage\n"),
-        Answer::ReadFault => put_three(err, b"pcal: cannot read ", file, b"\n"),
-        Answer::WriteFault => put_all(err, b"pcal: cannot write\n"),
-        Answer::Refused(refusal) => put_refused(err, refusal, file),
-        Answer::TooLong => put_three(err, b"pcal: ", file, b" is too long\n"),
+        Answer::Fine => {}
+        Answer::Memory => add(line, b"pcal: out of memory\n"),
+        Answer::Usage => add(line, b"pcal: usage\n"),
+        Answer::ReadFault => add_three(line, b"pcal: cannot read ", file, b"\n"),
+        Answer::WriteFault => add(line, b"pcal: cannot write\n"),
+        Answer::Refused(refusal) => add_refused(line, refusal, file),
+        Answer::TooLong => add_three(line, b"pcal: ", file, b" is too long\n"),
     }
+}
+
+/// Writes a line, or as much of it as goes out.
+pub fn say<E: Sink>(err: &mut E, line: &[u8])
+    ensures told { Told (E.wrote err.old) (E.wrote err.new) (E.faults err.old) (E.faults err.new) line.now }
+    ensures faults_grow { E.faults err.old ≤ E.faults err.new }
+    ensures once { E.faults err.new ≤ E.faults err.old + 1 }
+{
+    let _ = put_all(err, line);
+}
+
+/// Writes the line of an answer about a file, of which room is the memory.
+pub fn tell<E: Sink>(err: &mut E, room: Vec<u8>, answer: Answer, file: &[u8])
+    requires empty { room.items ≡ [] }
+    requires roomy { length file.now + 80 ≤ vec_capacity room }
+    ensures told { Told (E.wrote err.old) (E.wrote err.new) (E.faults err.old) (E.faults err.new) (line_of answer file.now) }
+    ensures faults_grow { E.faults err.old ≤ E.faults err.new }
+    ensures once { E.faults err.new ≤ E.faults err.old + 1 }
+{
+    let mut line = room;
+    fill(&mut line, answer, file);
+    say(err, &line);
 }
