@@ -25,7 +25,7 @@ same_definition v w ts d e h k =
     let at : h.at ≡ k.at = (let f = same_name h.at k.at d.definition.title e.definition.title _ _ same in ap (λ (n : Name). n.place) f) in
     let title : d.definition.title ≡ e.definition.title = ap first_word same in
     let params = one_parameters h.params k.params h.sign k.sign (spell h.body []) (spell k.body []) (ap tail same) in
-    let body = one_before 1 h.body k.body h.good.2 k.good.2 [] [] refl refl params.1 in
+    let body = one_before 0 h.body k.body h.good.2 k.good.2 [] [] refl refl params.1 in
     sym h.is ∙ (λ i. record { definition = record { title = title i; params = params.0 i; body = tree_of (body.0 i); outside = true }; place = at i }) ∙ k.is
 
 not_defined : (v : Sight) (w : Word) (ts : List Token) (xs : List Name) (d : ReadDefinition) → Named w ts xs → Defined v ts d → ⊥

@@ -75,12 +75,12 @@ same_units ts us e = (cut_looks ts).1 ∙ ap (λ (ls : List Look). (look_cut ls)
 record NamesThere (ns : Names) (r us : List Token) : Type 0 where
   names : Names
   rest : List Token
-  good : GoodNames 1 names
+  good : GoodNames 0 names
   is : us ≡ spell_names names rest
   same_rest : looks r ≡ looks rest
   same_words : words_of ns ≡ words_of names
 
-names_there : (ns : Names) (r us : List Token) → GoodNames 1 ns → looks (spell_names ns r) ≡ looks us → NamesThere ns r us
+names_there : (ns : Names) (r us : List Token) → GoodNames 0 ns → looks (spell_names ns r) ≡ looks us → NamesThere ns r us
 names_there (last_name p x) r [] g e = absurd cc
 names_there (last_name p x) r (u ∷ us) g e =
     let f = first_same (token p (tk.word x)) u r us e in
@@ -88,7 +88,7 @@ names_there (last_name p x) r (u ∷ us) g e =
     record {
       names = last_name u.place x;
       rest = us;
-      good = ap (λ (n : ℕ). nat_lt 1 n) (sym (same_col (token p (tk.word x)) u f)) ∙ g;
+      good = ap (λ (n : ℕ). nat_lt 0 n) (sym (same_col (token p (tk.word x)) u f)) ∙ g;
       is = ap (λ (u : Token). u ∷ us) (sym c);
       same_rest = rest_same (token p (tk.word x)) u r us e;
       same_words = refl;
@@ -108,7 +108,7 @@ names_there (more_names p x q ns) r (u ∷ v ∷ us) g e =
     record {
       names = more_names u.place x v.place n.names;
       rest = n.rest;
-      good = (ap (λ (n : ℕ). nat_lt 1 n) (sym (same_col t u f)) ∙ g.0, ap (λ (n : ℕ). nat_lt 1 n) (sym (same_col c v h)) ∙ g.1, n.good);
+      good = (ap (λ (n : ℕ). nat_lt 0 n) (sym (same_col t u f)) ∙ g.0, ap (λ (n : ℕ). nat_lt 0 n) (sym (same_col c v h)) ∙ g.1, n.good);
       is = λ i. sym name i ∷ sym comma i ∷ n.is i;
       same_rest = n.same_rest;
       same_words = ap (λ (ws : List Word). x ∷ ws) n.same_words;

@@ -16,10 +16,10 @@ use Rattle.module_tree.specs.Grammar.{Names, last_name, more_names, names_of}
 use Rattle.module_tree.specs.Units.{ParameterForm, parameters}
 use Rattle.module_tree.specs.Outside.{Sight, definition_reads, opaque_of}
 
--- ---- single tokens, right of column 1
+-- ---- single tokens, in any column
 
 abbrev pub is_right : Token → Bool
-is_right t = nat_lt 1 t.place.col
+is_right t = nat_lt 0 t.place.col
 
 abbrev pub name_if : Bool → TokenView → Option Word
 name_if true (tk.word x) = Some x
@@ -102,7 +102,7 @@ rest_if f q (Some a) = Some (record { params = f; sign = q; body = a })
 rest_if f q None = None
 
 abbrev pub body_after : Option (Option ParameterForm × List Token) → Option Rest
-body_after (Some (f, u ∷ r)) = if defines_here u.kind && is_right u then rest_if f u.place (whole (read 1 r)) else None
+body_after (Some (f, u ∷ r)) = if defines_here u.kind && is_right u then rest_if f u.place (whole (read 0 r)) else None
 body_after o = None
 
 abbrev pub definition_in : Place → Word → Rest → ReadDefinition

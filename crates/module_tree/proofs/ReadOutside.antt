@@ -63,7 +63,7 @@ name_is t x e = by (is_right t) refl t.kind refl
 -- ---- names with commas
 
 record NamesRead (ts : List Token) (ns : Names) (r : List Token) : Type 0 where
-  good : GoodNames 1 ns
+  good : GoodNames 0 ns
   is : ts ≡ spell_names ns r
 
 same_read : (ts : List Token) (ns ms : Names) (r s : List Token) → ns ≡ ms → r ≡ s → NamesRead ts ns r → NamesRead ts ms s
@@ -102,7 +102,7 @@ names_sound (t ∷ u ∷ ts) ns r e = by (is_comma u.kind) refl (names_sound ts)
         let f : more_if t u (name_in t) (is_right u) (names_at ts) ≡ Some (ns, r) = rw k at e in
         on deeper k (name_in t) refl (is_right u) refl (names_at ts) refl f
 
-names_read : (ns : Names) (r : List Token) → GoodNames 1 ns → nat_eq (first_sort r) 9 ≡ false → names_at (spell_names ns r) ≡ Some (ns, r)
+names_read : (ns : Names) (r : List Token) → GoodNames 0 ns → nat_eq (first_sort r) 9 ≡ false → names_at (spell_names ns r) ≡ Some (ns, r)
 names_read (last_name p x) [] g n = rw g refl
 names_read (last_name p x) (u ∷ r) g n = rw (no_comma u.kind n, g) refl
 names_read (more_names p x q ns) r g n = rw (g.0, g.1, names_read ns r g.2 n) refl
@@ -127,7 +127,7 @@ named_read w ts xs n = ap (named_by w) n.spelled ∙ rw ((bytes_eq-Decides w w).
 -- ---- definitions
 
 abbrev ParametersRead : List Token → Option ParameterForm → List Token → Type 0
-ParametersRead ts f r = GoodParameters f × (ts ≡ spell_parameters f r)
+ParametersRead ts f r = GoodParameters 0 f × (ts ≡ spell_parameters f r)
 
 same_parameters : (ts : List Token) (f g : Option ParameterForm) (r s : List Token) → f ≡ g → r ≡ s → ParametersRead ts f r → ParametersRead ts g s
 same_parameters ts f g r s d e n = subst (λ (s : List Token). ParametersRead ts g s) e (subst (λ (g : Option ParameterForm). ParametersRead ts g r) d n)
@@ -162,25 +162,25 @@ parameters_sound (t ∷ ts) f r e = by (is_open t.kind) refl
         let p = some_pair_parts None f (t ∷ ts) r g in
         same_parameters (t ∷ ts) None f (t ∷ ts) r p.0 p.1 (tt, refl)
 
-parameters_read : (f : Option ParameterForm) (q : Place) (r : List Token) → GoodParameters f
+parameters_read : (f : Option ParameterForm) (q : Place) (r : List Token) → GoodParameters 0 f
     → parameters_at (spell_parameters f (see q (mark tk.defines) r)) ≡ Some (f, see q (mark tk.defines) r)
 parameters_read None q r g = refl
 parameters_read (Some f) q r g = rw (names_read f.names (see f.right (mark tk.close_bracket) (see q (mark tk.defines) r)) g.1 refl, g.0, g.2) refl
 
 record RestRead (ts : List Token) (s : Rest) : Type 0 where
-  good : GoodParameters s.params × Right 1 s.sign × Good 1 s.body
+  good : GoodParameters 0 s.params × Right 0 s.sign × Good 0 s.body
   is : ts ≡ spell_parameters s.params (see s.sign (mark tk.defines) (spell s.body []))
 
 rest_sound : (ts : List Token) (s : Rest) → body_after (parameters_at ts) ≡ Some s → RestRead ts s
 rest_sound ts s e = by (parameters_at ts) refl e
   where
     read_by : (f : Option ParameterForm) (u : Token) (r : List Token) → parameters_at ts ≡ Some (f, u ∷ r) → (b : Bool) → (defines_here u.kind && is_right u) ≡ b
-        → (o : Out Phrase) → read 1 r ≡ o → (if b then rest_if f u.place (whole o) else None) ≡ Some s → RestRead ts s
+        → (o : Out Phrase) → read 0 r ≡ o → (if b then rest_if f u.place (whole o) else None) ≡ Some s → RestRead ts s
     read_by f u r p true b (Ok (a, [])) o g =
         let new : Rest = record { params = f; sign = u.place; body = a } in
         let same : new ≡ s = same_Some new s g in
         let c = and_parts (defines_here u.kind) (is_right u) b in
-        let d = read_is_spelled 1 r [] a o in
+        let d = read_is_spelled 0 r [] a o in
         let q = parameters_sound ts f (u ∷ r) p in
         let x : u ≡ token u.place (mark tk.defines) = ap (λ (k : TokenView). token u.place k) (defines_is u.kind c.0) in
         subst (λ (s : Rest). RestRead ts s) same (record { good = (q.0, c.1, d.0); is = q.1 ∙ (λ i. spell_parameters f (x i ∷ d.1 i)) })
@@ -191,7 +191,7 @@ rest_sound ts s e = by (parameters_at ts) refl e
     by : (o : Option (Option ParameterForm × List Token)) → parameters_at ts ≡ o → body_after o ≡ Some s → RestRead ts s
     by None o g = absurd (none-some s g)
     by (Some (f, [])) o g = absurd (none-some s g)
-    by (Some (f, u ∷ r)) o g = read_by f u r o (defines_here u.kind && is_right u) refl (read 1 r) refl g
+    by (Some (f, u ∷ r)) o g = read_by f u r o (defines_here u.kind && is_right u) refl (read 0 r) refl g
 
 defined_sound : (v : Sight) (ts : List Token) (d : ReadDefinition) → defined_by v ts ≡ Some d → Defined v ts d
 defined_sound v [] d e = absurd (none-some d e)
@@ -226,7 +226,7 @@ defined_read v ts d h =
     let s : Rest = record { params = h.params; sign = h.sign; body = h.body } in
     let p = parameters_read h.params h.sign (spell h.body []) h.good.0 in
     let b : body_after (parameters_at (spell_parameters h.params (see h.sign (mark tk.defines) (spell h.body [])))) ≡ Some s =
-    ap body_after p ∙ rw (h.good.1, spelled_is_read 1 h.body h.good.2) refl in
+    ap body_after p ∙ rw (h.good.1, spelled_is_read 0 h.body h.good.2) refl in
     let reads : definition_reads v (definition_in h.at x s).definition ≡ true = ap (λ (d : ReadDefinition). definition_reads v d.definition) h.is ∙ h.reads in
     let fine : is_sound v h.at x s ≡ true = and_from (nat_le (text_nesting h.body) deepest_expression) (definition_reads v (definition_in h.at x s).definition) h.shallow reads in
     ap (defined_by v) h.spelled ∙ ap (defined_if v h.at (tk.word x)) b ∙ ap (λ (k : Bool). if k then Some (definition_in h.at x s) else None) fine ∙ ap Some h.is

@@ -27,6 +27,10 @@ sum = refl
 no_plus : reads [] (codes "a" ∷ []) (signed Plus (word (codes "a")) (word (codes "C"))) ≡ false
 no_plus = refl
 
+-- a constant's name
+constant_again : definition_reads (seen integers) (record { title = codes "C"; params = []; body = leaf (number 1); outside = true }) ≡ false
+constant_again = refl
+
 unknown : reads integers [] (word (codes "x")) ≡ false
 unknown = refl
 

@@ -1,10 +1,10 @@
 -- Units outside the translation that are read or passed on, and what a file has outside, by computation.
 use Rattle.std.proofs.Common.{◌≡◌, refl, subst, true, false}
-use Rattle.std.specs.Prelude.{ℕ, List, [], ◌∷◌, codes}
+use Rattle.std.specs.Prelude.{ℕ, List, [], ◌∷◌, map, codes}
 use Rattle.tla_token.specs.declared.place.Place.{Place}
 use Rattle.tla_token.specs.Cut.{tokens}
-use Rattle.tla_tree.specs.declared.op.Op.TheVariants.{Plus}
-use Rattle.tla_tree.specs.Tree.{Name, number, name, strict, operator, node, no_trees, tree}
+use Rattle.tla_tree.specs.declared.op.Op.TheVariants.{Plus, Greater}
+use Rattle.tla_tree.specs.Tree.{Word, Name, number, name, strict, operator, if_then_else, Tree, node, no_trees, tree}
 use Rattle.tla_tree.specs.Lexical.{Token}
 use Rattle.tla_tree.specs.TokenViews.{views}
 use Rattle.tla_tree.specs.Reader.{readers}
@@ -49,7 +49,7 @@ unknown : unit_read true around (seen (codes "N(a) == C\n")) ≡ opaque (passed 
 unfolding readers
 unknown = refl
 
--- a comma without a name, and a token in column 1
+-- a comma without a name
 unended : unit_read true around (seen (codes "EXTENDS Naturals,\n")) ≡ opaque (record { keyword = codes "EXTENDS"; names = codes "Naturals" ∷ []; place = at 1 1 })
 unended = refl
 
@@ -80,6 +80,83 @@ outside = refl
 
 has : HasOutside (walk text) is_outside
 has = subst (λ (o : Outside). HasOutside (walk text) o) outside (has_outside (walk text))
+
+-- ---- units that go on in column 1, as no identifier and no unit's word stands there
+
+abbrev plain_name : ℕ → ℕ → Word → Tree
+plain_name l c x = node (name x) (at l c) no_trees
+
+abbrev titles_in : Text → List Word
+titles_in w = map (λ d. d.definition.title) (outside_read (walk w)).definitions
+
+abbrev largest : Text
+largest = codes "---- MODULE M ----\nEXTENDS Integers\nMax(a, b) ==\nIF a > b THEN a ELSE b\n(*\n--algorithm A\nbegin\n  L: skip;\nend algorithm\n*)\n====\n"
+
+abbrev has_largest : Outside
+has_largest = record {
+  extended = codes "Integers" ∷ [];
+  constants = [];
+  definitions = record {
+    definition = record {
+      title = codes "Max";
+      params = codes "a" ∷ codes "b" ∷ [];
+      body = node if_then_else (at 4 1) (
+          tree (node (strict (operator Greater)) (at 4 4) (tree (plain_name 4 4 (codes "a")) (tree (plain_name 4 8 (codes "b")) no_trees)))
+          (tree (plain_name 4 15 (codes "a")) (tree (plain_name 4 22 (codes "b")) no_trees)));
+      outside = true;
+    };
+    place = at 3 1;
+  } ∷ [];
+  opaque = [];
+}
+
+largest_read : outside_read (walk largest) ≡ has_largest
+unfolding readers
+largest_read = refl
+
+reads_largest : HasOutside (walk largest) has_largest
+reads_largest = subst (λ (o : Outside). HasOutside (walk largest) o) largest_read (has_outside (walk largest))
+
+-- a number, a word of an expression, brackets and signs
+abbrev in_first_column : Text
+in_first_column = codes "---- MODULE M ----\nEXTENDS Integers\n, Sequences\nCONSTANT C\n,\nS\nA ==\n1\nB ==\nIF TRUE THEN 1 ELSE 2\nD ==\n{1}\nE ==\n(1)\nF ==\n<<1>>\nG ==\n- 1\nH == 1\n+ 2\nI(x\n, y\n)\n== x\n====\n"
+
+first_column_read : titles_in in_first_column ≡ codes "A" ∷ codes "B" ∷ codes "D" ∷ codes "E" ∷ codes "F" ∷ codes "G" ∷ codes "H" ∷ codes "I" ∷ []
+unfolding readers
+first_column_read = refl
+
+first_column_modules : (outside_read (walk in_first_column)).extended ≡ codes "Integers" ∷ codes "Sequences" ∷ []
+unfolding readers
+first_column_modules = refl
+
+-- a name in column 1 is a unit of its own, so the constants before it end in a comma and aren't read
+first_column_passed : map (λ o. o.names) (outside_read (walk in_first_column)).opaque ≡ (codes "C" ∷ []) ∷ (codes "S" ∷ []) ∷ []
+unfolding readers
+first_column_passed = refl
+
+-- ---- a definition that has a constant's name isn't read, whichever of both comes first
+
+abbrev constant_first : Text
+constant_first = codes "---- MODULE M ----\nCONSTANT N\nN(a) == a\nK == 1\n====\n"
+
+abbrev constant_later : Text
+constant_later = codes "---- MODULE M ----\nN(a) == a\nK == 1\nCONSTANT N\n====\n"
+
+constant_first_read : titles_in constant_first ≡ codes "K" ∷ []
+unfolding readers
+constant_first_read = refl
+
+constant_first_passed : (outside_read (walk constant_first)).opaque ≡ passed (codes "N") 3 ∷ []
+unfolding readers
+constant_first_passed = refl
+
+constant_later_read : titles_in constant_later ≡ codes "K" ∷ []
+unfolding readers
+constant_later_read = refl
+
+constant_later_passed : (outside_read (walk constant_later)).opaque ≡ passed (codes "N") 2 ∷ []
+unfolding readers
+constant_later_passed = refl
 
 -- ---- in other lines
 

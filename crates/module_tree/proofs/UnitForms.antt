@@ -97,7 +97,7 @@ vars_at n h xs v =
 
 record ParametersAt (xs : List Word) (p : Place) : Type 0 where
   form : Option ParameterForm
-  good : GoodParameters form
+  good : GoodParameters 1 form
   same : parameters form ≡ xs
   end : Place
   right : Right 1 end

@@ -89,9 +89,11 @@ abbrev mutual
   trees_read v bs [] inf (tree t ts) = tree_reads v bs (inf && is_last ts) t && trees_read v bs [] inf ts
   trees_read v bs (xs ∷ names) inf (tree t ts) = tree_reads v (xs ++ bs) (inf && is_last ts) t && trees_read v bs names inf ts
 
+-- a definition that has a constant's name is not
 abbrev pub definition_reads : Sight → Definition → Bool
 definition_reads v d =
-    are_fresh v [] d.params && (tree_reads v d.params false d.body && nat_le (definition_nests (depths [] v.earlier) d) deepest_definition)
+    not (is_among v.constants d.title) && (are_fresh v [] d.params
+    && (tree_reads v d.params false d.body && nat_le (definition_nests (depths [] v.earlier) d) deepest_definition))
 
 -- ---- what is kept of a unit that is not read
 
@@ -130,12 +132,12 @@ abbrev pub opaque_of : List Token → Opaque
 opaque_of [] = record { keyword = []; names = []; place = start }
 opaque_of (t ∷ ts) = record { keyword = keyword_of t.kind; names = names_by (keyword_of t.kind) t ts; place = t.place }
 
--- ---- units
+-- ---- units: what ends a unit alone tells where it ends, so its tokens may stand in any column
 
 pub record Named (w : Word) (ts : List Token) (xs : List Name) : Type 0 where
   pub at : Place
   pub names : Names
-  pub good : GoodNames 1 names
+  pub good : GoodNames 0 names
   pub spelled : ts ≡ keyword at w (spell_names names [])
   pub are : names_of names ≡ xs
 
@@ -144,7 +146,7 @@ pub record Defined (v : Sight) (ts : List Token) (d : ReadDefinition) : Type 0 w
   pub params : Option ParameterForm
   pub sign : Place
   pub body : Phrase
-  pub good : GoodParameters params × Right 1 sign × Good 1 body
+  pub good : GoodParameters 0 params × Right 0 sign × Good 0 body
   pub spelled : ts ≡ spell_unit (definition_form at d.definition.title params sign body) []
   pub is : record {
     definition = record { title = d.definition.title; params = parameters params; body = tree_of body; outside = true };

@@ -108,9 +108,9 @@ abbrev pub parameters : Option ParameterForm → List Word
 parameters None = []
 parameters (Some f) = words_of f.names
 
-abbrev pub GoodParameters : Option ParameterForm → Type 0
-GoodParameters None = Unit {0}
-GoodParameters (Some f) = Right 1 f.left × GoodNames 1 f.names × Right 1 f.right
+abbrev pub GoodParameters : ℕ → Option ParameterForm → Type 0
+GoodParameters e None = Unit {0}
+GoodParameters e (Some f) = Right e f.left × GoodNames e f.names × Right e f.right
 
 pub data BodyForm : Type 0 where
   all_form : ListForm → BodyForm
@@ -203,7 +203,7 @@ GoodParameter (Some f) = Right 1 f.0 × Right 1 f.1 × Right 1 f.3
 abbrev pub GoodUnit : UnitForm → Type 0
 GoodUnit (constant_form p ns) = GoodNames 1 ns
 GoodUnit (variables_form p ns) = GoodNames 1 ns
-GoodUnit (definition_form p x f q a) = IsTrue (not (is_own x)) × GoodParameters f × Right 1 q × Good 1 a × IsTrue (not (begins_list (spell a [])))
+GoodUnit (definition_form p x f q a) = IsTrue (not (is_own x)) × GoodParameters 1 f × Right 1 q × Good 1 a × IsTrue (not (begins_list (spell a [])))
 GoodUnit (vars_form p q s ns t) = Right 1 q × Right 1 s × GoodNames 1 ns × Right 1 t
 GoodUnit (process_set_form p q a) = Right 1 q × Good 1 a
 GoodUnit (init_form p q es) = Right 1 q × GoodSome Good es
