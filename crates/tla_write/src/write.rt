@@ -20,7 +20,7 @@ use tla_pool::{Pool, Seen};
 use tla_tree::{Binder, Name, NameList, NodeId, Op, PlacedName, Text};
 
 /// Tokens that are written in one way.
-#[derive(Clone, Copy, PartialEq, Eq, Debug)]
+#[derive(Clone, Copy)]
 enum Fixed {
     OpenBracket,
     CloseBracket,
@@ -56,7 +56,7 @@ enum Fixed {
 }
 
 /// What is written of a form: a blank, a token, or a part, as an operand or not.
-#[derive(Drop)]
+#[derive(Clone, Copy)]
 enum Item<'a> {
     Blank,
     Fixed(Fixed),
@@ -167,8 +167,7 @@ fn put_comma_if(more: bool, plan: &mut Vec<Item<'_>>) -> Result<(), AllocError>
     ensures { OnOk result (plan.new.items ≡ plan.old.items ++ comma_items more) }
 {
     if more {
-        plan.push(Item::Blank)?;
-        plan.push(Item::Fixed(Fixed::Comma))?;
+        plan.extend_from_slice(&[Item::Blank, Item::Fixed(Fixed::Comma)])?;
     }
     Ok(())
 }
@@ -185,9 +184,7 @@ fn put_box_if(more: bool, plan: &mut Vec<Item<'_>>) -> Result<(), AllocError>
 fn put_spaced<'a>(item: Item<'a>, plan: &mut Vec<Item<'a>>) -> Result<(), AllocError>
     ensures { OnOk result (plan.new.items ≡ plan.old.items ++ (Blank ∷ item.entry ∷ Blank ∷ [])) }
 {
-    plan.push(Item::Blank)?;
-    plan.push(item)?;
-    plan.push(Item::Blank)?;
+    plan.extend_from_slice(&[Item::Blank, item, Item::Blank])?;
     Ok(())
 }
 
@@ -208,13 +205,19 @@ fn put_prefix_sign(op: Op, plan: &mut Vec<Item<'_>>) -> Result<(), AllocError>
 fn put_choice(plan: &mut Vec<Item<'_>>) -> Result<(), AllocError>
     ensures { OnOk result (Puts 3 plan.old.items plan.new.items pure.choice_pieces) }
 {
-    plan.push(Item::Part(2, false))?;
-    put_spaced(Item::Fixed(Fixed::Else), plan)?;
-    plan.push(Item::Part(1, false))?;
-    put_spaced(Item::Fixed(Fixed::Then), plan)?;
-    plan.push(Item::Part(0, false))?;
-    plan.push(Item::Blank)?;
-    plan.push(Item::Fixed(Fixed::If))?;
+    plan.extend_from_slice(&[
+        Item::Part(2, false),
+        Item::Blank,
+        Item::Fixed(Fixed::Else),
+        Item::Blank,
+        Item::Part(1, false),
+        Item::Blank,
+        Item::Fixed(Fixed::Then),
+        Item::Blank,
+        Item::Part(0, false),
+        Item::Blank,
+        Item::Fixed(Fixed::If),
+    ])?;
     Ok(())
 }
 
@@ -267,9 +270,13 @@ fn put_fields<'a>(
     while i > 0 {
         put_comma_if(i < names.len(), plan)?;
         i -= 1;
-        plan.push(Item::Part(i, false))?;
-        put_spaced(Item::Fixed(sign), plan)?;
-        plan.push(Item::Field(&names[i]))?;
+        plan.extend_from_slice(&[
+            Item::Part(i, false),
+            Item::Blank,
+            Item::Fixed(sign),
+            Item::Blank,
+            Item::Field(&names[i]),
+        ])?;
     }
     Ok(())
 }
@@ -294,8 +301,12 @@ fn put_binds<'a>(groups: &'a [Vec<PlacedName>], plan: &mut Vec<Item<'a>>) -> Res
     while i > 0 {
         put_comma_if(i < groups.len(), plan)?;
         i -= 1;
-        plan.push(Item::Part(i, true))?;
-        put_spaced(Item::Sign(Op::In), plan)?;
+        plan.extend_from_slice(&[
+            Item::Part(i, true),
+            Item::Blank,
+            Item::Sign(Op::In),
+            Item::Blank,
+        ])?;
         put_names(&groups[i], plan)?;
     }
     Ok(())
@@ -308,11 +319,14 @@ fn put_quantifier<'a>(
 ) -> Result<(), AllocError>
     ensures { OnOk result (Puts (suc (length groups.now)) plan.old.items plan.new.items (quantifier_pieces (fixed_token key) (groups_of groups.now))) }
 {
-    plan.push(Item::Part(groups.len(), false))?;
-    put_spaced(Item::Fixed(Fixed::Colon), plan)?;
+    plan.extend_from_slice(&[
+        Item::Part(groups.len(), false),
+        Item::Blank,
+        Item::Fixed(Fixed::Colon),
+        Item::Blank,
+    ])?;
     put_binds(groups, plan)?;
-    plan.push(Item::Blank)?;
-    plan.push(Item::Fixed(key))?;
+    plan.extend_from_slice(&[Item::Blank, Item::Fixed(key)])?;
     Ok(())
 }
 
@@ -328,23 +342,35 @@ fn put_binding<'a>(
         Binder::ForAll => put_quantifier(Fixed::ForAll, groups, plan)?,
         Binder::Exists => put_quantifier(Fixed::Exists, groups, plan)?,
         Binder::Filter => {
-            plan.push(Item::Fixed(Fixed::CloseBrace))?;
-            plan.push(Item::Part(body, false))?;
-            put_spaced(Item::Fixed(Fixed::Colon), plan)?;
+            plan.extend_from_slice(&[
+                Item::Fixed(Fixed::CloseBrace),
+                Item::Part(body, false),
+                Item::Blank,
+                Item::Fixed(Fixed::Colon),
+                Item::Blank,
+            ])?;
             put_binds(groups, plan)?;
             plan.push(Item::Fixed(Fixed::OpenBrace))?;
         }
         Binder::Image => {
             plan.push(Item::Fixed(Fixed::CloseBrace))?;
             put_binds(groups, plan)?;
-            put_spaced(Item::Fixed(Fixed::Colon), plan)?;
-            plan.push(Item::Part(body, true))?;
-            plan.push(Item::Fixed(Fixed::OpenBrace))?;
+            plan.extend_from_slice(&[
+                Item::Blank,
+                Item::Fixed(Fixed::Colon),
+                Item::Blank,
+                Item::Part(body, true),
+                Item::Fixed(Fixed::OpenBrace),
+            ])?;
         }
         Binder::Function => {
-            plan.push(Item::Fixed(Fixed::CloseSquare))?;
-            plan.push(Item::Part(body, false))?;
-            put_spaced(Item::Fixed(Fixed::Maps), plan)?;
+            plan.extend_from_slice(&[
+                Item::Fixed(Fixed::CloseSquare),
+                Item::Part(body, false),
+                Item::Blank,
+                Item::Fixed(Fixed::Maps),
+                Item::Blank,
+            ])?;
             put_binds(groups, plan)?;
             plan.push(Item::Fixed(Fixed::OpenSquare))?;
         }
@@ -368,10 +394,14 @@ fn put_definitions<'a>(names: &'a [PlacedName], plan: &mut Vec<Item<'a>>) -> Res
     while i > 0 {
         put_blank_if(i < names.len(), plan)?;
         i -= 1;
-        plan.push(Item::Part(i, false))?;
-        put_spaced(Item::Fixed(Fixed::Defines), plan)?;
         let bound = &names[i];
-        plan.push(Item::Word(&bound.name))?;
+        plan.extend_from_slice(&[
+            Item::Part(i, false),
+            Item::Blank,
+            Item::Fixed(Fixed::Defines),
+            Item::Blank,
+            Item::Word(&bound.name),
+        ])?;
     }
     Ok(())
 }
@@ -379,11 +409,14 @@ fn put_definitions<'a>(names: &'a [PlacedName], plan: &mut Vec<Item<'a>>) -> Res
 fn put_local<'a>(names: &'a [PlacedName], plan: &mut Vec<Item<'a>>) -> Result<(), AllocError>
     ensures { OnOk result (Puts (suc (length names.now)) plan.old.items plan.new.items (local_pieces names.now)) }
 {
-    plan.push(Item::Part(names.len(), false))?;
-    put_spaced(Item::Fixed(Fixed::In), plan)?;
+    plan.extend_from_slice(&[
+        Item::Part(names.len(), false),
+        Item::Blank,
+        Item::Fixed(Fixed::In),
+        Item::Blank,
+    ])?;
     put_definitions(names, plan)?;
-    plan.push(Item::Blank)?;
-    plan.push(Item::Fixed(Fixed::Let))?;
+    plan.extend_from_slice(&[Item::Blank, Item::Fixed(Fixed::Let)])?;
     Ok(())
 }
 
@@ -439,9 +472,13 @@ fn put_slots<'a>(slots: &'a [Slot], n: usize, plan: &mut Vec<Item<'a>>) -> Resul
 fn put_other(i: usize, plan: &mut Vec<Item<'_>>) -> Result<(), AllocError>
     ensures { OnOk result (Puts (suc i) plan.old.items plan.new.items (λ xs ps. arm_pieces true (drop i xs) ps)) }
 {
-    plan.push(Item::Part(i, true))?;
-    put_spaced(Item::Fixed(Fixed::Arrow), plan)?;
-    plan.push(Item::Fixed(Fixed::Other))?;
+    plan.extend_from_slice(&[
+        Item::Part(i, true),
+        Item::Blank,
+        Item::Fixed(Fixed::Arrow),
+        Item::Blank,
+        Item::Fixed(Fixed::Other),
+    ])?;
     Ok(())
 }
 
@@ -492,21 +529,27 @@ fn put_record<'a>(
 fn put_functions(plan: &mut Vec<Item<'_>>) -> Result<(), AllocError>
     ensures { OnOk result (Puts 2 plan.old.items plan.new.items (strict_pieces tree.functions)) }
 {
-    plan.push(Item::Fixed(Fixed::CloseSquare))?;
-    plan.push(Item::Part(1, false))?;
-    put_spaced(Item::Fixed(Fixed::Arrow), plan)?;
-    plan.push(Item::Part(0, false))?;
-    plan.push(Item::Fixed(Fixed::OpenSquare))?;
+    plan.extend_from_slice(&[
+        Item::Fixed(Fixed::CloseSquare),
+        Item::Part(1, false),
+        Item::Blank,
+        Item::Fixed(Fixed::Arrow),
+        Item::Blank,
+        Item::Part(0, false),
+        Item::Fixed(Fixed::OpenSquare),
+    ])?;
     Ok(())
 }
 
 fn put_apply(plan: &mut Vec<Item<'_>>) -> Result<(), AllocError>
     ensures { OnOk result (Puts 2 plan.old.items plan.new.items (strict_pieces tree.apply)) }
 {
-    plan.push(Item::Fixed(Fixed::CloseSquare))?;
-    plan.push(Item::Part(1, false))?;
-    plan.push(Item::Fixed(Fixed::OpenSquare))?;
-    plan.push(Item::Part(0, true))?;
+    plan.extend_from_slice(&[
+        Item::Fixed(Fixed::CloseSquare),
+        Item::Part(1, false),
+        Item::Fixed(Fixed::OpenSquare),
+        Item::Part(0, true),
+    ])?;
     Ok(())
 }
 
@@ -516,9 +559,13 @@ fn put_except<'a>(slots: &'a [Slot], n: usize, plan: &mut Vec<Item<'a>>) -> Resu
 {
     plan.push(Item::Fixed(Fixed::CloseSquare))?;
     put_slots(slots, n, plan)?;
-    put_spaced(Item::Fixed(Fixed::Except), plan)?;
-    plan.push(Item::Part(0, true))?;
-    plan.push(Item::Fixed(Fixed::OpenSquare))?;
+    plan.extend_from_slice(&[
+        Item::Blank,
+        Item::Fixed(Fixed::Except),
+        Item::Blank,
+        Item::Part(0, true),
+        Item::Fixed(Fixed::OpenSquare),
+    ])?;
     Ok(())
 }
 
@@ -543,9 +590,11 @@ fn put_strict<'a>(strict: &'a Strict, n: usize, plan: &mut Vec<Item<'a>>) -> Res
         Strict::Functions => put_functions(plan)?,
         Strict::Apply => put_apply(plan)?,
         Strict::Select(name) => {
-            plan.push(Item::Field(name))?;
-            plan.push(Item::Fixed(Fixed::Dot))?;
-            plan.push(Item::Part(0, true))?;
+            plan.extend_from_slice(&[
+                Item::Field(name),
+                Item::Fixed(Fixed::Dot),
+                Item::Part(0, true),
+            ])?;
         }
         Strict::Except(slots) => put_except(slots, n, plan)?,
     }
@@ -564,15 +613,13 @@ fn put_form<'a>(form: &'a Form, n: usize, plan: &mut Vec<Item<'a>>) -> Result<()
         Form::Strings => plan.push(Item::Fixed(Fixed::Strings))?,
         Form::Name(name) => plan.push(Item::Word(name))?,
         Form::Next(name) => {
-            plan.push(Item::Fixed(Fixed::Prime))?;
-            plan.push(Item::Word(name))?;
+            plan.extend_from_slice(&[Item::Fixed(Fixed::Prime), Item::Word(name)])?;
         }
         Form::Strict(strict) => put_strict(strict, n, plan)?,
         Form::Call(name) => {
             plan.push(Item::Fixed(Fixed::CloseBracket))?;
             put_listed(n, plan)?;
-            plan.push(Item::Fixed(Fixed::OpenBracket))?;
-            plan.push(Item::Word(name))?;
+            plan.extend_from_slice(&[Item::Fixed(Fixed::OpenBracket), Item::Word(name)])?;
         }
         Form::Conjunction => put_operator(Op::And, n, plan)?,
         Form::Disjunction => put_operator(Op::Or, n, plan)?,
@@ -582,8 +629,7 @@ fn put_form<'a>(form: &'a Form, n: usize, plan: &mut Vec<Item<'a>>) -> Result<()
         Form::IfThenElse => put_choice(plan)?,
         Form::Cases(other) => {
             put_arms(*other, n, plan)?;
-            plan.push(Item::Blank)?;
-            plan.push(Item::Fixed(Fixed::Case))?;
+            plan.extend_from_slice(&[Item::Blank, Item::Fixed(Fixed::Case)])?;
         }
         Form::Binding(binder, groups) => put_binding(*binder, groups, plan)?,
         Form::Local(names) => put_local(names, plan)?,

@@ -4,4 +4,4 @@ use Rattle.tla_write.proofs.WritingLemmas.{shown_append, apply_shown}
 use Rattle.tla_write.proofs.write.put_apply.Goals as goal
 
 pub returns : goal.returns
-returns c = λ xs h ps. rw (c.in_ok-push-4.ensures.items, c.in_ok-push-3.ensures.items, c.in_ok-push-2.ensures.items, c.in_ok-push.ensures.items) (simp shown_append (apply_shown xs h (shown xs c.args.plan.now.items ps)))
+returns c = λ xs h ps. rw c.in_ok-extend_from_slice.ensures.items (simp shown_append (apply_shown xs h (shown xs c.args.plan.now.items ps)))

@@ -12,6 +12,6 @@ pub loop-i-preserved : goal.loop-i-preserved
 loop-i-preserved c = (
   omega (arith, c.loop-i.invariant.0),
   λ xs h ps. (let group = λ (g : Vec Name Global). g.items in let e = c.deref.ensures.value ∙ ap group c.index-groups-i.is ∙ map_get group c.args.groups.now (c.loop-i.i - 1) c.index-groups-i.result in
-      rw (c.in_ok-put_names.ensures xs ps, c.in_ok-put_spaced.ensures, c.in_ok-push.ensures.items, c.in_ok-put_comma_if.ensures)
+      rw (c.in_ok-put_names.ensures xs ps, c.in_ok-extend_from_slice.ensures.items, c.in_ok-put_comma_if.ensures)
       (simp shown_append (rw (c.loop-i.invariant.1 xs h ps) (rw e (binds_next (groups_of c.args.groups.now) xs (length c.args.groups.now) c.loop-i.i (group c.index-groups-i.result) (length-map c.args.groups.now group) h (omega (arith, c.loop-i-test.true)) c.loop-i.invariant.0 (shown xs c.args.plan.now.items ps)))))),
 )

@@ -6,5 +6,5 @@ use Rattle.tla_write.proofs.WritingLemmas.{shown_append, except_shown}
 use Rattle.tla_write.proofs.write.put_except.Goals as goal
 
 pub returns : goal.returns
-returns c = λ xs h ps. rw (c.in_ok-push-3.ensures.items, c.in_ok-push-2.ensures.items, c.in_ok-put_spaced.ensures) (simp shown_append (rw (c.in_ok-put_slots.ensures xs h ps, c.in_ok-push.ensures.items)
+returns c = λ xs h ps. rw c.in_ok-extend_from_slice.ensures.items (simp shown_append (rw (c.in_ok-put_slots.ensures xs h ps, c.in_ok-push.ensures.items)
     (simp shown_append (except_shown (slots_of c.args.slots.now) xs (omega (arith, h, c.requires)) (shown xs c.args.plan.now.items ps)))))

@@ -30,14 +30,14 @@ returns-in_ok-push-in-Name c = λ xs h ps. rw c.in_ok-push-in-Name.ensures.items
 pub returns-in_ok-push-in-Truth : goal.returns-in_ok-push-in-Truth
 returns-in_ok-push-in-Truth c = λ xs h ps. rw c.in_ok-push-in-Truth.ensures.items (simp shown_append (ap (λ (k : TokenView). token k ∷ (shown xs c.args.plan.now.items ps)) c.truth.ensures ∙ ap (λ (m : Form). form_pieces (form_of m) xs (shown xs c.args.plan.now.items ps)) (sym c.in-Truth.is)))
 
-pub returns-in_ok-push-in-Next-2 : goal.returns-in_ok-push-in-Next-2
-returns-in_ok-push-in-Next-2 c = λ xs h ps. rw (c.in_ok-push-in-Next-2.ensures.items, c.in_ok-push-in-Next.ensures.items) (simp shown_append (ap (λ (m : Form). form_pieces (form_of m) xs (shown xs c.args.plan.now.items ps)) (sym c.in-Next.is)))
+pub returns-in_ok-extend_from_slice-in-Next : goal.returns-in_ok-extend_from_slice-in-Next
+returns-in_ok-extend_from_slice-in-Next c = λ xs h ps. rw c.in_ok-extend_from_slice-in-Next.ensures.items (simp shown_append (ap (λ (m : Form). form_pieces (form_of m) xs (shown xs c.args.plan.now.items ps)) (sym c.in-Next.is)))
 
-pub returns-in_ok-push-in-Call-3 : goal.returns-in_ok-push-in-Call-3
-returns-in_ok-push-in-Call-3 c = λ xs h ps. rw (c.in_ok-push-in-Call-3.ensures.items, c.in_ok-push-in-Call-2.ensures.items) (simp shown_append (rw (c.in_ok-put_listed-in-Call.ensures xs h ps, c.in_ok-push-in-Call.ensures.items) (simp shown_append (ap (λ (m : Form). form_pieces (form_of m) xs (shown xs c.args.plan.now.items ps)) (sym c.in-Call.is)))))
+pub returns-in_ok-extend_from_slice-in-Call : goal.returns-in_ok-extend_from_slice-in-Call
+returns-in_ok-extend_from_slice-in-Call c = λ xs h ps. rw c.in_ok-extend_from_slice-in-Call.ensures.items (simp shown_append (rw (c.in_ok-put_listed-in-Call.ensures xs h ps, c.in_ok-push-in-Call.ensures.items) (simp shown_append (ap (λ (m : Form). form_pieces (form_of m) xs (shown xs c.args.plan.now.items ps)) (sym c.in-Call.is)))))
 
-pub returns-in_ok-push-in-Cases-2 : goal.returns-in_ok-push-in-Cases-2
-returns-in_ok-push-in-Cases-2 c = λ xs h ps. rw (c.in_ok-push-in-Cases-2.ensures.items, c.in_ok-push-in-Cases.ensures.items) (simp shown_append (rw (c.in_ok-put_arms-in-Cases.ensures xs h ps) (ap (λ (m : Form). form_pieces (form_of m) xs (shown xs c.args.plan.now.items ps)) (sym c.in-Cases.is))))
+pub returns-in_ok-extend_from_slice-in-Cases : goal.returns-in_ok-extend_from_slice-in-Cases
+returns-in_ok-extend_from_slice-in-Cases c = λ xs h ps. rw c.in_ok-extend_from_slice-in-Cases.ensures.items (simp shown_append (rw (c.in_ok-put_arms-in-Cases.ensures xs h ps) (ap (λ (m : Form). form_pieces (form_of m) xs (shown xs c.args.plan.now.items ps)) (sym c.in-Cases.is))))
 
 pub returns-in_ok-put_binding-in-Binding : goal.returns-in_ok-put_binding-in-Binding
 returns-in_ok-put_binding-in-Binding c = λ xs h ps.

@@ -14,5 +14,5 @@ returns-in_ok-push-in-SetOf-2 c = λ xs h ps. rw c.in_ok-push-in-SetOf-2.ensures
 pub returns-in_ok-push-in-Tuple-2 : goal.returns-in_ok-push-in-Tuple-2
 returns-in_ok-push-in-Tuple-2 c = λ xs h ps. rw c.in_ok-push-in-Tuple-2.ensures.items (simp shown_append (rw (c.in_ok-put_listed-in-Tuple.ensures xs h ps, c.in_ok-push-in-Tuple.ensures.items) (simp shown_append (ap (λ (m : Strict). strict_pieces (strict_of m) xs (shown xs c.args.plan.now.items ps)) (sym c.in-Tuple.is)))))
 
-pub returns-in_ok-push-in-Select-3 : goal.returns-in_ok-push-in-Select-3
-returns-in_ok-push-in-Select-3 c = λ xs h ps. rw (c.in_ok-push-in-Select-3.ensures.items, c.in_ok-push-in-Select-2.ensures.items, c.in_ok-push-in-Select.ensures.items) (simp shown_append (select_shown c.in-Select.name xs (h ∙ (subst (λ (m : Strict). StrictShaped (strict_of m) c.args.n) c.in-Select.is c.requires)) (shown xs c.args.plan.now.items ps) ∙ ap (λ (m : Strict). strict_pieces (strict_of m) xs (shown xs c.args.plan.now.items ps)) (sym c.in-Select.is)))
+pub returns-in_ok-extend_from_slice-in-Select : goal.returns-in_ok-extend_from_slice-in-Select
+returns-in_ok-extend_from_slice-in-Select c = λ xs h ps. rw c.in_ok-extend_from_slice-in-Select.ensures.items (simp shown_append (select_shown c.in-Select.name xs (h ∙ (subst (λ (m : Strict). StrictShaped (strict_of m) c.args.n) c.in-Select.is c.requires)) (shown xs c.args.plan.now.items ps) ∙ ap (λ (m : Strict). strict_pieces (strict_of m) xs (shown xs c.args.plan.now.items ps)) (sym c.in-Select.is)))
