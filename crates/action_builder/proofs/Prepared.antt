@@ -6,6 +6,7 @@ use Rattle.tla_value.specs.Value.{Value, Outcome, Sense, fault, over, ◌>>=◌}
 use Rattle.tla_value.specs.Stops.{Check, sense_of}
 use Rattle.tla_value.specs.Strict.{applied, strict_value, strict_test}
 use Rattle.tla_value.specs.Meaning.{just, eval, part_values}
+use Rattle.tla_value.specs.laws.FreeNames.{Any}
 use Rattle.tla_value.specs.Grafts.{owned, own_part, read_tree}
 use Rattle.pcal_tree.specs.Algorithm.{Statements}
 use Rattle.pcal_tree.specs.Scope.{State, deeper, Scope, reach_in}
@@ -13,7 +14,7 @@ use Rattle.pcal_tree.specs.Program.{read_at}
 use Rattle.pcal_tree.specs.Run.{Has, Follow, Rules, unlabelled, run}
 use Rattle.pcal_tree.specs.Expand.{graft_all}
 use Rattle.pcal_tree.specs.laws.Expansion.{Clean, AnyPlace}
-use Rattle.pcal_tree.proofs.GraftRuns.{graft_runs}
+use Rattle.pcal_tree.proofs.GraftRuns.{graft_runs, any_body}
 use Rattle.pcal_tree.proofs.ExpandRuns.{through_meets}
 use Rattle.action_builder.specs.laws.Settling.{to_end, Close}
 use Rattle.action_builder.specs.laws.Scopes.{part_at, StandsAtPath, own_scope, Whole, own_path}
@@ -25,7 +26,7 @@ use Rattle.action_builder.proofs.Settle.{settle_in}
 -- the localised statements have the courses of the statements
 pub localised : (M : Rules) (self : Word) (own : Word → Bool) (here : Word) (ss : Statements) (sc : Scope) → AnyPlace sc → Clean M.check (owned self own) ss → (K : Follow) → run M here (graft_all (owned self own) ss) sc K ≡ run M here ss (own_scope M.check self own sc) K
 localised M self own here ss sc h clean K =
-    graft_runs M (owned self own) here ss clean sc (own_scope M.check self own sc) (through_meets M.check (owned self own) sc h) K K refl
+    graft_runs M (owned self own) Any here ss clean (any_body ss) sc (own_scope M.check self own sc) (through_meets M.check (owned self own) sc h) K K refl
 
 own_parts : (c : Check) (V : Word → Bool) (self : Word) (v : Value) (own : Word → Bool) (sc : Scope) → Whole V self v own sc → (x : Word) → V x ≡ true → (at : Place) (s : State) → (own_scope c self own sc).part x at s ≡ Ok (part_at x (own_path (own x) v))
 own_parts c V self v own sc h x m at s = by (own x) refl

@@ -72,7 +72,7 @@ rules_do P v u I places f sc q k = record {
   goto = λ l inner fit s. subst (λ z. Close (Has z) (Has (finished (jumped P v u l s)))) (sym (pc_law (rules_without_macros P v u) P v places.goto (label_name P u l) inner (k inner fit).own.pc s refl))
       (close_finished _ _ (alike_of _ _ (set_same P.check q places.goto v.own.name.place pc (index v.self) (label_value P u l) s)));
   call = λ at p ts l j inner fit h s. call_does P v u I places inner q (k inner fit) at p ts l j (routine_named p.word (procedure_routines P.algorithm)) refl h s;
-  return = λ at inner fit s. subst (λ z. Close (Has z) (Has (finished (returned P v at.first u s)))) (sym (back (places.return at) inner fit s)) (close_finished _ _ (alike_of _ _ (returned_same P q v (places.return at) at.first u s)));
+  return = λ at inner fit r s. subst (λ z. Close (Has z) (Has (finished (returned P v at.first u s)))) (sym (back (places.return at) inner fit s)) (close_finished _ _ (alike_of _ _ (returned_same P q v (places.return at) at.first u s)));
   bind = λ x w inner h fit. inner_bind f sc x w inner h fit;
 }
   where
@@ -91,3 +91,15 @@ rules_do_pairs P v u I places f sc q k m r =
       return = d.return;
       bind = d.bind;
     }
+
+-- where there are no procedures, no statement calls or returns: of the variables only pc need stand
+pub rules_do_alone : (P : Program) (v : Actor) (u : Routine) (I : InitialValues) (places : JumpPlaces) (f : Word → Bool) (sc : Scope) → P.check ≡ plain
+    → ((inner : Scope) → Inner f sc inner → Rattle.action_builder.specs.laws.Scopes.StandsAtPath inner (index v.self) pc)
+    → DoesAsRules (rules_without_macros P v u) (written_jumps P u I places) (Inner f sc) (In f) Rattle.action_builder.specs.laws.Jumps.no_calls
+rules_do_alone P v u I places f sc q k = record {
+  goto = λ l inner fit s. subst (λ z. Close (Has z) (Has (finished (jumped P v u l s)))) (sym (pc_law (rules_without_macros P v u) P v places.goto (label_name P u l) inner (k inner fit) s refl))
+      (close_finished _ _ (alike_of _ _ (set_same P.check q places.goto v.own.name.place pc (index v.self) (label_value P u l) s)));
+  call = λ at p ts l j inner fit h s. cc;
+  return = λ at inner fit r s. cc;
+  bind = λ x w inner h fit. inner_bind f sc x w inner h fit;
+}

@@ -139,7 +139,7 @@ mutual
   settle_one M W Fit F g d here l at (goto m) rest t sc fit h s = d.goto m sc fit s
   settle_one M W Fit F g d here l at (macro m ts) rest t sc fit h s = absurd t
   settle_one M W Fit F g d here l at (call p ts) rest t sc fit h s = d.call at p ts (label_of rest l) (partner_of rest) sc fit t s
-  settle_one M W Fit F g d here l at return rest t sc fit h s = d.return at sc fit s
+  settle_one M W Fit F g d here l at return rest t sc fit h s = d.return at sc fit t s
 
   -- the law
   pub settle : (M : Rules) (W : WrittenJumps) (Fit : Scope → Type 0) (F : Word → Type 0) (g : Callable) → DoesAsRules M W Fit F g → (here l : Word) (ss : Statements) → Tidy F g ss → (sc : Scope) → Fit sc → CloseCourses (run M unlabelled (settled W here l ss) sc to_end) (run M here ss sc (exit_to M l))

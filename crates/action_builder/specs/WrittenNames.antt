@@ -5,15 +5,14 @@ use Rattle.tla_tree.specs.Tree.{name, Tree, node, no_trees, Graft, graft}
 use Rattle.tla_value.specs.Stops.{plain}
 use Rattle.tla_value.specs.Definitions.{no_state}
 use Rattle.tla_value.specs.Outside.{Outside}
-use Rattle.module_tree.specs.Module.{found}
 use Rattle.pcal_tree.specs.Algorithm.{Statements, Routine, declares, locals, Algorithm}
-use Rattle.pcal_tree.specs.Names.{naming}
 use Rattle.pcal_tree.specs.Program.{Program, written}
+use Rattle.pcal_tree.specs.Programs.{program_in}
 use Rattle.pcal_tree.specs.Expand.{graft_all, expanded}
 
 -- the algorithm with its written names; neither limits nor values of constants matter to what is written
 abbrev pub with_names : Outside → Algorithm → Program
-with_names o a = record { check = plain; constants = no_state; outside = found o.definitions; algorithm = a; naming = naming a o }
+with_names o a = program_in plain o a no_state
 
 -- a routine's own variables and parameters by their written names
 abbrev pub renames : Program → Routine → Graft

@@ -11,6 +11,7 @@ ghost use Rattle.tla_tree.specs.Tree.{Word, Tree};
 ghost use Rattle.tla_value.specs.Value.{Value, NotFalse, IsBad, TrueExactly};
 ghost use Rattle.tla_value.specs.Stops.{Check, plain};
 ghost use Rattle.tla_value.specs.Meaning.{Env, just, bind, eval};
+ghost use Rattle.tla_value.specs.laws.CanonicalNames.{Keeping, Sound, MeansAlike, TestsByValue};
 ghost use Rattle.tla_value.specs.laws.Grafting.{In};
 ghost use Rattle.tla_value.specs.Grafts.{owned};
 ghost use Rattle.tla_value.specs.Definitions.{Valuation};
@@ -108,12 +109,17 @@ pub fn except_makes_the_changes_of_its_parts()
 {}
 
 /// With the expression of a single process put in for `self`, which captures nothing, items have on every pair of states
-/// the truth that they have where `self` is the value of the expression, or trouble of the same kind. The expression means
-/// just its value, but for sets that are tested without being listed, and for names and operators, which have theirs.
+/// the truth that they have where `self` is the value of the expression, or trouble of the same kind: where names stand for
+/// canonical values, and the expression has that value, and tests canonical values for being its members as the value does.
+/// It does so without limits wherever it has a value, if the names do. A value out of order it may test in another way; where
+/// it doesn't, as a form that lists its members, nothing is asked of names.
 pub fn single_processes_have_their_expression_for_self()
-    ensures truth { (c : Check) (self : Word) (e : Tree) (v : Value) (items : Items) → ClearItems c (in_place_of self e) items → (s t : Valuation) (env : Env) → eval c e env ≡ just v
+    ensures truth { (c : Check) → Keeping c → (self : Word) (e : Tree) (v : Value) (items : Items) → ClearItems c (in_place_of self e) items → (s t : Valuation) (env : Env)
+        → Sound env → MeansAlike (eval c e env) (just v) → AgreeButPlaces (items_hold c s t env (graft_items (in_place_of self e) items)) (items_hold c s t (bind self v env) items) }
+    ensures value { (e : Tree) (env : Env) → Sound env → TestsByValue env → (v : Value) → (eval plain e env).value ≡ Ok v → MeansAlike (eval plain e env) (just v) }
+    ensures equal { (c : Check) (self : Word) (e : Tree) (v : Value) (items : Items) → ClearItems c (in_place_of self e) items → (s t : Valuation) (env : Env) → eval c e env ≡ just v
         → AgreeButPlaces (items_hold c s t env (graft_items (in_place_of self e) items)) (items_hold c s t (bind self v env) items) }
-    ensures value { (c : Check) (e : Tree) → IsListed e → (env : Env) (v : Value) → (eval c e env).value ≡ Ok v → eval c e env ≡ just v }
+    ensures listed { (c : Check) (e : Tree) → IsListed e → (env : Env) (v : Value) → (eval c e env).value ≡ Ok v → eval c e env ≡ just v }
 {}
 
 /// Places in items matter to nothing but where a fault is: items that are equal, places aside, have on every pair of

@@ -1,5 +1,5 @@
 -- What Spec demands of small algorithms, by computation.
-use Rattle.std.proofs.Common.{◌≡◌, inl, inr, Bool, List, [], ◌∷◌, true, false, codes, refl, ap, map, Option, Some, None}
+use Rattle.std.proofs.Common.{◌≡◌, inl, inr, ℕ, zero, suc, Bool, List, [], ◌∷◌, ◌++◌, length, true, false, codes, refl, ap, map, Option, Some, None}
 use Rattle.tla_token.specs.Signs.{is_among}
 use Rattle.tla_tree.specs.Tree.{Word, Name, number, Tree, node, no_trees}
 use Rattle.tla_value.specs.Stops.{plain}
@@ -66,6 +66,21 @@ strong = with_main false (processes (caller Strong ∷ []))
 -- in the order of the text, through the calls of procedures
 both_reached : map (λ u. u.name.word) (reached weak (taken_process 3 (caller Weak)).routine) ≡ codes "First" ∷ codes "Third" ∷ []
 both_reached = refl
+
+-- of twenty procedures that call one another in a chain all are reached: what is called is listed once at each step
+abbrev link : ℕ → Word
+link zero = codes "p"
+link (suc n) = codes "p" ++ link n
+
+abbrev chain : ℕ → List Procedure
+chain zero = []
+chain (suc n) = procedure (link (suc n)) (codes "L") (calls (link n)) ∷ chain n
+
+abbrev to_chain : Process
+to_chain = record { name = word (codes "Q"); fairness = Weak; several = false; identity = named (codes "S"); variables = []; body = mark (word (codes "N")) marked.Plain (just (calls (link 20))) }
+
+all_reached : length (reached (record (with_main true (processes (to_chain ∷ []))) { procedures = chain 20 }) (taken_process 20 to_chain).routine) ≡ 20
+all_reached = refl
 
 -- `--fair` comes first, of all labels; then the process, and each procedure that it reaches with its label marked `:+`
 weak_obligations : obligations (program weak)

@@ -27,10 +27,10 @@ abbrev mutual
 abbrev pub called_by : List Routine → List Word
 called_by us = flat_map (λ u. calls u.body) us
 
--- by chains of so many calls at most, in the order of the text
+-- by chains of so many calls at most, in the order of the text; what they call is listed once, for all procedures
 abbrev pub reached_within : ℕ → Algorithm → Routine → List Routine
 reached_within zero a u = []
-reached_within (suc n) a u = filter (λ p. is_among (called_by (u ∷ reached_within n a u)) p.name.word) (procedure_routines a)
+reached_within (suc n) a u = (let called = called_by (u ∷ reached_within n a u) in filter (λ p. is_among called p.name.word) (procedure_routines a))
 
 -- no chain need be longer than there are procedures
 abbrev pub reached : Algorithm → Routine → List Routine

@@ -2,3 +2,4 @@ pub mod Refusals
 pub mod Spelling
 pub mod Holds
 pub mod laws
+pub mod Checking

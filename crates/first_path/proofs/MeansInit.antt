@@ -6,7 +6,7 @@ use Rattle.tla_value.specs.Order.{same}
 use Rattle.tla_value.specs.OrderLaws.{same_is}
 use Rattle.tla_value.specs.Stops.{plain}
 use Rattle.tla_value.specs.Definitions.{Valuation, Definition, no_state}
-use Rattle.tla_value.specs.Outside.{Outside}
+use Rattle.tla_value.specs.Outside.{Outside, found}
 use Rattle.pcal_tree.specs.Algorithm.{Naming}
 use Rattle.pcal_tree.specs.Names.{naming}
 use Rattle.pcal_tree.specs.Scope.{State}
@@ -14,12 +14,10 @@ use Rattle.pcal_tree.specs.Program.{Program}
 use Rattle.pcal_tree.specs.Calls.{label_value}
 use Rattle.pcal_tree.specs.InitialStates.{allowed, Initial}
 use Rattle.module_tree.specs.ActionTruth.{truth_in}
-use Rattle.module_tree.specs.Module.{found}
 use Rattle.module_tree.specs.ModuleTruth.{scope, init_holds}
 use Rattle.module_tree.proofs.Tells.{tells_and, tells_as}
 use Rattle.first_path.specs.Form.{Parts, is_fit}
 use Rattle.first_path.specs.Placed.{Places, label_at, begins_at, algorithm_at, module_at}
-use Rattle.promise.specs.ConstantsAndStates.{on_variables}
 use Rattle.promise.specs.NextAndInit.{InitIs}
 use Rattle.first_path.proofs.Fit.{fit_of}
 use Rattle.first_path.proofs.OutsideApart.{Apart}
@@ -27,7 +25,7 @@ use Rattle.first_path.proofs.Untitled.{found_untitled}
 use Rattle.first_path.proofs.Means.{last_tells, equal_same, number_tells, label_tells}
 use Rattle.first_path.proofs.MeansStep.{program_of, routine, Kept, label_is}
 use Rattle.first_path.proofs.MeansNext.{two_variables, reads_first, label_kept}
-use Rattle.pcal_tree.specs.Variables.{pc}
+use Rattle.pcal_tree.specs.Variables.{pc, on_variables}
 
 -- the variable's test, and then that of pc
 both : Bool → Bool → Outcome Bool

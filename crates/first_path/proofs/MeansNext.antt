@@ -15,7 +15,7 @@ use Rattle.tla_value.proofs.Outcomes.{ok_is}
 use Rattle.tla_value.specs.Stops.{plain}
 use Rattle.tla_value.specs.Meaning.{Env}
 use Rattle.tla_value.specs.Definitions.{Valuation, Definition, or_sense, base, in_states}
-use Rattle.tla_value.specs.Outside.{Outside}
+use Rattle.tla_value.specs.Outside.{Outside, found}
 use Rattle.tla_value.specs.Standard.{standard_name}
 use Rattle.pcal_tree.specs.Algorithm.{Naming}
 use Rattle.pcal_tree.specs.Names.{first_free, kept, taken_outside, naming}
@@ -25,12 +25,10 @@ use Rattle.pcal_tree.specs.Run.{Has}
 use Rattle.pcal_tree.specs.Program.{Program, Actor}
 use Rattle.pcal_tree.specs.Step.{StepFrom, course_of, pc_of, Step, Stutters}
 use Rattle.module_tree.specs.ActionTruth.{Verdict, value_in, truth_in, acted, is_value, is_unchanged, are_unchanged}
-use Rattle.module_tree.specs.Module.{found}
 use Rattle.module_tree.specs.ModuleTruth.{definitions_in, acts_in, scope, next_holds}
 use Rattle.module_tree.proofs.Tells.{tells_and, tells_or, tells_as, tells_of}
 use Rattle.first_path.specs.Form.{number_operand, variable_operand, Right, single, sum, Parts, is_fit}
 use Rattle.first_path.specs.Placed.{Places, right_at, label_at, algorithm_at, module_at}
-use Rattle.promise.specs.ConstantsAndStates.{on_variables}
 use Rattle.promise.specs.NextAndInit.{NextIs}
 use Rattle.first_path.proofs.Names.{all_more, word_same}
 use Rattle.first_path.proofs.Fit.{Fit, fit_of, not_own}
@@ -38,7 +36,7 @@ use Rattle.first_path.proofs.OutsideApart.{other, others, none_other, Apart}
 use Rattle.first_path.proofs.Untitled.{Untitled, looked_through, untitled_append, found_untitled}
 use Rattle.first_path.proofs.Means.{true_tells, last_tells, label_free, StandsFor, result, tells_same, label_tells, value_tells, right_tells}
 use Rattle.first_path.proofs.MeansStep.{program_of, actor, stand, Kept, is_actor, actor_is, stand_is, stands_there, there_stands, course_for, course_is, ended}
-use Rattle.pcal_tree.specs.Variables.{pc, vars, Agree}
+use Rattle.pcal_tree.specs.Variables.{pc, vars, Agree, on_variables}
 use Rattle.pcal_tree.specs.Processes.{IsActor}
 use Rattle.pcal_tree.specs.Faults.{Sound}
 

@@ -7,8 +7,7 @@ use Rattle.tla_tree.specs.Tree.{Word}
 use Rattle.tla_value.specs.Stops.{Check}
 use Rattle.tla_value.specs.Meaning.{Env}
 use Rattle.tla_value.specs.Definitions.{Definition, body_sense, defined, with_definitions}
-use Rattle.tla_value.specs.Outside.{ReadDefinition}
-use Rattle.module_tree.specs.Module.{found}
+use Rattle.tla_value.specs.Outside.{ReadDefinition, found}
 use Rattle.first_path.proofs.OutsideApart.{other}
 
 -- none of the definitions has the name x

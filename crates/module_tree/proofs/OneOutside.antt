@@ -1,9 +1,9 @@
 -- Units outside the translation are known by their tokens, and so are the modules and constants that they see.
 use Rattle.std.proofs.Common.{◌≡◌, ◌⊎◌, Bool, true, List, [], ◌∷◌, ◌++◌, flat_map, length, codes, inl, inr, subst, refl, sym, ap, ◌∙◌}
 use Rattle.tla_tree.specs.Tree.{Word, Name}
-use Rattle.tla_value.specs.Outside.{ReadDefinition}
+use Rattle.tla_value.specs.Outside.{ReadDefinition, found}
 use Rattle.tla_tree.specs.Spelling.{spell, tree_of}
-use Rattle.module_tree.specs.Module.{OutsideUnit, extends, constants, defines, opaque, modules_of, constants_of, definitions_of, found}
+use Rattle.module_tree.specs.Module.{OutsideUnit, extends, constants, defines, opaque, modules_of, constants_of, definitions_of}
 use Rattle.module_tree.specs.Outside.{Sight, Named, Defined, opaque_of, IsRead, IsOutside, AllOutside}
 use Rattle.tla_tree.specs.Lexical.{Token}
 use Rattle.tla_tree.proofs.ReadAll.{one_before}

@@ -10,8 +10,8 @@ use Rattle.tla_tree.specs.Lexical as tk
 use Rattle.tla_tree.specs.Spelling.{Phrase, tree_of}
 use Rattle.tla_tree.specs.Reader.{Out, read}
 use Rattle.tla_tree.specs.Nesting.{text_nesting}
-use Rattle.tla_value.specs.Outside.{ReadDefinition}
-use Rattle.module_tree.specs.Module.{OutsideUnit, extends, constants, defines, opaque, definitions_of, found}
+use Rattle.tla_value.specs.Outside.{ReadDefinition, found}
+use Rattle.module_tree.specs.Module.{OutsideUnit, extends, constants, defines, opaque, definitions_of}
 use Rattle.module_tree.specs.Grammar.{Names, last_name, more_names, names_of}
 use Rattle.module_tree.specs.Units.{ParameterForm, parameters}
 use Rattle.module_tree.specs.Outside.{Sight, definition_reads, opaque_of}

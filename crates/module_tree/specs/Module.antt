@@ -144,7 +144,3 @@ outside_of us = record {
   definitions = flat_map definitions_of us;
   opaque = flat_map unread_of us;
 }
-
--- definitions as an expression finds them
-abbrev pub found : List ReadDefinition → List Definition
-found ds = map (λ d. d.definition) ds

@@ -5,7 +5,8 @@ use Rattle.tla_value.specs.Value.{Value, and_then}
 use Rattle.tla_value.specs.Stops.{Check}
 use Rattle.tla_value.specs.Meaning.{Env}
 use Rattle.tla_value.specs.Definitions.{Valuation, no_state, Definition, scope_of}
-use Rattle.module_tree.specs.Module.{test, unchanged, no_items, item, all_of, Action, Module, found}
+use Rattle.tla_value.specs.Outside.{found}
+use Rattle.module_tree.specs.Module.{test, unchanged, no_items, item, all_of, Action, Module}
 use Rattle.module_tree.specs.ActionTruth.{Verdict, truth_in, Acts, no_acts, acted, acts_of, some_way_holds}
 
 abbrev pub process_set_defined : Option Tree → List Definition

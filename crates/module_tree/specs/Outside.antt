@@ -13,9 +13,9 @@ use Rattle.tla_tree.specs.Spelling.{Phrase, Right, Good, tree_of}
 use Rattle.tla_tree.specs.Nesting.{text_nesting}
 use Rattle.tla_value.specs.Definitions.{Definition}
 use Rattle.tla_value.specs.DefinitionNesting.{definition_nests, depths}
-use Rattle.tla_value.specs.Outside.{Opaque, ReadDefinition}
+use Rattle.tla_value.specs.Outside.{Opaque, ReadDefinition, found}
 use Rattle.tla_value.specs.StandardModules.{extends_one, has_operator, StandardName, standard_table, standard_in, is_member, is_last}
-use Rattle.module_tree.specs.Module.{OutsideUnit, extends, constants, defines, opaque, definitions_of, found}
+use Rattle.module_tree.specs.Module.{OutsideUnit, extends, constants, defines, opaque, definitions_of}
 use Rattle.module_tree.specs.Grammar.{keyword, Names, spell_names, names_of, GoodNames}
 use Rattle.module_tree.specs.Units.{ParameterForm, parameters, GoodParameters, definition_form, spell_unit}
 

@@ -10,17 +10,18 @@ use Rattle.tla_value.specs.declared.fault.FaultKind.TheVariants.{AssertFailed}
 use Rattle.pcal_tree.specs.Assign.{after_assignments}
 use Rattle.pcal_tree.specs.Run.{Course, chooses, course, held, stops, after, at_each, no_partner, partner_of, Follow, Rules, unlabelled, label_of, run_binds, run_one, run, run_branches, arguments, Calling, with_calls, called, with_macros}
 use Rattle.pcal_tree.specs.Expand.{graft_one, graft_all, followed_by, Writing, expand_one, expand, expand_some, written_out, expanded}
-use Rattle.pcal_tree.proofs.GraftRuns.{Meets, graft_runs}
+use Rattle.pcal_tree.proofs.GraftRuns.{Meets, graft_runs, any_body}
 use Rattle.tla_value.specs.Value.{fault}
 use Rattle.pcal_tree.specs.laws.Expansion.{Calls, CallsOne, CallsSome, Chosen, Throughout, FineCall, AnyPlace, BeginsUnlabelled, StaysOne, Stays}
 use Rattle.tla_value.specs.laws.Grafting.{Apart, ApartForm}
+use Rattle.tla_value.specs.laws.FreeNames.{Any}
 use Rattle.pcal_tree.proofs.Uncaptured.{uncaptured}
 
-pub through_meets : (c : Check) (g : Graft) (sc : Scope) → AnyPlace sc → Meets c g sc (through c g sc)
+pub through_meets : (c : Check) (g : Graft) (sc : Scope) → AnyPlace sc → Meets c g Any sc (through c g sc)
 through_meets c g sc free = record {
   env = λ s. record { now = λ x u at. refl; primed = λ x at. refl; defs = λ x u. refl };
-  part = λ x at s. refl;
-  origin = λ x at. refl;
+  part = λ x u at s. refl;
+  origin = λ x u at. refl;
   free = free;
 }
 
@@ -234,7 +235,7 @@ called_law M (d ∷ older) here at m ts h = by (called_law M older) (bytes_eq d.
           opens_graft g (expand (written_out older) d.body) (opens_expand M (called M older) (written_out older) (FineCall older) ih d.body k.1 k.2),
           stays_graft g (expand (written_out older) d.body) (stays_expand M (called M older) (written_out older) (FineCall older) ih d.body k.1 k.3),
           λ sc free K. expand_runs M (called M older) (written_out older) (FineCall older) ih here d.body k.1 (through M.check g sc) (through_free M.check d.params ts sc free) K K refl
-              ∙ sym (graft_runs (with_macros M []) g here (expand (written_out older) d.body) (uncaptured M.check g (expand (written_out older) d.body) k.0) sc (through M.check g sc) (through_meets M.check g sc free) K K refl),
+              ∙ sym (graft_runs (with_macros M []) g Any here (expand (written_out older) d.body) (uncaptured M.check g (expand (written_out older) d.body) k.0) (any_body (expand (written_out older) d.body)) sc (through M.check g sc) (through_meets M.check g sc free) K K refl),
         )
     by ih false k = ih here at m ts k
 

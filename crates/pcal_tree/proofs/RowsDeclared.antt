@@ -1,5 +1,5 @@
 -- Names declared twice, reserved names where they are declared, and names that are used with a wrong number of arguments, tried by computation.
-use Rattle.std.proofs.Common.{◌≡◌, ℕ, List, [], ◌∷◌, true, false, codes, refl}
+use Rattle.std.proofs.Common.{◌≡◌, ℕ, List, [], ◌∷◌, true, false, Some, codes, refl}
 use Rattle.tla_token.specs.declared.rule.Rule.{Rule}
 use Rattle.tla_token.specs.declared.rule.Rule.TheVariants.{Unknown, Duplicate, Reserved, Arity, OpaqueUnit}
 use Rattle.tla_token.specs.declared.rule.Refusal.{Refusal}
@@ -7,7 +7,8 @@ use Rattle.tla_tree.specs.Tree.{Word, Tree, node, operator_call, no_trees, tree}
 use Rattle.tla_value.specs.Outside.{Outside}
 use Rattle.pcal_tree.specs.declared.mark.Fairness.TheVariants.{Unfair}
 use Rattle.pcal_tree.specs.Algorithm.{no_binds, is, Statement, await, with, call, macro, skip, done, unset, Macro, Procedure, alone, processes, Algorithm}
-use Rattle.pcal_tree.specs.OffencesNames.{use_offences_of, repeated_names}
+use Rattle.pcal_tree.specs.NameUses.{takes, use_of}
+use Rattle.pcal_tree.specs.OffencesNames.{sight_inside, use_offences_of, repeated_names}
 use Rattle.pcal_tree.specs.OffencesReserved.{reserved_declared}
 use Rattle.pcal_tree.proofs.Sample.{at, title, x, y, num, sets, labelled, one_body}
 use Rattle.pcal_tree.proofs.RowsOffences.{stands, read, named, q, around}
@@ -52,6 +53,10 @@ global_and_procedure = refl
 
 procedure_and_process : repeated_names (with_names a b c d d) around ≡ one Duplicate 5
 procedure_and_process = refl
+
+-- of two definitions of one name the later is seen, in how it may be used as in what it means
+later_of_two : use_of (sight_inside (record (with_names a b b c d) { definitions = record { name = named 2 b; params = []; body = num 0 } ∷ record { name = named 3 b; params = named 4 c ∷ []; body = num 0 } ∷ [] }) around) b ≡ Some (takes 1)
+later_of_two = refl
 
 -- a global or a definition named as a constant, or as a unit that was not read; a procedure or process may be
 as_a_constant : repeated_names (with_names (codes "N") (codes "Big") b c d) around ≡ record { rule = Duplicate; place = at 1 } ∷ record { rule = Duplicate; place = at 2 } ∷ []

@@ -20,6 +20,7 @@ pub mod StepAnswers
 pub mod Expand
 pub mod Marks
 pub mod Names
+pub mod Programs
 pub mod AlgorithmTokens
 pub mod GrammarParts
 pub mod GrammarP

@@ -149,9 +149,9 @@ sight_outside o =
     map hidden_name (flat_map (λ u. u.names) o.opaque)
     ++ (map plain (words o.constants) ++ (map defined_outside (reverse o.definitions) ++ always_known o.extended))
 
--- globals, and the definitions of the algorithm
+-- globals, and the definitions of the algorithm, the latest first as outside
 abbrev pub sight_inside : Algorithm → Outside → Sight
-sight_inside a o = map defined_inside a.definitions ++ seeing_variables (declared a.globals) (sight_outside o)
+sight_inside a o = map defined_inside (reverse a.definitions) ++ seeing_variables (declared a.globals) (sight_outside o)
 
 abbrev pub in_start : Start → Sight → List Refusal
 in_start unset s = []

@@ -10,5 +10,6 @@ pub mod BoundDefinitions
 pub mod OffencesOnce
 pub mod Choosing
 pub mod Expansion
+pub mod ReadNames
 pub mod Steps
 pub mod DeepForms

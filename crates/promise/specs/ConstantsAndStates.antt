@@ -6,25 +6,23 @@ use Rattle.tla_token.specs.Signs.{is_among}
 use Rattle.tla_tree.specs.Tree.{Word, Each, words}
 use Rattle.tla_value.specs.Value.{Value}
 use Rattle.tla_value.specs.Order.{IsCanonical}
-use Rattle.tla_value.specs.Stops.{plain}
+use Rattle.tla_value.specs.Stops.{Check, plain}
 use Rattle.tla_value.specs.Definitions.{Valuation, no_state}
 use Rattle.pcal_tree.specs.Algorithm.{Algorithm}
-use Rattle.pcal_tree.specs.Names.{naming}
 use Rattle.pcal_tree.specs.Scope.{State}
 use Rattle.pcal_tree.specs.Program.{Program}
+use Rattle.pcal_tree.specs.Programs.{program_in}
 use Rattle.pcal_tree.specs.Variables.{vars}
 use Rattle.pcal_tree.specs.Calls.{defaultInitValue}
-use Rattle.module_tree.specs.Module.{Module, found}
+use Rattle.module_tree.specs.Module.{Module}
 
--- the labelled algorithm g with its written names in the module m, without limits, for these constants
+-- the labelled algorithm g with its written names in the module m, for these constants, under the limits of a run
+abbrev pub program_under : Check → Algorithm → Module → Valuation → Program
+program_under c g m values = program_in c m.outside g values
+
+-- without limits
 abbrev pub program : Algorithm → Module → Valuation → Program
-program g m values = record {
-  check = plain;
-  constants = values;
-  outside = found m.outside.definitions;
-  algorithm = g;
-  naming = naming g m.outside;
-}
+program = program_under plain
 
 -- the written names of the algorithm's variables, in their order; no constant counts here
 abbrev pub variables_of : Algorithm → Module → List Word
@@ -45,7 +43,3 @@ pub record AreConstants (m : Module) (values : Valuation) : Type 0 where
 -- the values of the variables are in canonical order
 abbrev pub IsState : Program → State → Type 0
 IsState P s = Each (λ x. IsCanonical (s x)) (vars P)
-
--- a state as the values of the variables of the translation
-abbrev pub on_variables : Program → State → Valuation
-on_variables P s x = cond (is_among (vars P) x) (Some (s x)) None

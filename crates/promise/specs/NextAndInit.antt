@@ -13,9 +13,10 @@ use Rattle.pcal_tree.specs.Processes.{Proper}
 use Rattle.pcal_tree.specs.Faults.{Sound}
 use Rattle.pcal_tree.specs.Step.{Step, Stutters}
 use Rattle.pcal_tree.specs.InitialStates.{Initial, InitFault}
+use Rattle.pcal_tree.specs.Variables.{on_variables}
 use Rattle.module_tree.specs.Module.{Module}
 use Rattle.module_tree.specs.ModuleTruth.{next_holds, init_holds}
-use Rattle.promise.specs.ConstantsAndStates.{program, AreConstants, IsState, on_variables}
+use Rattle.promise.specs.ConstantsAndStates.{program, AreConstants, IsState}
 
 -- some process steps, or, without the option `--no-terminating`, all are done and nothing changes
 abbrev pub Moves : Bool → Program → State → State → Type 0

@@ -8,3 +8,4 @@ pub mod Trace
 pub mod Shown
 pub mod StopLines
 pub mod Followed
+pub mod Explained

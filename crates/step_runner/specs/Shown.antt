@@ -9,7 +9,7 @@ use Rattle.tla_value.specs.ValueText.{value_text}
 use Rattle.tla_value.specs.Definitions.{Valuation}
 use Rattle.pcal_tree.specs.Scope.{State}
 use Rattle.pcal_tree.specs.Program.{Program, Actor}
-use Rattle.pcal_tree.specs.Variables.{vars}
+use Rattle.pcal_tree.specs.Variables.{vars, on_variables}
 use Rattle.pcal_tree.specs.Calls.{label_name}
 use Rattle.pcal_tree.specs.Processes.{actors}
 use Rattle.pcal_tree.specs.Step.{pc_of, Stand, routines_of}
@@ -20,7 +20,6 @@ use Rattle.source_map.specs.Lines.{place_text}
 use Rattle.module_tree.specs.Module.{Module}
 use Rattle.module_tree.specs.ActionTruth.{Verdict}
 use Rattle.module_tree.specs.ProcessPart.{mine_holds}
-use Rattle.promise.specs.ConstantsAndStates.{on_variables}
 use Rattle.step_runner.specs.Fronts.{Text}
 
 -- ---- what came before a state

@@ -6,12 +6,8 @@ use Rattle.std.proofs.lemmas.Int.{ints}
 use Rattle.tla_value.specs.Value.{Value, Values, truth, int, text, model, set, fun, no_values, and, Outcome, values_in, ◌>>=◌}
 use Rattle.tla_value.specs.Order.{order, count, listed, set_from, pairs_of, IsBefore, IsAscending, IsCanonical, AreCanonical, ArePairsCanonical}
 use Rattle.tla_value.specs.Sets.{kept, sublists, subsets, integers, repeated, fronted, members, choices, functions_over}
+use Rattle.tla_value.specs.laws.CanonicalNames.{Has}
 use Rattle.tla_value.proofs.OrderSets.{set_from_ascending, set_from_canonical, before_next}
-
--- the result, if there is one, has the property
-abbrev pub Has : {X : Type 0} → (X → Type 0) → Outcome X → Type 0
-Has P (Ok x) = P x
-Has P (Err k) = Unit {0}
 
 pub then_has : {X Y : Type 0} (P : X → Type 0) (Q : Y → Type 0) (o : Outcome X) (go : X → Outcome Y) → Has P o → ((x : X) → P x → Has Q (go x)) → Has Q (o >>= go)
 then_has P Q (Ok x) go h k = k x h
@@ -24,10 +20,6 @@ any_has Q (Err j) go k = tt
 pub has_cond : {X : Type 0} (P : X → Type 0) (b : Bool) (o q : Outcome X) → Has P o → Has P q → Has P (cond b o q)
 has_cond P true o q h k = h
 has_cond P false o q h k = k
-
--- a value, if there is one, is canonical
-abbrev pub Proper : Outcome Value → Type 0
-Proper = Has IsCanonical
 
 -- ---- sets
 

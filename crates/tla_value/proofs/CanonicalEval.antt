@@ -8,15 +8,10 @@ use Rattle.tla_value.specs.Value.{Value, Values, no_values, and, Outcome, Sense,
 use Rattle.tla_value.specs.Order.{IsCanonical, AreCanonical, ArePairsCanonical}
 use Rattle.tla_value.specs.Stops.{Check, truth_at, members_at, one_of, two_of, three_of}
 use Rattle.tla_value.specs.Meaning.{Env, Denotation, bind, just, part_values, test, Row, with_first, at_members, at_group, at_choices, suited, at_body, key, is_true, where_true, results, table, gathered, sources, local_value, first_arm, called, meaning_of, eval, evals}
+use Rattle.tla_value.specs.laws.CanonicalNames.{Has, Proper, Keeping, Sound}
 use Rattle.tla_value.proofs.OrderFuns.{fun_from_canonical, seq_from_canonical}
-use Rattle.tla_value.proofs.Canonical.{Has, Proper, then_has, any_has, has_cond, EachList, IsSet, set_canonical}
-use Rattle.tla_value.proofs.CanonicalForms.{AreAll, sets_proper, Keeping, strict_proper}
-
--- names stand for canonical values, and operators give them
-pub record Sound (e : Env) : Type 0 where
-  pub now : (x : Word) (at : Place) → Proper (e.now x at).value
-  pub primed : (x : Word) (at : Place) → Proper (e.primed x at).value
-  pub defs : (x : Word) (at : Place) (vs : List Value) → AreCanonical (values_in vs) → Proper (called at (e.defs x) vs).value
+use Rattle.tla_value.proofs.Canonical.{then_has, any_has, has_cond, EachList, IsSet, set_canonical}
+use Rattle.tla_value.proofs.CanonicalForms.{AreAll, sets_proper, strict_proper}
 
 abbrev pub SoundDen : Denotation → Type 0
 SoundDen d = (e : Env) → Sound e → Proper (d e).value
@@ -36,7 +31,7 @@ sound_bind x v e c r = record {
   defs = r.defs;
 }
 
-sound_values : (ds : List Denotation) (e : Env) → SoundDens ds → Sound e → Has AreAll (part_values ds e)
+pub sound_values : (ds : List Denotation) (e : Env) → SoundDens ds → Sound e → Has AreAll (part_values ds e)
 sound_values [] e h r = tt
 sound_values (d ∷ ds) e h r =
     then_has IsCanonical AreAll (d e).value _ (h.0 e r) (λ v c. then_has AreAll AreAll (part_values ds e) _ (sound_values ds e h.1 r) (λ vs cs. (c, cs)))

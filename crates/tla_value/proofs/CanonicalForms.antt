@@ -15,8 +15,9 @@ use Rattle.tla_value.specs.Order.{same, count, orders, listed, numbers_from, fou
 use Rattle.tla_value.specs.Stops.{Check, truth_at, int_at, members_at, function_at, sequence_at, one_of, two_of}
 use Rattle.tla_value.specs.Sets.{union_of, natural}
 use Rattle.tla_value.specs.Strict.{of_ints, of_sets, of_quotient, operated, space_of, made, applied, changed, changed_at, next_slot, updated, strict_value}
+use Rattle.tla_value.specs.laws.CanonicalNames.{Has, Proper, Keeping}
 use Rattle.tla_value.proofs.OrderFuns.{fun_from_canonical, seq_from_canonical}
-use Rattle.tla_value.proofs.Canonical.{Has, Proper, then_has, any_has, has_cond, EachList, IsSet, append_canonical, listed_canonical, set_canonical, kept_canonical, sets_canonical, subsets_canonical, functions_canonical, count_repeated, repeated_canonical, integers_canonical, pairs_canonical}
+use Rattle.tla_value.proofs.Canonical.{then_has, any_has, has_cond, EachList, IsSet, append_canonical, listed_canonical, set_canonical, kept_canonical, sets_canonical, subsets_canonical, functions_canonical, count_repeated, repeated_canonical, integers_canonical, pairs_canonical}
 
 -- ---- what is needed of a canonical value
 
@@ -207,10 +208,6 @@ slot_proper at [] (v ∷ vs) h = h
 slot_proper at (index ∷ ps) [] h = tt
 slot_proper at (index ∷ ps) (w ∷ vs) h = then_has IsSlot IsSlot (next_slot at ps vs) _ (slot_proper at ps vs h.1) (λ n k. k)
 slot_proper at (field x ∷ ps) vs h = then_has IsSlot IsSlot (next_slot at ps vs) _ (slot_proper at ps vs h) (λ n k. k)
-
--- the check keeps values canonical
-abbrev pub Keeping : Check → Type 0
-Keeping c = (at : Place) (v : Value) → IsCanonical v → Proper (c at v)
 
 slots_proper : (c : Check) → Keeping c → (ns : List Slot) (vs : List Value) (old : Value) → AreAll vs → IsCanonical old → Proper (updated c ns vs old)
 slots_proper c l [] vs old h i = i

@@ -85,7 +85,7 @@ mutual
   pub any_names : (N M : Word → Type 0) → ((y : Word) → N y) → ((y : Word) → M y) → (t : Tree) → FreeNames N M t
   any_names N M h k (node m at ts) = (all_read N M h k m, any_in_parts N M h k (seen_names m) ts)
 
-  any_in_parts : (N M : Word → Type 0) → ((y : Word) → N y) → ((y : Word) → M y) → (names : List (List Word)) (ts : Trees) → FreeInParts N M names ts
+  pub any_in_parts : (N M : Word → Type 0) → ((y : Word) → N y) → ((y : Word) → M y) → (names : List (List Word)) (ts : Trees) → FreeInParts N M names ts
   any_in_parts N M h k names no_trees = tt
   any_in_parts N M h k [] (tree t ts) = (any_names N M h k t, any_in_parts N M h k [] ts)
   any_in_parts N M h k (xs ∷ names) (tree t ts) = (any_names (Also xs N) M (also_any N h xs) k t, any_in_parts N M h k names ts)

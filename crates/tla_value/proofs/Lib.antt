@@ -41,6 +41,8 @@ pub mod UntestedSets
 pub mod Quotient
 pub mod Quantified
 mod RowsScopes
+mod RowsTests
 pub mod Canonical
 pub mod CanonicalForms
 pub mod CanonicalEval
+pub mod CanonicalTests

@@ -33,7 +33,7 @@ pub record Mixed (A : Word → Bool) (U : Word → Type 0) (e f : Env) : Type 0 
   pub defs : (x : Word) → U x → e.defs x ≡ f.defs x
 
 pub primed_law : (c : Check) (A : Word → Bool) (U : Word → Type 0) (t : Tree) → Every (BindsNone A) t → FreeNames U U t → (e f : Env) → Mixed A U e f → eval c (graft (primes A) t) e ≡ eval c t f
-primed_law c A U t k h e f r = free_law c (primes A) U t (every_weaker _ _ (λ m at q. each_weaker _ _ (clear_primes c A) (binders m) q) t k) h e f (record {
+primed_law c A U t k h e f r = free_law c (primes A) U U t (every_weaker _ _ (λ m at q. each_weaker _ _ (clear_primes c A) (binders m) q) t k) h e f (record {
   now = λ x u at. r.now x u at ∙ read_primed c (A x) x at e;
   primed = r.primed;
   defs = r.defs;

@@ -1,6 +1,6 @@
 -- What a module has outside its algorithm and the translation: what is read of it, and what is kept of units that are passed on unread
 -- ("Specifying Systems", chapter 17).
-use Rattle.std.specs.Prelude.{List}
+use Rattle.std.specs.Prelude.{List, map}
 use Rattle.tla_token.specs.declared.place.Place.{Place}
 use Rattle.tla_tree.specs.Tree.{Word, Name}
 use Rattle.tla_value.specs.Definitions.{Definition}
@@ -15,6 +15,10 @@ pub record Opaque : Type 0 where
 pub record ReadDefinition : Type 0 where
   pub definition : Definition
   pub place : Place
+
+-- as an expression finds them
+abbrev pub found : List ReadDefinition → List Definition
+found ds = map (λ d. d.definition) ds
 
 -- its units, each kind in the order of the text
 pub record Outside : Type 0 where

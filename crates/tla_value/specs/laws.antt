@@ -6,3 +6,4 @@ pub mod Places
 pub mod Grafting
 pub mod UnderLimits
 pub mod WrittenStrings
+pub mod CanonicalNames

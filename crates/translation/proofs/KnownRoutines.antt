@@ -58,7 +58,7 @@ outside_none o x h =
 
 globals_inside : (a : Algorithm) (o : Outside) (x : Word) → assignable (sight_inside a o) x ≡ true → declares a.globals x ≡ true
 globals_inside a o x h =
-    by (is_among (declared a.globals) x) (declared_or (declared a.globals) (sight_outside o) x (past defined_inside (λ d. refl) a.definitions (seeing_variables (declared a.globals) (sight_outside o)) x h))
+    by (is_among (declared a.globals) x) (declared_or (declared a.globals) (sight_outside o) x (past defined_inside (λ d. refl) (reverse a.definitions) (seeing_variables (declared a.globals) (sight_outside o)) x h))
   where
     by : (b : Bool) → (b || assignable (sight_outside o) x) ≡ true → b ≡ true
     by true q = refl

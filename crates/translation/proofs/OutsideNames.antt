@@ -9,11 +9,11 @@ use Rattle.tla_tree.specs.Lexical.{TokenView, Token, mark}
 use Rattle.tla_tree.specs.Lexical as tk
 use Rattle.tla_tree.specs.Spelling.{tree_of, spell}
 use Rattle.tla_tree.specs.TokenViews.{view, views}
-use Rattle.tla_value.specs.Outside.{Outside, Opaque, ReadDefinition}
+use Rattle.tla_value.specs.Outside.{Outside, Opaque, ReadDefinition, found}
 use Rattle.module_tree.specs.FileParts.{before_first, up_to_first, after_first, is_newline, holds_algorithm, after_comment, region_of, before_spot, after_spot}
 use Rattle.module_tree.specs.FileUnits.{token_in, with_token, tokens_in, begins_unit, Cut, cut_at, cut, units_in}
 use Rattle.module_tree.specs.Grammar.{Names, last_name, more_names, spell_names, names_of, see}
-use Rattle.module_tree.specs.Module.{OutsideUnit, extends, constants, defines, opaque, constants_of, definitions_of, unread_of, outside_of, found}
+use Rattle.module_tree.specs.Module.{OutsideUnit, extends, constants, defines, opaque, constants_of, definitions_of, unread_of, outside_of}
 use Rattle.module_tree.specs.Outside.{Sight, identifiers, first_one, is_define, title_at, keyword_of, names_by, opaque_of, Named, Defined, IsOutside, AllOutside}
 use Rattle.module_tree.specs.TextFront.{Text}
 use Rattle.module_tree.specs.Units.{ParameterForm, spell_parameters, parameters}

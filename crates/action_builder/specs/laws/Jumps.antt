@@ -44,7 +44,11 @@ fitting P (Some p) ts = as_many (written_all P p p.params) ts
 
 -- no call that is one statement with a `return`
 abbrev pub callable : Program → Callable
-callable P p ts j = not (is_return j) && fitting P (routine_named p.word (procedure_routines P.algorithm)) ts
+callable P = record { calls = λ p ts j. not (is_return j) && fitting P (routine_named p.word (procedure_routines P.algorithm)) ts; returns = true }
+
+-- where there are no procedures
+abbrev pub no_calls : Callable
+no_calls = record { calls = λ p ts j. false; returns = false }
 
 -- x stands nowhere in the tree as a name
 abbrev pub is_name : Word → Form → Bool
@@ -61,7 +65,7 @@ abbrev mutual
 
 -- also those that are one statement with a `return`; no argument has the name of the old stack
 abbrev pub callable_in_pairs : Program → Callable
-callable_in_pairs P p ts j = fitting P (routine_named p.word (procedure_routines P.algorithm)) ts && all_lack old_stack ts
+callable_in_pairs P = record { calls = λ p ts j. fitting P (routine_named p.word (procedure_routines P.algorithm)) ts && all_lack old_stack ts; returns = true }
 
 -- the variables of the routine and of each procedure are at the process's identifier, and initial values are written as they are
 pub record RoutinesStand (P : Program) (v : Actor) (u : Routine) (I : InitialValues) (sc : Scope) : Type 0 where

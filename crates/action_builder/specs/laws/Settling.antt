@@ -3,7 +3,7 @@ use Rattle.std.specs.Prelude.{◌≡◌, ◌↔◌, Bool, true, ◌||◌, Ok}
 use Rattle.tla_tree.specs.Tree.{Word, Trees}
 use Rattle.tla_value.specs.Value.{Value, Outcome, IsBad}
 use Rattle.tla_value.specs.Meaning.{evals, part_values}
-use Rattle.pcal_tree.specs.Algorithm.{Name, Span, Binds, no_binds, one_of, is, Statement, branch, either, with, while, macro, call, Statements, done, then, mark, Branches, no_branches, or}
+use Rattle.pcal_tree.specs.Algorithm.{Name, Span, Binds, no_binds, one_of, is, Statement, branch, either, with, while, macro, call, return, Statements, done, then, mark, Branches, no_branches, or}
 use Rattle.pcal_tree.specs.Scope.{State, Scope, bound, places_of}
 use Rattle.pcal_tree.specs.Run.{Course, ends, Has, after, Partner, no_partner, partner_of, Follow, Rules, unlabelled, run}
 use Rattle.action_builder.specs.Settled.{WrittenJumps, jumps, jumps_some}
@@ -23,9 +23,10 @@ EachBind F no_binds = Unit {0}
 EachBind F (one_of x e bs) = F x.word × EachBind F bs
 EachBind F (is x e bs) = F x.word × EachBind F bs
 
--- the calls that can be written, with their partners
-abbrev pub Callable : Type 0
-Callable = Name → Trees → Partner → Bool
+-- the calls that can be written, with their partners, and whether a `return` can
+pub record Callable : Type 0 where
+  pub calls : Name → Trees → Partner → Bool
+  pub returns : Bool
 
 -- no macro call is left, what jumps ends its list, each name of a `with` has F, and each call is one of g
 abbrev mutual
@@ -35,7 +36,8 @@ abbrev mutual
   TidyOne F g (with bs b) rest = Tidy F g b × (jumps b ≡ true → Stops rest) × EachBind F bs
   TidyOne F g (while e b) rest = Tidy F g b
   TidyOne F g (macro m ts) rest = ⊥
-  TidyOne F g (call p ts) rest = g p ts (partner_of rest) ≡ true
+  TidyOne F g (call p ts) rest = g.calls p ts (partner_of rest) ≡ true
+  TidyOne F g return rest = g.returns ≡ true
   TidyOne F g _ rest = Unit {0}
 
   pub Tidy : (Word → Type 0) → Callable → Statements → Type 0
@@ -65,7 +67,7 @@ CloseCourses K L = (s : State) → Close (Has (K s)) (Has (L s))
 -- the assignments do what a jump, a call and a return do, in the scopes that fit
 pub record DoesAsRules (M : Rules) (W : WrittenJumps) (Fit : Scope → Type 0) (F : Word → Type 0) (g : Callable) : Type 0 where
   pub goto : (l : Word) (sc : Scope) → Fit sc → CloseCourses (run M unlabelled (W.goto l) sc to_end) (M.goto l)
-  pub call : (at : Span) (p : Name) (ts : Trees) (l : Word) (j : Partner) (sc : Scope) → Fit sc → g p ts j ≡ true
+  pub call : (at : Span) (p : Name) (ts : Trees) (l : Word) (j : Partner) (sc : Scope) → Fit sc → g.calls p ts j ≡ true
       → CloseCourses (run M unlabelled (W.call at p ts l j) sc to_end) (λ s. after (part_values (evals M.check ts) (sc.env s)) (λ vs. M.call at.first p.word (places_of ts sc) vs l j s))
-  pub return : (at : Span) (sc : Scope) → Fit sc → CloseCourses (run M unlabelled (W.return at) sc to_end) (M.return at.first)
+  pub return : (at : Span) (sc : Scope) → Fit sc → g.returns ≡ true → CloseCourses (run M unlabelled (W.return at) sc to_end) (M.return at.first)
   pub bind : (x : Word) (v : Value) (sc : Scope) → F x → Fit sc → Fit (bound x v sc)
