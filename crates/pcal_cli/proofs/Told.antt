@@ -1,24 +1,21 @@
 -- What was read is what is told, and what is written for it went out.
-use Rattle.std.specs.Prelude.{IfSome, OnOk, OnErr}
-use Rattle.std.proofs.Common.{◌≡◌, ◌⊎◌, ℕ, ◌<◌, ◌≤◌, List, [], length, Option, Some, None, Result, Ok, Err, ◌∙◌, refl, ap, sym, subst, inl, inr, arith}
+use Rattle.std.specs.Prelude.{IfSome}
+use Rattle.std.proofs.Common.{◌≡◌, ◌⊎◌, ℕ, ◌<◌, ◌≤◌, List, [], length, Option, Some, None, Ok, Err, ◌∙◌, refl, sym, subst, inl, inr, arith}
 use Rattle.std.proofs.lemmas.Option.{none-some}
-use Rattle.outer_io.specs.declared.Failed.{Failed}
-use Rattle.outer_io.specs.Outer.{Texts, told_at, HasText, Tells, HasNoText, Grows, GrowsInPart, RoseBy}
+use Rattle.outer_io.specs.Outer.{Texts, HasText, Tells, HasNoText, Grows, GrowsInPart}
 use Rattle.tla_token.specs.declared.rule.Refusal.{Refusal}
 use Rattle.tla_token.specs.Limits.{most_bytes}
-use Rattle.tla_tree.specs.Tree.{Word}
 use Rattle.command_words.specs.Commands.{Command, translates, checks, rewrites, maps, runs, traces, makes}
 use Rattle.file_answer.proofs.OneAnswer as rewritings
-use Rattle.pcal_cli.specs.Words.{file_of, file_meant}
+use Rattle.pcal_cli.specs.Words.{file_of}
 use Rattle.pcal_cli.specs.Translating.{AnswersTranslation}
 use Rattle.pcal_cli.proofs.Translating.{one_answer}
 use Rattle.pcal_cli.specs.Asked.{Refuses, HasOffence, Accepts, Makes, Promises}
-use Rattle.pcal_cli.specs.declared.status.Answer.{Answer}
 use Rattle.pcal_cli.specs.declared.status.Answer.TheVariants as answer
 use Rattle.pcal_cli.specs.declared.status.Status.{Status}
 use Rattle.pcal_cli.specs.declared.status.Status.TheVariants.{Memory, Usage}
 use Rattle.pcal_cli.specs.Answers.{line_of}
-use Rattle.pcal_cli.specs.Causes.{OfCommand, OfText, IsCause, Writes, WritesInPart, KeepsPromise, Told, Explains}
+use Rattle.pcal_cli.specs.Causes.{OfCommand, IsCause, Writes, WritesInPart, KeepsPromise, Told, Explains}
 
 -- a fact of the text that was read is one of the text that is told
 pub told : (ts : Option Texts) (file v : List ℕ) (P : List ℕ → Type 0) → HasText ts file v → P v → Tells ts file P
