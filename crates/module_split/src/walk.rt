@@ -259,6 +259,7 @@ fn region_len(text: &[u8], marked: bool, endless: &mut bool) -> Option<usize>
     requires { endless.old ≡ true → end_at false text.now ≡ None }
     ensures found { result ≡ (if marked then None else end_at false text.now) }
     ensures known { endless.new ≡ true → end_at false text.now ≡ None }
+    ensures learned { marked ≡ false → end_at false text.now ≡ None → endless.new ≡ true }
 {
     if marked || *endless {
         return None;

@@ -1,51 +1,56 @@
--- Texts that go out one after the other, and the digits of a number.
-use Rattle.std.proofs.Common.{◌≡◌, ℕ, zero, suc, ◌+◌, ◌-◌, ◌*◌, ◌/◌, ◌%◌, ◌^◌, ◌<◌, List, [], ◌∷◌, ◌++◌, length, take, drop, set, Option, Some, None, refl, sym, subst, ap, ◌∙◌, arith, append_assoc, length-append, codes}
-use Rattle.std.proofs.lemmas.List.{take-append-le, drop-set}
-use Rattle.std.proofs.Math.Seq.{take-append-add}
+-- The digits of a number, and how long a rule's name is.
+use Rattle.std.proofs.Common.{◌≡◌, ℕ, zero, suc, ◌+◌, ◌-◌, ◌*◌, ◌/◌, ◌%◌, ◌^◌, ◌<◌, ◌≤◌, List, [], ◌∷◌, ◌++◌, length, drop, set, refl, sym, subst, ap, ◌∙◌, arith, append_assoc}
+use Rattle.std.proofs.lemmas.List.{drop-set}
 use Rattle.std.proofs.Math.Nat.{pow-suc}
 use Rattle.std.specs.Fmt.{decimal}
 use Rattle.std.proofs.lemmas.Fmt.{decimal_digit, decimal_step}
-use Rattle.outer_io.specs.Outer.{Grows, GrowsInPart}
-use Rattle.tla_token.specs.declared.rule.Refusal.{Refusal}
-use Rattle.tla_token.specs.Rules.{rule_text, refusal_text}
-use Rattle.tla_tree.specs.Tree.{Word}
-use Rattle.pcal_cli.specs.Answers.{refused_line}
+use Rattle.tla_token.specs.declared.rule.Rule.{Rule}
+use Rattle.tla_token.specs.declared.rule.Rule.TheVariants.{NotAscii, BadToken, OpenComment, OpenString, NoModule, NoAlgorithm, TwoAlgorithms, BadRegion, Placement, Options, LeftOutWord, NumberTooBig, TooMany, TooDeep, Syntax, Unknown, Duplicate, Rebind, Reserved, Arity, NotVariable, NeedsModule, OutsideVariable, OpaqueUnit, ProcessNotConstant, InitSelf, InitLater, Infinite, DefinedStale, SelfOutside, FirstLabel, WhileLabel, AfterJump, AfterBranch, LabelInside, AssignTwice, UnknownLabel, ReturnOutside, DoubleLabel, TooLarge, BadLine}
+use Rattle.tla_token.specs.Rules.{rule_name}
 
-pub grows_both : (old mid new : Option (List ℕ)) (a b : List ℕ) → Grows old mid a → Grows mid new b → Grows old new (a ++ b)
-grows_both None mid new a b g h = rw g at h
-grows_both (Some old) mid new a b g h =
-    let k : new ≡ Some ((old ++ a) ++ b) = rw g at h in
-    let e : (old ++ a) ++ b ≡ old ++ (a ++ b) = append_assoc old a b in
-    k ∙ ap Some e
-
--- a part of the second piece
-pub part_two : (old mid new : Option (List ℕ)) (a b c : List ℕ) → Grows old mid a → GrowsInPart mid new b → GrowsInPart old new (a ++ b ++ c)
-part_two old mid new a b c g (n, l, h) =
-    let e : take (length a + n) ((a ++ b) ++ c) ≡ a ++ take n b =
-    rw (append_assoc a b c, take-append-add a (b ++ c) n, take-append-le n b c (omega arith)) refl in
-    (length a + n, simp length-append (omega arith), rw e (grows_both old mid new a (take n b) g h))
-
--- a part of the third
-pub part_three : (old mid last new : Option (List ℕ)) (a b c : List ℕ) → Grows old mid a → Grows mid last b → GrowsInPart last new c → GrowsInPart old new (a ++ b ++ c)
-part_three old mid last new a b c g h (n, l, k) =
-    let e : take (length (a ++ b) + n) ((a ++ b) ++ c) ≡ (a ++ b) ++ take n c = take-append-add (a ++ b) c n in
-    (length (a ++ b) + n, simp length-append (omega arith), rw e (grows_both old last new (a ++ b) (take n c) (grows_both old mid last a b g h) k))
-
--- a part of the first
-pub part_one : (old new : Option (List ℕ)) (a b c : List ℕ) → GrowsInPart old new a → GrowsInPart old new (a ++ b ++ c)
-part_one old new a b c (n, l, h) =
-    let e : take n ((a ++ b) ++ c) ≡ take n a = rw (append_assoc a b c) (take-append-le n a (b ++ c) (omega arith)) in
-    (n, simp length-append (omega arith), rw e h)
-
-pub all_three : (old mid last new : Option (List ℕ)) (a b c : List ℕ) → Grows old mid a → Grows mid last b → Grows last new c → Grows old new (a ++ b ++ c)
-all_three old mid last new a b c g h k = grows_both old last new (a ++ b) c (grows_both old mid last a b g h) k
-
--- the pieces of a refusal, and of its line
-pub refusal_parts : (r : Refusal) → refusal_text r ≡ (decimal r.place.line ++ (codes ":" ++ decimal r.place.col)) ++ codes ": " ++ rule_text r.rule
-refusal_parts r = simp append_assoc
-
-pub refused_parts : (file : Word) (r : Refusal) → refused_line file r ≡ (codes "pcal: " ++ (file ++ codes ":")) ++ refusal_text r ++ codes "\n"
-refused_parts file r = simp append_assoc
+-- no rule's name is long
+pub short_name : (r : Rule) → length (rule_name r) ≤ 18
+short_name NotAscii = omega arith
+short_name BadToken = omega arith
+short_name OpenComment = omega arith
+short_name OpenString = omega arith
+short_name NoModule = omega arith
+short_name NoAlgorithm = omega arith
+short_name TwoAlgorithms = omega arith
+short_name BadRegion = omega arith
+short_name Placement = omega arith
+short_name Options = omega arith
+short_name LeftOutWord = omega arith
+short_name NumberTooBig = omega arith
+short_name TooMany = omega arith
+short_name TooDeep = omega arith
+short_name Syntax = omega arith
+short_name Unknown = omega arith
+short_name Duplicate = omega arith
+short_name Rebind = omega arith
+short_name Reserved = omega arith
+short_name Arity = omega arith
+short_name NotVariable = omega arith
+short_name NeedsModule = omega arith
+short_name OutsideVariable = omega arith
+short_name OpaqueUnit = omega arith
+short_name ProcessNotConstant = omega arith
+short_name InitSelf = omega arith
+short_name InitLater = omega arith
+short_name Infinite = omega arith
+short_name DefinedStale = omega arith
+short_name SelfOutside = omega arith
+short_name FirstLabel = omega arith
+short_name WhileLabel = omega arith
+short_name AfterJump = omega arith
+short_name AfterBranch = omega arith
+short_name LabelInside = omega arith
+short_name AssignTwice = omega arith
+short_name UnknownLabel = omega arith
+short_name ReturnOutside = omega arith
+short_name DoubleLabel = omega arith
+short_name TooLarge = omega arith
+short_name BadLine = omega arith
 
 -- ---- digits
 

@@ -1,22 +1,21 @@
 -- What was read is what is told, and what is written for it went out.
-use Rattle.std.specs.Prelude.{IfSome, OnOk, OnErr}
-use Rattle.std.proofs.Common.{◌≡◌, ◌⊎◌, ℕ, ◌<◌, ◌≤◌, List, [], length, Option, Some, None, Result, Ok, Err, ◌∙◌, refl, ap, sym, subst, inl, inr, arith}
+use Rattle.std.specs.Prelude.{IfSome}
+use Rattle.std.proofs.Common.{◌≡◌, ◌⊎◌, ℕ, ◌<◌, ◌≤◌, List, [], length, Option, Some, None, Ok, Err, ◌∙◌, refl, sym, subst, inl, inr, arith}
 use Rattle.std.proofs.lemmas.Option.{none-some}
-use Rattle.outer_io.specs.declared.Failed.{Failed}
-use Rattle.outer_io.specs.Outer.{Texts, told_at, HasText, Tells, HasNoText, Grows, GrowsInPart, RoseBy}
+use Rattle.outer_io.specs.Outer.{Texts, HasText, Tells, HasNoText, Grows, GrowsInPart}
 use Rattle.tla_token.specs.declared.rule.Refusal.{Refusal}
 use Rattle.tla_token.specs.Limits.{most_bytes}
-use Rattle.tla_tree.specs.Tree.{Word}
 use Rattle.command_words.specs.Commands.{Command, translates, checks, rewrites, maps, runs, traces, makes}
 use Rattle.file_answer.proofs.OneAnswer as rewritings
-use Rattle.pcal_cli.specs.Words.{file_of, file_meant}
+use Rattle.pcal_cli.specs.Words.{file_of}
 use Rattle.pcal_cli.specs.Translating.{AnswersTranslation}
 use Rattle.pcal_cli.proofs.Translating.{one_answer}
 use Rattle.pcal_cli.specs.Asked.{Refuses, HasOffence, Accepts, Makes, Promises}
-use Rattle.pcal_cli.specs.declared.status.Answer.{Answer}
 use Rattle.pcal_cli.specs.declared.status.Answer.TheVariants as answer
-use Rattle.pcal_cli.specs.Answers.{status_of, line_of}
-use Rattle.pcal_cli.specs.Causes.{OfCommand, OfText, IsCause, Writes, WritesInPart, KeepsPromise, Told, Explains}
+use Rattle.pcal_cli.specs.declared.status.Status.{Status}
+use Rattle.pcal_cli.specs.declared.status.Status.TheVariants.{Memory, Usage}
+use Rattle.pcal_cli.specs.Answers.{line_of}
+use Rattle.pcal_cli.specs.Causes.{OfCommand, IsCause, Writes, WritesInPart, KeepsPromise, Told, Explains}
 
 -- a fact of the text that was read is one of the text that is told
 pub told : (ts : Option Texts) (file v : List ℕ) (P : List ℕ → Type 0) → HasText ts file v → P v → Tells ts file P
@@ -44,6 +43,9 @@ read t e (inr p) = p
 -- a text that was refused, t as it was looked at
 pub refused : (ts : Option Texts) (file t v : List ℕ) (R : List ℕ → Refusal → Type 0) (r : Refusal) → HasText ts file v → t ≡ v → R t r → Tells ts file (λ x. R x r)
 refused ts file t v R r h e k = told ts file v (λ x. R x r) h (subst (λ x. R x r) e k)
+
+pub has_offence : (c : Command) (ts : Option Texts) (file t v : List ℕ) (r : Refusal) → HasText ts file v → t ≡ v → Refuses c t r → Tells ts file (HasOffence c)
+has_offence c ts file t v r h e k = told ts file v (HasOffence c) h (r, subst (λ x. Refuses c x r) e k)
 
 -- b: what the command writes for it, w as it was handed out
 pub writes : (c : Command) (ts : Option Texts) (file t v b w : List ℕ) (old new : Option (List ℕ)) → HasText ts file v → t ≡ v → Makes c t b → w ≡ b → Grows old new w → Tells ts file (Writes old new c)
@@ -93,44 +95,23 @@ done c ts file R W P p = of_all ts file (λ x. length x ≤ most_bytes → Accep
 pub unwritten : (c : Command) (ts : Option Texts) (file : List ℕ) (R W P : Type 0) → W → Tells ts file (λ x. length x ≤ most_bytes → Accepts c x → (R → ⊥) → (W → ⊥) → P)
 unwritten c ts file R W P w = of_all ts file (λ x. length x ≤ most_bytes → Accepts c x → (R → ⊥) → (W → ⊥) → P) (λ x l o r v. absurd (v w))
 
--- ---- what holds of a command and of its file's text, said otherwise
+-- ---- the line on the error output
 
-pub of_command : (o : Option Command) (P Q : Command → Type 0) → ((c : Command) → P c → Q c) → OfCommand o P → OfCommand o Q
-of_command None P Q f h = tt
-of_command (Some c) P Q f h = f c h
-
-pub of_text : (o : Option Command) (ts : Option Texts) (D E : Command → List ℕ → Type 0) → ((c : Command) (x : List ℕ) → D c x → E c x) → OfText ts o D → OfText ts o E
-of_text o ts D E f h = of_command o (λ c. Tells ts (file_of c) (D c)) (λ c. Tells ts (file_of c) (E c)) (λ c k. by c (told_at ts (file_of c)) k) h
-  where
-    by : (c : Command) (t : Option (List ℕ)) → IfSome t (D c) → IfSome t (E c)
-    by c None k = tt
-    by c (Some x) k = f c x k
-
-pub of_any_command : (o : Option Command) (Q : Command → Type 0) → ((c : Command) → Q c) → OfCommand o Q
+-- what holds of each command
+of_any_command : (o : Option Command) (Q : Command → Type 0) → ((c : Command) → Q c) → OfCommand o Q
 of_any_command None Q q = tt
 of_any_command (Some c) Q q = q c
 
-pub of_any_text : (o : Option Command) (ts : Option Texts) (E : Command → List ℕ → Type 0) → ((c : Command) (x : List ℕ) → E c x) → OfText ts o E
-of_any_text o ts E q = of_any_command o (λ c. Tells ts (file_of c) (E c)) (λ c. of_all ts (file_of c) (E c) (q c))
-
--- the line of an answer was written, f being the file as it was looked at
-pub explains : (ts : Option Texts) (o : Option Command) (f : Word) (a : Answer) (r : Result (Unit {0}) Failed) (old new : Option (List ℕ)) (before after : ℕ) → f ≡ file_meant o → OfCommand o (λ c. IsCause ts (file_of c) (Refuses c) a)
-    → OnOk r (Grows old new (line_of a f)) → OnErr r (GrowsInPart old new (line_of a f)) → OnErr r (RoseBy 1 before after) → OnOk r (after ≡ before)
-    → Explains ts o (status_of a) old new before after
-explains ts o f a r old new before after e cause ok part rose same = record { answer = a; is = refl; cause = cause; told = subst (λ x. Told old new before after (line_of a x)) e (by r ok part rose same) }
-  where
-    by : (r : Result (Unit {0}) Failed) → OnOk r (Grows old new (line_of a f)) → OnErr r (GrowsInPart old new (line_of a f)) → OnErr r (RoseBy 1 before after) → OnOk r (after ≡ before) → Told old new before after (line_of a f)
-    by (Ok u) ok part rose same = inl (ok, same)
-    by (Err e) ok part rose same = inr (part, rose)
-
--- no memory is no refusal
+-- no memory is no refusal, and no command is none
 memory_cause : (ts : Option Texts) (o : Option Command) → OfCommand o (λ c. IsCause ts (file_of c) (Refuses c) answer.Memory)
 memory_cause ts o = of_any_command o (λ c. IsCause ts (file_of c) (Refuses c) answer.Memory) (λ c. tt)
 
--- the line that says that there is no memory names no file
-pub out_of_memory : (ts : Option Texts) (o : Option Command) (f : Word) (a : Answer) (r : Result (Unit {0}) Failed) (old new : Option (List ℕ)) (before after : ℕ) → a ≡ answer.Memory
-    → OnOk r (Grows old new (line_of a f)) → OnErr r (GrowsInPart old new (line_of a f)) → OnErr r (RoseBy 1 before after) → OnOk r (after ≡ before)
-    → Explains ts o (status_of a) old new before after
-out_of_memory ts o f a r old new before after e ok part rose same =
-    subst (λ (b : Answer). Explains ts o (status_of b) old new before after) (sym e)
-    (explains ts o (file_meant o) answer.Memory r old new before after refl (memory_cause ts o) (subst (λ (b : Answer). OnOk r (Grows old new (line_of b f))) e ok) (subst (λ (b : Answer). OnErr r (GrowsInPart old new (line_of b f))) e part) rose same)
+usage_cause : (ts : Option Texts) (o : Option Command) → OfCommand o (λ c. IsCause ts (file_of c) (Refuses c) answer.Usage)
+usage_cause ts o = of_any_command o (λ c. IsCause ts (file_of c) (Refuses c) answer.Usage) (λ c. tt)
+
+-- the lines that name no file
+pub memory_told : (ts : Option Texts) (o : Option Command) (s : Status) (old new : Option (List ℕ)) (before after : ℕ) → s ≡ Memory → Told old new before after (line_of answer.Memory []) → Explains ts o s old new before after
+memory_told ts o s old new before after e t = rw e (record { answer = answer.Memory; is = refl; cause = memory_cause ts o; told = t })
+
+pub usage_told : (ts : Option Texts) (o : Option Command) (old new : Option (List ℕ)) (before after : ℕ) → Told old new before after (line_of answer.Usage []) → Explains ts o Usage old new before after
+usage_told ts o old new before after t = record { answer = answer.Usage; is = refl; cause = usage_cause ts o; told = t }

@@ -3,6 +3,7 @@ pub mod Tasks
 pub mod Answers
 pub mod Asked
 pub mod Causes
+pub mod Answered
 pub mod FormSeen
 pub mod Translating
 pub mod Checked

@@ -48,6 +48,3 @@ command_in ws = if_run (meaning commands (words_of ws))
 abbrev pub words_given : Result (IntoIter (String Global) Global) Error → List (String Global)
 words_given (Ok ws) = into_iter_items ws
 words_given (Err e) = []
-
-abbrev pub file_in : List (String Global) → Word
-file_in ws = file_meant (command_in ws)

@@ -2,7 +2,7 @@
 //! goes out at once.
 
 ghost use Rattle.std.specs.Prelude.{◌≡◌, ◌+◌, ◌≤◌, ◌++◌, [], drop, length, decimal, codes, IfOk, vec_len, vec_capacity};
-ghost use Rattle.tla_token.specs.Rules.{rule_text, refusal_text};
+ghost use Rattle.tla_token.specs.Rules.{rule_text};
 ghost use Rattle.pcal_cli.specs.Answers.{refused_line, line_of};
 ghost use Rattle.pcal_cli.specs.Causes.{Told};
 

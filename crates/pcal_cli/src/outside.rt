@@ -5,7 +5,6 @@ ghost use Rattle.std.specs.List.{list_any, flat_map};
 ghost use Rattle.tla_token.specs.Signs.{is_among as is_among_of};
 ghost use Rattle.tla_token.specs.Words.{is_standard as is_standard_of};
 ghost use Rattle.tla_token.specs.TokensSeen.{kind_seen};
-ghost use Rattle.tla_tree.specs.Lexical.{other};
 ghost use Rattle.tla_tree.specs.TokenViews.{word_kind, kind_of};
 ghost use Rattle.module_tree.specs.FileUnits.{begins_unit as begins_unit_of, cut};
 ghost use Rattle.module_tree.specs.Outside.{identifiers, first_one, is_define as is_define_of, title_at, opaque_of};
@@ -19,30 +18,9 @@ ghost use Rattle.pcal_cli.specs.OutsideTokens.{view_seen, views_ahead, views_of,
 use crate::form::{Form, Right};
 use crate::names::{is_own, is_sequence_name, is_standard, is_tlc_name};
 use crate::rest::Rest;
+use module_split::unit_start::{begins_at, is_expression_word};
 use tla_token::word::{is_among, is_pluscal_word, is_tla_word};
-use tla_token::{Kind, Place, Sign, Token, Tokens};
-
-/// The reserved words of TLA+ that stand in expressions.
-static EXPRESSION_WORDS: [&str; 15] = [
-    "IF", "THEN", "ELSE", "CASE", "OTHER", "LET", "IN", "EXCEPT", "TRUE", "FALSE", "BOOLEAN",
-    "STRING", "SUBSET", "UNION", "DOMAIN",
-];
-
-/// The reserved words that begin a unit.
-static UNIT_WORDS: [&str; 12] = [
-    "ASSUME",
-    "ASSUMPTION",
-    "AXIOM",
-    "CONSTANT",
-    "CONSTANTS",
-    "EXTENDS",
-    "INSTANCE",
-    "LOCAL",
-    "RECURSIVE",
-    "THEOREM",
-    "VARIABLE",
-    "VARIABLES",
-];
+use tla_token::{Kind, Sign, Token, Tokens};
 
 /// The words after which a unit may have a name.
 static TITLED: [&str; 4] = ["ASSUME", "ASSUMPTION", "AXIOM", "THEOREM"];
@@ -73,7 +51,7 @@ fn seen_word(word: &[u8]) -> Seen<'_>
         Seen::Identifier(word)
     } else if !is_tla_word(word) {
         Seen::Identifier(word)
-    } else if is_among(&EXPRESSION_WORDS, word) {
+    } else if is_expression_word(word) {
         Seen::Neither
     } else {
         Seen::Keyword(word)
@@ -92,20 +70,13 @@ fn look<'a>(tokens: &'a Tokens, token: &Token) -> Seen<'a>
     }
 }
 
-/// Whether a unit begins with this word or sign at a place.
-fn begins_at(place: Place, word: &[u8]) -> bool
-    ensures { result ≡ begins_unit_of (record { kind = other word.now; place = place }) }
-{
-    (place.col == 1 && is_among(&UNIT_WORDS, word)) || word.starts_with(b"----")
-}
-
 /// Whether a unit begins with this token.
 fn begins_unit(tokens: &Tokens, token: &Token) -> bool
     ensures { result ≡ begins_unit_of (view_seen tokens.now.bytes.items token.now) }
 {
     match look(tokens, token) {
         Seen::Identifier(_) => token.place.col == 1,
-        Seen::Keyword(word) => begins_at(token.place, word),
+        Seen::Keyword(word) => begins_at(token.place.col, word),
         Seen::Neither => false,
     }
 }

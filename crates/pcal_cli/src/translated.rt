@@ -1,6 +1,6 @@
 //! A text with the translation of its algorithm, or why there is none.
 
-ghost use Rattle.std.specs.Prelude.{◌≡◌, ◌<◌, ◌≤◌, ◌^◌, [], true, length, take, drop, Some, None, IfOk, IfErr, MatchOption};
+ghost use Rattle.std.specs.Prelude.{◌≡◌, ◌<◌, ◌≤◌, ◌^◌, [], true, length, Some, None, IfOk, IfErr, MatchOption};
 ghost use Rattle.tla_token.specs.Tokens.{stretch};
 ghost use Rattle.pcal_tree.specs.InMemory.{algorithm_at, past_algorithm};
 ghost use Rattle.module_tree.specs.Layout.{layout};
@@ -24,6 +24,7 @@ use pcal_tree::algorithm::Algorithm;
 use rewriting::read_parts;
 use std::alloc::{AllocError, Global};
 use tla_pool::Pool;
+use tla_token::token::{head, tail};
 use tla_token::{Place, Refusal, Rule, Span, Stop};
 use tla_tree::Text;
 
@@ -34,20 +35,6 @@ const LEFT_OUT: Refusal = Refusal {
 };
 
 // ---- reading
-
-/// The bytes from an index on, if there are any.
-fn tail(text: &[u8], at: usize) -> &[u8]
-    ensures { result.now ≡ drop at text.now }
-{
-    if at <= text.len() { &text[at..] } else { &[] }
-}
-
-/// So many bytes in front, or all.
-fn head(text: &[u8], n: usize) -> &[u8]
-    ensures { result.now ≡ take n text.now }
-{
-    if n <= text.len() { &text[..n] } else { text }
-}
 
 /// The bytes of a stretch.
 fn bytes_of(text: &[u8], span: Span) -> &[u8]

@@ -1,6 +1,6 @@
 //! A file with its algorithm printed in the place where it is.
 
-ghost use Rattle.std.specs.Prelude.{◌≤◌, ◌≡◌, ◌++◌, length, take, drop, IfOk, OnOk};
+ghost use Rattle.std.specs.Prelude.{◌≤◌, ◌≡◌, ◌++◌, length, IfOk, OnOk};
 ghost use Rattle.tla_tree.specs.laws.InText.{ends_word};
 ghost use Rattle.pcal_tree.specs.InMemory.{algorithm_at, past_algorithm};
 ghost use Rattle.module_split.specs.Splitting.{Splits};
@@ -15,20 +15,7 @@ use std::alloc::{AllocError, Global};
 use syntax_print::write_in;
 use tla_pool::Pool;
 use tla_token::bytes::is_word;
-
-/// The bytes from an index on, if there are any.
-fn tail(text: &[u8], at: usize) -> &[u8]
-    ensures { result.now ≡ drop at text.now }
-{
-    if at <= text.len() { &text[at..] } else { &[] }
-}
-
-/// So many bytes in front, or all.
-fn head(text: &[u8], n: usize) -> &[u8]
-    ensures { result.now ≡ take n text.now }
-{
-    if n <= text.len() { &text[..n] } else { text }
-}
+use tla_token::token::{head, tail};
 
 /// Whether a text ends or goes on with a byte of no word.
 fn ends_word(text: &[u8]) -> bool

@@ -70,15 +70,15 @@ impl Tokens {
     }
 }
 
-// The bytes from an index on, if there are any.
-fn tail(bytes: &[u8], at: usize) -> &[u8]
+/// The bytes from an index on, if there are any.
+pub fn tail(bytes: &[u8], at: usize) -> &[u8]
     ensures { result.now ≡ drop at bytes.now }
 {
     if at <= bytes.len() { &bytes[at..] } else { &[] }
 }
 
-// So many bytes in front, or all.
-fn head(bytes: &[u8], n: usize) -> &[u8]
+/// So many bytes in front, or all.
+pub fn head(bytes: &[u8], n: usize) -> &[u8]
     ensures { result.now ≡ take n bytes.now }
 {
     if n <= bytes.len() { &bytes[..n] } else { bytes }

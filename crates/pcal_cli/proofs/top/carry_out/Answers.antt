@@ -1,80 +1,126 @@
--- Proves what is asked of `carry_out`.
-use Rattle.std.proofs.Common.{inr}
+-- Proves what is asked of `carry_out`: the answers of a file that was read.
+use Rattle.std.proofs.Common.{rules, inr}
 use Rattle.outer_io.specs.Outer.{RoseBy}
 use Rattle.pcal_cli.specs.declared.status.Status.TheVariants.{Fine, WriteFault}
 use Rattle.pcal_cli.specs.Causes.{IsDone}
 use Rattle.pcal_cli.specs.Words.{file_of}
 use Rattle.pcal_cli.specs.Tasks.{as_command}
 use Rattle.pcal_cli.specs.Asked.{Refuses}
-use Rattle.pcal_cli.proofs.Told.{told, read, done, unwritten, refused, not_lacking, writes, writes_in_part, keeps, unoffending, offending, unlong}
+use Rattle.pcal_cli.proofs.Told.{told, read, done, unwritten, refused, has_offence, not_lacking, writes, writes_in_part, keeps, unoffending, offending, unlong}
 use Rattle.pcal_cli.proofs.top.carry_out.Goals as goal
-
-pub returns-in-Ok-put_all-clause-lacking : goal.returns-in-Ok-put_all-clause-lacking
-returns-in-Ok-put_all-clause-lacking g c = not_lacking _ _ _ (rw c.file.ensures at c.in-Ok.ensures.text)
-
-pub returns-in-Ok-put_all-clause-long : goal.returns-in-Ok-put_all-clause-long
-returns-in-Ok-put_all-clause-long g c = unlong _ _ _ _ _ (rw c.file.ensures at c.in-Ok.ensures.text) c.in-Ok.ensures.short
-
-pub returns-in-Ok-put_all-clause-offends : goal.returns-in-Ok-put_all-clause-offends
-returns-in-Ok-put_all-clause-offends g c = unoffending (as_command c.args.task) _ _ _ _ _ (rw c.file.ensures at c.in-Ok.ensures.text) c.deref.ensures.value c.in-Ok-written.ensures.clean
-
-pub returns-in-Ok-put_all-clause-fine : goal.returns-in-Ok-put_all-clause-fine
-returns-in-Ok-put_all-clause-fine g c = λ e. writes (as_command c.args.task) _ _ _ _ _ _ _ _ (rw c.file.ensures at c.in-Ok.ensures.text) c.deref.ensures.value c.in-Ok-written.ensures.makes c.deref-in-Ok-written.ensures.value c.in-Ok-put_all.ensures.ok
 
 pub returns-in-Ok-put_all-clause-headline : goal.returns-in-Ok-put_all-clause-headline
 returns-in-Ok-put_all-clause-headline g c = λ e. keeps (as_command c.args.task) _ _ _ _ _ _ _ _ (rw c.file.ensures at c.in-Ok.ensures.text) c.deref.ensures.value c.in-Ok-written.ensures.promises c.deref-in-Ok-written.ensures.value c.in-Ok-put_all.ensures.ok
 
-pub returns-in-Ok-written-clause-lacking : goal.returns-in-Ok-written-clause-lacking
-returns-in-Ok-written-clause-lacking g c = not_lacking _ _ _ (rw c.file.ensures at c.in-Ok.ensures.text)
-
-pub returns-in-Ok-written-clause-long : goal.returns-in-Ok-written-clause-long
-returns-in-Ok-written-clause-long g c = unlong _ _ _ _ _ (rw c.file.ensures at c.in-Ok.ensures.text) c.in-Ok.ensures.short
-
-pub returns-in-Ok-written-clause-offends : goal.returns-in-Ok-written-clause-offends
-returns-in-Ok-written-clause-offends g c = unoffending (as_command c.args.task) _ _ _ _ _ (rw c.file.ensures at c.in-Ok.ensures.text) c.deref.ensures.value c.in-Ok-written.ensures.clean
-
-pub returns-in-Ok-written-clause-in_part : goal.returns-in-Ok-written-clause-in_part
-returns-in-Ok-written-clause-in_part g c = λ e. writes_in_part (as_command c.args.task) _ _ _ _ _ _ _ _ (rw c.file.ensures at c.in-Ok.ensures.text) c.deref.ensures.value c.in-Ok-written.ensures.makes c.deref-in-Ok-written.ensures.value c.in-Err.ensures.err
-
 pub returns-in-Err-Refused-clause-refused : goal.returns-in-Err-Refused-clause-refused
 returns-in-Err-Refused-clause-refused g c = refused _ _ _ _ (Refuses (as_command c.args.task)) _ (rw c.file.ensures at c.in-Ok.ensures.text) c.deref.ensures.value (rw c.in-Err-Refused.field-0-is at c.in-Err-Refused.ensures.stopped)
 
-pub returns-in-Err-Refused-clause-complete : goal.returns-in-Err-Refused-clause-complete
-returns-in-Err-Refused-clause-complete g c = offending (as_command c.args.task) _ _ _ _ _ _ _ _ (rw c.file.ensures at c.in-Ok.ensures.text) c.deref.ensures.value (rw c.in-Err-Refused.field-0-is at c.in-Err-Refused.ensures.stopped)
-
-pub returns-in-Err-Refused-clause-long : goal.returns-in-Err-Refused-clause-long
-returns-in-Err-Refused-clause-long g c = unlong _ _ _ _ _ (rw c.file.ensures at c.in-Ok.ensures.text) c.in-Ok.ensures.short
-
--- nothing was in the way, or a call of the output failed
-pub returns-in-Ok-put_all-clause-complete : goal.returns-in-Ok-put_all-clause-complete
-returns-in-Ok-put_all-clause-complete g c =
+pub returns-in-Ok-put_all-clause-answered : goal.returns-in-Ok-put_all-clause-answered
+returns-in-Ok-put_all-clause-answered g c =
+    let C = as_command c.args.task in
     let R = RoseBy 1 (g.H.Shelf.faults c.args.shelf.now) (g.H.Shelf.faults c.load.new.shelf) in
     let W = RoseBy 1 (g.K.Sink.faults c.args.out.now) (g.K.Sink.faults c.put_all.new.sink) in
-    done (as_command c.args.task) (g.H.Shelf.texts c.args.shelf.now) (file_of (as_command c.args.task)) R W (IsDone Fine) tt
+    let text = rw c.file.ensures at c.in-Ok.ensures.text in
+    record {
+      answer = search rules;
+      usage = search rules;
+      no_command = search rules;
+      read_fault = search rules;
+      write_fault = search rules;
+      too_long = search rules;
+      longer = search rules;
+      refused = search rules;
+      lacking = not_lacking _ _ _ text;
+      long = unlong _ _ _ _ _ text c.in-Ok.ensures.short;
+      offends = unoffending C _ _ _ _ _ text c.deref.ensures.value c.in-Ok-written.ensures.clean;
+      complete = done C (g.H.Shelf.texts c.args.shelf.now) (file_of C) R W (IsDone Fine) tt;
+      unread = search rules;
+      unused = search rules;
+      fine = λ e. writes C _ _ _ _ _ _ _ _ text c.deref.ensures.value c.in-Ok-written.ensures.makes c.deref-in-Ok-written.ensures.value c.in-Ok-put_all.ensures.ok;
+      in_part = search rules;
+      texts_stay = search rules;
+      given_whole = λ u. told _ _ _ _ text c.in-Ok.ensures.given;
+      within = search rules;
+      read_once = rw c.file.ensures at c.in-Ok.ensures.read_once;
+      read_few = search rules;
+      given_grows = search rules;
+      read_faults_grow = search rules;
+      write_faults_grow = search rules;
+      read_counted = inr (read _ _ c.in-Ok.ensures.counted);
+      one_read_fault = search rules;
+      write_counted = inr c.in-Ok-put_all.ensures.ok_faults;
+      one_write_fault = search rules;
+    }
 
-pub returns-in-Ok-written-clause-complete : goal.returns-in-Ok-written-clause-complete
-returns-in-Ok-written-clause-complete g c =
+pub returns-in-Ok-written-clause-answered : goal.returns-in-Ok-written-clause-answered
+returns-in-Ok-written-clause-answered g c =
+    let C = as_command c.args.task in
     let R = RoseBy 1 (g.H.Shelf.faults c.args.shelf.now) (g.H.Shelf.faults c.load.new.shelf) in
     let W = RoseBy 1 (g.K.Sink.faults c.args.out.now) (g.K.Sink.faults c.put_all.new.sink) in
-    unwritten (as_command c.args.task) (g.H.Shelf.texts c.args.shelf.now) (file_of (as_command c.args.task)) R W (IsDone WriteFault) c.in-Err.ensures.cause
+    let text = rw c.file.ensures at c.in-Ok.ensures.text in
+    record {
+      answer = search rules;
+      usage = search rules;
+      no_command = search rules;
+      read_fault = search rules;
+      write_fault = search rules;
+      too_long = search rules;
+      longer = search rules;
+      refused = search rules;
+      lacking = not_lacking _ _ _ text;
+      long = unlong _ _ _ _ _ text c.in-Ok.ensures.short;
+      offends = unoffending C _ _ _ _ _ text c.deref.ensures.value c.in-Ok-written.ensures.clean;
+      complete = unwritten C (g.H.Shelf.texts c.args.shelf.now) (file_of C) R W (IsDone WriteFault) c.in-Err.ensures.cause;
+      unread = search rules;
+      unused = search rules;
+      fine = search rules;
+      in_part = λ e. writes_in_part C _ _ _ _ _ _ _ _ text c.deref.ensures.value c.in-Ok-written.ensures.makes c.deref-in-Ok-written.ensures.value c.in-Err.ensures.err;
+      texts_stay = search rules;
+      given_whole = λ u. told _ _ _ _ text c.in-Ok.ensures.given;
+      within = search rules;
+      read_once = rw c.file.ensures at c.in-Ok.ensures.read_once;
+      read_few = search rules;
+      given_grows = search rules;
+      read_faults_grow = search rules;
+      write_faults_grow = search rules;
+      read_counted = inr (read _ _ c.in-Ok.ensures.counted);
+      one_read_fault = search rules;
+      write_counted = search rules;
+      one_write_fault = search rules;
+    }
 
-pub returns-in-Ok-put_all-clause-given : goal.returns-in-Ok-put_all-clause-given
-returns-in-Ok-put_all-clause-given g c = λ u. told _ _ _ _ (rw c.file.ensures at c.in-Ok.ensures.text) c.in-Ok.ensures.given
-
-pub returns-in-Ok-put_all-clause-read_counted : goal.returns-in-Ok-put_all-clause-read_counted
-returns-in-Ok-put_all-clause-read_counted g c = inr (read _ _ c.in-Ok.ensures.counted)
-
-pub returns-in-Ok-put_all-clause-write_counted : goal.returns-in-Ok-put_all-clause-write_counted
-returns-in-Ok-put_all-clause-write_counted g c = inr c.in-Ok-put_all.ensures.ok_faults
-
-pub returns-in-Ok-written-clause-given : goal.returns-in-Ok-written-clause-given
-returns-in-Ok-written-clause-given g c = λ u. told _ _ _ _ (rw c.file.ensures at c.in-Ok.ensures.text) c.in-Ok.ensures.given
-
-pub returns-in-Ok-written-clause-read_counted : goal.returns-in-Ok-written-clause-read_counted
-returns-in-Ok-written-clause-read_counted g c = inr (read _ _ c.in-Ok.ensures.counted)
-
-pub returns-in-Ok-put_all-clause-read_once : goal.returns-in-Ok-put_all-clause-read_once
-returns-in-Ok-put_all-clause-read_once g c = rw c.file.ensures at c.in-Ok.ensures.read_once
-
-pub returns-in-Ok-written-clause-read_once : goal.returns-in-Ok-written-clause-read_once
-returns-in-Ok-written-clause-read_once g c = rw c.file.ensures at c.in-Ok.ensures.read_once
+pub returns-in-Err-Refused-clause-answered : goal.returns-in-Err-Refused-clause-answered
+returns-in-Err-Refused-clause-answered g c =
+    let C = as_command c.args.task in
+    let text = rw c.file.ensures at c.in-Ok.ensures.text in
+    let cause = rw c.in-Err-Refused.field-0-is at c.in-Err-Refused.ensures.stopped in
+    record {
+      answer = search rules;
+      usage = search rules;
+      no_command = search rules;
+      read_fault = search rules;
+      write_fault = search rules;
+      too_long = search rules;
+      longer = search rules;
+      refused = λ e. has_offence C _ _ _ _ _ text c.deref.ensures.value cause;
+      lacking = not_lacking _ _ _ text;
+      long = unlong _ _ _ _ _ text c.in-Ok.ensures.short;
+      offends = search rules;
+      complete = offending C _ _ _ _ _ _ _ _ text c.deref.ensures.value cause;
+      unread = search rules;
+      unused = search rules;
+      fine = search rules;
+      in_part = search rules;
+      texts_stay = search rules;
+      given_whole = λ u. told _ _ _ _ text c.in-Ok.ensures.given;
+      within = search rules;
+      read_once = rw c.file.ensures at c.in-Ok.ensures.read_once;
+      read_few = search rules;
+      given_grows = search rules;
+      read_faults_grow = search rules;
+      write_faults_grow = search rules;
+      read_counted = inr (read _ _ c.in-Ok.ensures.counted);
+      one_read_fault = search rules;
+      write_counted = search rules;
+      one_write_fault = search rules;
+    }
