@@ -1,7 +1,6 @@
 //! `command_rows`: reads rows of words and files from `rows.txt`, and prints what the commands of `pcal` answer to each.
 #![tactic(auto)]
 
-mod escapes;
 mod rows;
 
 use rows::put_row;

@@ -1,8 +1,8 @@
 // A row: files, and lists of words, each of which is answered over the files that stand before it.
 
-use crate::escapes::{lines_of, put_shown, word_of};
 use outer_io::{MemShelf, MemSink};
 use pcal_cli::{number, pcal};
+use row_text::{lines_of, put_shown, word_of};
 use std::alloc::{AllocError, Global};
 
 /// A file of a row: its name, and its text as the row spells it, if it has lines.
