@@ -2,10 +2,6 @@
 #![tactic(auto)]
 
 #[cfg(test)]
-mod form_tests;
-#[cfg(test)]
-mod rewrite_tests;
-#[cfg(test)]
 mod tests;
 
 use outer_io::{DiskShelf, StdSink};
