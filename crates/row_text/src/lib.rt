@@ -1,8 +1,8 @@
-//! Rows of a file: what is to be done with which text, as anybody can write it.
+//! What the texts in a file of rows spell, and how the bytes of an answer are shown: what can't be printed stands between two backticks.
 #![tactic(auto)]
 
-mod escape;
-mod section;
+mod shown;
+mod spelled;
 
-pub use escape::plain;
-pub use section::{Section, Sections, sections_of};
+pub use shown::put_shown;
+pub use spelled::{bytes_of, lines_of, word_of};
