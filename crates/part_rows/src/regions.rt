@@ -1,22 +1,23 @@
-//! A module with every kind of item, written to the byte.
+//! A module with every kind of item, made in memory and written.
 
 ghost use Rattle.std.specs.Prelude.{◌≡◌, ◌≤◌, ◌<◌, ◌∷◌, [], length, IfOk};
 ghost use Rattle.module_write.specs.InMemory.{past_items, ActionsIn, AllFairnessIn, WaysIn, RegionIn};
+ghost use Rattle.module_tree.specs.Walk.{walk};
+ghost use Rattle.module_tree.specs.FileParts.{region_of, spot};
+ghost use Rattle.std.specs.Prelude.{not, is_some, Some};
 ghost use Rattle.tla_value.specs.Defs.{DefinitionsIn};
 
 use module_text::{
-    Action, Body, Call, Fairness, Item, Module, Outside, Parts, Region, Way, with_translation,
-    write_module, write_region,
+    Action, Body, Call, Fairness, Item, Module, Outside, Parts, Region, Way, write_module,
+    write_region,
 };
-use module_write::formulas::{at, binds_self, equal, functions_from, is_in, named, quoted, set};
 use module_write::ways::sets;
 use std::alloc::{AllocError, Global};
 use tla_pool::Pool;
 use tla_pool::form::{Form, Strict};
-use tla_token::{Place, Span, Tokens};
-use tla_tree::{Binder, Name, NameList, NodeId, Op, Text};
+use tla_token::Place;
+use tla_tree::{Name, NameList, NodeId, Op, Text};
 use tla_value::names::{Definition, Defs};
-use tla_write::write_expr;
 
 const PLACE: Place = Place { line: 1, col: 1 };
 
@@ -201,117 +202,21 @@ fn put_all(alloc: Global, pool: &mut Pool) -> Result<Numbers, AllocError>
     })
 }
 
-const WANTED: &[u8] = b"CONSTANT defaultInitValue
-
-VARIABLES x, pc
-
-N == x = 1
-
-Op(a, b) == x = 1
-
-vars == <<x, pc>>
-
-ProcSet == S \\cup T
-
-Init ==
-  /\\ x = 1
-  /\\ S
-
-A(self) ==
-  /\\ (x = 1)
-  /\\ x' = (x = 1)
-  /\\ \\E y \\in S :
-       /\\ (S)
-  /\\ LET y == x = 1 IN
-       /\\ (S)
-  /\\ IF x = 1
-     THEN
-       /\\ (S)
-       /\\ UNCHANGED <<x, pc>>
-     ELSE
-       /\\ (S)
-  /\\
-       \\/
-            /\\ (S)
-       \\/
-            /\\ UNCHANGED <<x>>
-
-P ==
-  \\/ A(S)
-
-Terminating ==
-  /\\ (x = 1)
-  /\\ UNCHANGED vars
-
-Next ==
-  \\/ \\E self \\in ProcSet : F(S)
-  \\/ \\E self \\in S : P(S)
-  \\/ Q
-  \\/ Terminating
-
-Spec ==
-  /\\ Init
-  /\\ [][Next]_vars
-  /\\ \\A self \\in S : WF_vars((x = 1) /\\ P(S))
-  /\\ SF_vars(Q)
-
-Termination == <>(x = 1)
-";
-
-#[test]
-fn every_kind_of_item_is_written(rt: HostRuntime) -> Result<(), AllocError> {
-    let alloc = rt.alloc();
+/// Appends the translation of the sample.
+pub fn put_region(alloc: Global, told: &mut Vec<u8>) -> Result<(), AllocError> {
     let mut pool = Pool::new(alloc);
     let e = put_all(alloc, &mut pool)?;
     let region = sample(alloc, pool.len(), e)?;
     let mut text = Text::new(Vec::new(alloc));
-    text.push(b'|')?;
     write_region(alloc, &pool, &region, &mut text)?;
-    assert_eq!(rt; text.bytes()[0], b'|');
-    assert!(rt; &text.bytes()[1..] == WANTED);
-    Ok(())
+    told.extend_from_slice(text.bytes())
 }
 
-// No token.
-fn none(alloc: Global) -> Tokens {
-    Tokens {
-        bytes: Vec::new(alloc),
-        items: Vec::new(alloc),
-        end: PLACE,
-    }
-}
-
-#[test]
-fn each_process_has_its_set(rt: HostRuntime) -> Result<(), AllocError> {
-    let alloc = rt.alloc();
-    let mut pool = Pool::new(alloc);
-    let e = put_all(alloc, &mut pool)?;
-    assert_eq!(rt; sets(alloc, &pool, 2, e.both)?.len(), 2);
-    assert_eq!(rt; sets(alloc, &pool, 1, e.both)?.len(), 1);
-    assert_eq!(rt; sets(alloc, &pool, 3, e.equal)?.len(), 1);
-    Ok(())
-}
-
-// A file without a translation; the place of one is at byte 38.
-const FILE: &[u8] = b"---- MODULE M ----\n(*--algorithm A\n*)\n====\n";
-
-#[test]
-fn a_translation_is_put_in_its_place(rt: HostRuntime) -> Result<(), AllocError> {
-    let alloc = rt.alloc();
-    let parts = Parts {
-        text: FILE,
-        title: Span { from: 12, to: 13 },
-        spot: Span { from: 38, to: 38 },
-        is_new: true,
-        algorithm: Span { from: 21, to: 34 },
-        is_c: false,
-        before: none(alloc),
-        after: none(alloc),
-    };
-    let written = with_translation(alloc, &parts, b"VARIABLES x\n")?;
-    let wanted =
-        b"---- MODULE M ----\n(*--algorithm A\n*)\n\\* BEGIN TRANSLATION\nVARIABLES x\n\\* END TRANSLATION\n====\n";
-    assert!(rt; written.as_slice() == wanted.as_slice());
+/// Appends a file with the translation of the sample.
+pub fn put_module(alloc: Global, told: &mut Vec<u8>, parts: &Parts<'_>) -> Result<(), AllocError>
+    requires spot { spot (walk parts.now.text.now) ≡ Some (record { from = parts.now.spot.from; to = parts.now.spot.to }) }
+    requires is_new { is_some (region_of (walk parts.now.text.now)) ≡ not parts.now.is_new }
+{
     let mut pool = Pool::new(alloc);
     let e = put_all(alloc, &mut pool)?;
     let module = Module {
@@ -319,49 +224,15 @@ fn a_translation_is_put_in_its_place(rt: HostRuntime) -> Result<(), AllocError> 
         outside: Outside::new(alloc),
         region: sample(alloc, pool.len(), e)?,
     };
-    let written = write_module(alloc, &pool, &parts, &module)?;
-    assert_eq!(rt; written.len(), FILE.len() + 40 + WANTED.len());
-    Ok(())
+    told.extend_from_slice(&write_module(alloc, &pool, parts, &module)?)
 }
 
-#[test]
-fn formulas_over_self_are_put(rt: HostRuntime) -> Result<(), AllocError> {
-    let alloc = rt.alloc();
+/// Whether two processes, one process and an expression that is no union have as many sets.
+pub fn each_process_has_its_set(alloc: Global) -> Result<bool, AllocError> {
     let mut pool = Pool::new(alloc);
-    let pc = named(alloc, &mut pool, name(alloc, b"pc")?)?;
-    let here = named(alloc, &mut pool, name(alloc, b"self")?)?;
-    assert!(rt; pc < pool.len() && here < pool.len());
-    let place = at(alloc, &mut pool, pc, here)?;
-    assert!(rt; place < pool.len() && pc < pool.len());
-    let ended = equal(alloc, &mut pool, place, pc)?;
-    assert!(rt; ended < pool.len() && pc < pool.len());
-    let each = binds_self(alloc, &mut pool, Binder::ForAll, pc, ended)?;
-    assert!(rt; each < pool.len());
-    let mut text = Text::new(Vec::new(alloc));
-    write_expr(alloc, &pool, each, &mut text)?;
-    assert!(rt; text.bytes() == b"\\A self \\in pc : pc[self] = pc".as_slice());
-    Ok(())
-}
-
-#[test]
-fn sets_of_texts_are_put(rt: HostRuntime) -> Result<(), AllocError> {
-    let alloc = rt.alloc();
-    let mut pool = Pool::new(alloc);
-    let done = quoted(
-        alloc,
-        &mut pool,
-        Text::new(Vec::from_slice(alloc, b"Done")?),
-    )?;
-    assert!(rt; done < pool.len());
-    let labels = set(&mut pool, Vec::from_array(alloc, [done, done])?)?;
-    assert!(rt; labels < pool.len() && done < pool.len());
-    let other = is_in(alloc, &mut pool, false, done, labels)?;
-    assert!(rt; other < pool.len() && labels < pool.len());
-    let whole = functions_from(alloc, &mut pool, other, labels)?;
-    assert!(rt; whole < pool.len());
-    let mut text = Text::new(Vec::new(alloc));
-    write_expr(alloc, &pool, whole, &mut text)?;
-    let wanted = b"[\"Done\" \\notin {\"Done\", \"Done\"} -> {\"Done\", \"Done\"}]";
-    assert!(rt; text.bytes() == wanted.as_slice());
-    Ok(())
+    let e = put_all(alloc, &mut pool)?;
+    let both = sets(alloc, &pool, 2, e.both)?.len();
+    let one = sets(alloc, &pool, 1, e.both)?.len();
+    let other = sets(alloc, &pool, 3, e.equal)?.len();
+    Ok(both == 2 && one == 1 && other == 1)
 }

@@ -1,4 +1,4 @@
-//! Values, names that are in scope, and states.
+//! Values, names that are in scope, and states, made in memory.
 
 use std::alloc::{AllocError, Global};
 use std::cmp::Ordering;
@@ -148,22 +148,19 @@ fn the_last_definition_is_found(alloc: Global) -> Result<bool, EvalStop> {
     Ok(all == Some(2) && two == Some(0) && instance.constants.len() == 0)
 }
 
-#[test]
-fn values_are_as_wanted(rt: HostRuntime) -> Result<(), EvalStop> {
-    let alloc = rt.alloc();
-    let found = [
-        ("members", members_count_once(alloc)?),
-        ("order", sets_are_before_tuples(alloc)?),
-        ("search", a_set_is_searched(alloc)?),
-        ("elements", a_tuple_gives_its_elements(alloc)?),
-        ("place", a_value_is_put_in_its_place(alloc)?),
-        ("copies", values_are_copied(alloc)?),
-        ("nesting", nests_too_deep_at_last(alloc)?),
-        ("state", a_state_keeps_the_last_value(alloc)?),
-        ("definitions", the_last_definition_is_found(alloc)?),
-    ];
-    for (what, is_as_wanted) in found {
-        assert!(rt; is_as_wanted, "{what}");
-    }
-    Ok(())
+/// Whether what a case of values says is so; not, where there is no such case.
+pub fn is_so(alloc: Global, case: &str) -> bool {
+    let found = match case {
+        "members" => members_count_once(alloc),
+        "order" => sets_are_before_tuples(alloc),
+        "search" => a_set_is_searched(alloc),
+        "elements" => a_tuple_gives_its_elements(alloc),
+        "place" => a_value_is_put_in_its_place(alloc),
+        "copies" => values_are_copied(alloc),
+        "nesting" => nests_too_deep_at_last(alloc),
+        "state" => a_state_keeps_the_last_value(alloc),
+        "definitions" => the_last_definition_is_found(alloc),
+        _ => Ok(false),
+    };
+    found.unwrap_or(false)
 }

@@ -1,6 +1,6 @@
 -- The tokens of a text have no numbers past the limit.
 use Rattle.std.specs.Prelude.{length}
-use Rattle.reading_tests.proofs.reading.read.Goals as goal
+use Rattle.part_rows.proofs.expressions.read.Goals as goal
 
 pub read_expr-requires-clause-numbers : goal.read_expr-requires-clause-numbers
 read_expr-requires-clause-numbers c =
