@@ -18,7 +18,7 @@ use Rattle.action_builder.specs.SingleProcess.{in_place_of}
 use Rattle.tla_tree.specs.declared.op.Op.TheVariants.{Plus, Concat}
 use Rattle.action_builder.specs.laws.Ready.{Kept}
 use Rattle.action_builder.specs.laws.Grafts.{ClearItems}
-use Rattle.pcal_tree.specs.Labelled.{is_empty}
+use Rattle.pcal_tree.specs.Tests.{is_empty}
 use Rattle.tla_value.specs.laws.Grafting.{Clear, BindsClear}
 use Rattle.action_builder.proofs.SetAgain.{bad_then}
 use Rattle.action_builder.proofs.RowsPairs.{program, initials, places, caller, calls, var, later, num, word, over, one, head_of, and_next, nothing}

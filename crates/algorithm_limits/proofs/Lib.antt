@@ -1,7 +1,6 @@
 -- That the first offences are found.
 pub mod TokensFound
 pub mod Counts
-pub mod Heights
 pub mod LabelWalks
 pub mod Tables
 pub mod CallWalks

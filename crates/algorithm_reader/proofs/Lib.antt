@@ -21,3 +21,4 @@ pub mod WholeRead
 pub mod TextStands
 pub mod Answered
 pub mod ToLast
+pub mod InLists

@@ -11,7 +11,7 @@ use Rattle.pcal_tree.specs.GrammarParts.{Arguments, no_arguments, some_arguments
 use Rattle.pcal_tree.specs.GrammarParts as g
 use Rattle.pcal_tree.specs.GrammarC.{Statement, simple, branch, either, with, while, compound, Labelled, labelled, Else, no_else, else_then, Branches, last_branch, more_branches, Sequence, last_statement, more_statements}
 use Rattle.pcal_tree.specs.GrammarC.{statement, labelled_tokens, else_tokens, branches, sequence}
-use Rattle.syntax_reading.specs.StatementsRead.{is_none}
+use Rattle.pcal_tree.specs.Tests.{is_empty}
 
 -- ---- tokens that are put before others
 pub record Put (x : List Token → List Token) : Type 0 where
@@ -104,23 +104,23 @@ mutual
   put_sequence (more_statements a s ss) = put_both (put_labelled a) (put_both (put_semicolon s) (put_sequence ss))
 
 -- ---- the last of them
-last_behind : (xs ts : List Token) → is_none ts ≡ false → last_place (xs ++ ts) ≡ last_place ts
+last_behind : (xs ts : List Token) → is_empty ts ≡ false → last_place (xs ++ ts) ≡ last_place ts
 last_behind xs [] h = absurd cc
 last_behind [] (t ∷ ts) h = refl
 last_behind (x ∷ []) (t ∷ ts) h = refl
 last_behind (x ∷ y ∷ xs) (t ∷ ts) h = last_behind (y ∷ xs) (t ∷ ts) h
 
-pub last_put : {x : List Token → List Token} → Put x → (ts : List Token) → is_none ts ≡ false → last_place (x ts) ≡ last_place ts
+pub last_put : {x : List Token → List Token} → Put x → (ts : List Token) → is_empty ts ≡ false → last_place (x ts) ≡ last_place ts
 last_put {x} h ts e = ap last_place (h.is ts) ∙ last_behind (x []) ts e
 
-some_behind : (xs ts : List Token) → is_none ts ≡ false → is_none (xs ++ ts) ≡ false
+some_behind : (xs ts : List Token) → is_empty ts ≡ false → is_empty (xs ++ ts) ≡ false
 some_behind [] ts h = h
 some_behind (x ∷ xs) ts h = refl
 
-pub some_put : {x : List Token → List Token} → Put x → (ts : List Token) → is_none ts ≡ false → is_none (x ts) ≡ false
-some_put {x} h ts e = ap is_none (h.is ts) ∙ some_behind (x []) ts e
+pub some_put : {x : List Token → List Token} → Put x → (ts : List Token) → is_empty ts ≡ false → is_empty (x ts) ≡ false
+some_put {x} h ts e = ap is_empty (h.is ts) ∙ some_behind (x []) ts e
 
-some_simple : (s : Simple) → is_none (simple_tokens s []) ≡ false
+some_simple : (s : Simple) → is_empty (simple_tokens s []) ≡ false
 some_simple (g.assign (last_assignment l p e)) = some_put (put_phrase l) (mark p tk.assigns (spell e [])) refl
 some_simple (g.assign (assignment l p e q ms)) = some_put (put_phrase l) (mark p tk.assigns (spell e (mark q tk.beside (assignments ms [])))) refl
 some_simple (g.await p e) = refl
@@ -133,7 +133,7 @@ some_simple (g.call p x xs) = refl
 some_simple (g.return p) = refl
 some_simple (g.macro x xs) = refl
 
-some_statement : (a : Statement) → is_none (statement a []) ≡ false
+some_statement : (a : Statement) → is_empty (statement a []) ≡ false
 some_statement (simple s) = some_simple s
 some_statement (branch p q e r a b) = refl
 some_statement (either p a bs) = refl
@@ -141,7 +141,7 @@ some_statement (with p q bs r a) = refl
 some_statement (while p q e r a) = refl
 some_statement (compound p ss q) = refl
 
-pub some_labelled : (a : Labelled) → is_none (labelled_tokens a []) ≡ false
+pub some_labelled : (a : Labelled) → is_empty (labelled_tokens a []) ≡ false
 some_labelled (labelled ls st) = some_put (put_labels ls) (statement st []) (some_statement st)
 
 -- with its labels it ends where it ends itself

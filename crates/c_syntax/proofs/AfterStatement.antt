@@ -20,10 +20,12 @@ use Rattle.pcal_tree.specs.GrammarC.{Labelled, labelled_ends_in_block}
 use Rattle.syntax_reading.specs.TokenReaders.{first, is_reserved, pick, Parts}
 use Rattle.c_reading.specs.ReadStatements as reader
 use Rattle.c_reading.specs.ReadStatements.{opens, done, begin, Before, Stack, bottom, in_block, in_then, in_else, in_body, in_either, first_arm, later_arm, on, ended, ask_else, ask_or, ask_other, closed, takes_else, takes_or, closing_words, is_divided, another_if, list_by, ended_by, statement_by}
-use Rattle.c_syntax.specs.StatesRead.{in_list, FrameStands, Stands, Ends, PointStands, StateStands, TurnStands, past_one, up_to, statement_step}
+use Rattle.algorithm_reader.specs.ListsRead.{in_list}
+use Rattle.c_syntax.specs.StatesRead.{FrameStands, Stands, Ends, PointStands, StateStands, TurnStands, past_one, up_to, statement_step}
 use Rattle.c_syntax.specs.Closes.{EndStands, AllClosed}
 use Rattle.c_syntax.specs.Takes.{else_taken, or_taken, brace_taken, another_taken, BeginStands, MayTurn}
-use Rattle.c_syntax.specs.AfterRead.{taken, only_if, next_taken, past_word, at_brace, else_step, or_step, ended_step, is_its_semicolon}
+use Rattle.c_syntax.specs.AfterRead.{taken, next_taken, past_word, at_brace, else_step, or_step, ended_step, is_its_semicolon}
+use Rattle.pcal_tree.specs.Tests.{only_if}
 use Rattle.c_syntax.specs.declared.open.End.{End}
 use Rattle.c_syntax.specs.declared.open.Frame.{Frame}
 use Rattle.c_syntax.specs.declared.open.Frame.TheVariants as frame

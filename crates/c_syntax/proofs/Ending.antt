@@ -7,7 +7,8 @@ use Rattle.pcal_tree.specs.GrammarParts.{last_place}
 use Rattle.pcal_tree.specs.GrammarC.{Labelled, labelled_tokens}
 use Rattle.c_reading.specs.ReadStatements.{Stack, bottom, in_block, in_then, in_else, in_body, in_either, first_arm, later_arm, if_test, with_opening, while_opening, closed}
 use Rattle.c_reading.specs.ReadStatements as reader
-use Rattle.c_syntax.specs.StatesRead.{FrameStands, OpenStands, StackStands, ListStands, past_one, around}
+use Rattle.algorithm_reader.specs.ListsRead.{ListStands}
+use Rattle.c_syntax.specs.StatesRead.{FrameStands, OpenStands, StackStands, past_one, around}
 use Rattle.c_syntax.specs.Closes.{ask_seen, fate, fate_at, can_end, ended_with, EndStands, AllClosed}
 use Rattle.c_syntax.specs.declared.open.Frame.{Frame}
 use Rattle.c_syntax.specs.declared.open.Frame.TheVariants as frame

@@ -16,12 +16,13 @@ use Rattle.pcal_tree.proofs.InMemoryEach.{if_at, either_at, with_at, while_at, p
 use Rattle.pcal_tree.specs.GrammarParts.{first_place, last_place, span, key, maybe_semicolon, Binds}
 use Rattle.pcal_tree.specs.GrammarC.{Statement, Labelled, labelled, branch, either, with, while, no_else, else_then, Branches, last_branch, more_branches, labelled_tokens, branches, flat, flat_statement, branch_trees, statement, labelled_ends_in_block, branches_end_in_block}
 use Rattle.c_reading.specs.ReadStatements.{joined, Arms, Stack, bottom, in_block, in_then, in_else, in_body, in_either, if_test, with_opening, while_opening, first_arm, later_arm}
-use Rattle.syntax_reading.specs.StatementsRead.{is_none}
-use Rattle.c_syntax.specs.StatesRead.{FrameStands, ListStands, past_one, up_to, around, arms_labels, arms_place, arms_tree}
+use Rattle.pcal_tree.specs.Tests.{is_empty}
+use Rattle.algorithm_reader.specs.ListsRead.{ListStands}
+use Rattle.c_syntax.specs.StatesRead.{FrameStands, past_one, up_to, around, arms_labels, arms_place, arms_tree}
 use Rattle.c_syntax.specs.Closes.{can_end, ended_with}
 use Rattle.c_syntax.specs.declared.open.Begun.{Begun}
 use Rattle.c_syntax.specs.declared.open.Frame.TheVariants as frame
-use Rattle.c_syntax.proofs.InLists.{one_more_stands, all_of_list, in_branches-all, in_branches-append}
+use Rattle.algorithm_reader.proofs.InLists.{one_more_stands, all_of_list, in_branches-all, in_branches-append}
 use Rattle.c_reading.proofs.Lasts.{last_labelled, last_put, some_put, some_labelled, put_after, put_both, put_one, put_phrase, put_binds, put_labelled, put_semicolon}
 
 -- ---- the last tokens
@@ -52,7 +53,7 @@ first_of_arms : (t : Arms) (a : Labelled) (bs : Branches) → first_place (state
 first_of_arms (first_arm ls p) a bs = refl
 first_of_arms (later_arm t c s p) a bs = first_of_arms t c (more_branches s p a bs)
 
-last_of_arms : (t : Arms) (a : Labelled) (bs : Branches) → is_none (labelled_tokens a (branches bs [])) ≡ false → last_place (statement (shape_of_arms t a bs) []) ≡ last_place (labelled_tokens a (branches bs []))
+last_of_arms : (t : Arms) (a : Labelled) (bs : Branches) → is_empty (labelled_tokens a (branches bs [])) ≡ false → last_place (statement (shape_of_arms t a bs) []) ≡ last_place (labelled_tokens a (branches bs []))
 last_of_arms (first_arm ls p) a bs e = last_put (put_one (tk.token p (tk.reserved (codes "either")))) (labelled_tokens a (branches bs [])) e
 last_of_arms (later_arm t c s p) a bs e =
     let x = put_both (put_semicolon s) (put_one (tk.token p (tk.reserved (codes "or")))) in

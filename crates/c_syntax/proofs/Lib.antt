@@ -1,5 +1,4 @@
 mod RowsAfter
-pub mod InLists
 pub mod EndsOne
 pub mod Ending
 pub mod Taking

@@ -9,7 +9,8 @@ use Rattle.pcal_tree.specs.GrammarParts.{no_labels, skip, key, mark}
 use Rattle.pcal_tree.specs.GrammarC.{Labelled, labelled, simple, compound, last_statement}
 use Rattle.syntax_reading.specs.TokenReaders.{Parts, parts_of}
 use Rattle.c_reading.specs.ReadStatements.{on, done, none, after, Test, if_test, first_arm, later_arm, Stack, bottom, in_block, in_then, in_else, in_either, begin, ended}
-use Rattle.c_syntax.specs.AfterRead.{taken, only_if, next_taken, past_word, at_brace, else_step, or_step, brace_step, list_step, ended_step, is_its_semicolon}
+use Rattle.c_syntax.specs.AfterRead.{taken, next_taken, past_word, at_brace, else_step, or_step, brace_step, list_step, ended_step, is_its_semicolon}
+use Rattle.pcal_tree.specs.Tests.{only_if}
 
 abbrev at : Place
 at = record { line = 1; col = 1 }

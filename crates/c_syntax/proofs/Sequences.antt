@@ -17,7 +17,8 @@ use Rattle.c_reading.specs.ReadStatements.{none, bottom, begin, on, done, step, 
 use Rattle.c_syntax.specs.declared.open.Point.TheVariants as point
 use Rattle.c_syntax.specs.declared.open.State.{State}
 use Rattle.c_syntax.specs.declared.open.Turn.TheVariants as turn
-use Rattle.c_syntax.specs.StatesRead.{in_list, statement_step, StateStands, TurnStands, list_at, past_list}
+use Rattle.algorithm_reader.specs.ListsRead.{in_list}
+use Rattle.c_syntax.specs.StatesRead.{statement_step, StateStands, TurnStands, list_at, past_list}
 
 -- what a run gives is what it gives from here on, with steps enough for the tokens that are left
 pub record RunsOn (v : Tokens) (ts : List Tree) (s : State) (i : ℕ) (o : Out Sequence) : Type 0 where

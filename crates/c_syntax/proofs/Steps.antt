@@ -37,8 +37,9 @@ use Rattle.c_syntax.specs.declared.open.Open.{Open}
 use Rattle.c_syntax.specs.declared.open.Point.{Point}
 use Rattle.c_syntax.specs.declared.open.Point.TheVariants as point
 use Rattle.c_syntax.specs.declared.open.State.{State}
-use Rattle.c_syntax.specs.StatesRead.{inner, up_to, past_one, around, in_list, ListStands, BegunStands, BranchesStand, FrameStands, OpenStands, StackStands, Stands, PointStands, StateStands}
-use Rattle.c_syntax.proofs.InLists.{one_more_stands, list_kept, in_branches-kept}
+use Rattle.algorithm_reader.specs.ListsRead.{in_list, ListStands}
+use Rattle.c_syntax.specs.StatesRead.{inner, up_to, past_one, around, BegunStands, BranchesStand, FrameStands, OpenStands, StackStands, Stands, PointStands, StateStands}
+use Rattle.algorithm_reader.proofs.InLists.{one_more_stands, list_kept, in_branches-kept}
 use Rattle.c_reading.proofs.Lasts.{last_labelled, put_simple}
 
 -- ---- a pool that grows keeps what stands open

@@ -11,8 +11,9 @@ use Rattle.pcal_tree.proofs.InMemoryEach.{past_one_more}
 use Rattle.pcal_tree.specs.GrammarParts.{mark, with_labels, last_place}
 use Rattle.pcal_tree.specs.GrammarC.{Labelled, labelled, compound, Sequence, last_statement, flat_sequence, more_statements, labelled_tokens}
 use Rattle.c_reading.specs.ReadStatements.{Before, none, after, Stack, bottom, in_block, in_then, in_else, in_body, in_either, if_test, with_before}
-use Rattle.syntax_reading.specs.StatementsRead.{is_none}
-use Rattle.c_syntax.specs.StatesRead.{in_list, arms_tree, PointStands, FrameStands, StackStands, Stands, before_tree, inner, past_one, in_branches}
+use Rattle.pcal_tree.specs.Tests.{is_empty}
+use Rattle.algorithm_reader.specs.ListsRead.{in_list, in_branches}
+use Rattle.c_syntax.specs.StatesRead.{arms_tree, PointStands, FrameStands, StackStands, Stands, before_tree, inner, past_one}
 use Rattle.c_syntax.specs.Takes.{else_taken, or_taken, brace_taken, BeginStands, MayTurn}
 use Rattle.c_syntax.specs.declared.open.Frame.{Frame}
 use Rattle.c_syntax.specs.declared.open.Frame.TheVariants as frame
@@ -22,7 +23,7 @@ use Rattle.c_syntax.specs.declared.open.Point.{Point}
 use Rattle.c_syntax.specs.declared.open.Point.TheVariants as point
 use Rattle.c_syntax.specs.declared.open.State.{State}
 use Rattle.c_syntax.specs.declared.open.Turn.TheVariants as turn
-use Rattle.c_syntax.proofs.InLists.{all_of_list, in_branches-append}
+use Rattle.algorithm_reader.proofs.InLists.{all_of_list, in_branches-append}
 use Rattle.c_reading.proofs.Lasts.{last_labelled, last_put, put_one, put_both, put_sequence}
 use Rattle.c_syntax.proofs.Ending.{innermost_is}
 
@@ -138,7 +139,7 @@ or_taken_by ts s t under g before branches d o p a (in_either x st) q z l i k m 
               record { list = b.0.frame.0.list; first = b.0.frame.0.first },
               record {
                 below = omega (arith, ap past_branches z, past_one_more (λ (y : Vec Stmt Global). past_statements y.items) before.items s.list, bs.below, h.list.below);
-                first = ap is_none z ∙ some_after before.items s.list;
+                first = ap is_empty z ∙ some_after before.items s.list;
                 tree = λ rest. ap (λ (ys : List (Vec Stmt Global)). in_branches ts ys rest) z ∙ in_branches-append ts before.items (s.list ∷ []) rest ∙ bs.tree (tree.or (statements_at ts s.list.items) rest) ∙ (λ j. arms_tree x (tree.or (all_of_list h.list j) rest));
               },
             );
@@ -150,7 +151,7 @@ or_taken_by ts s t under g before branches d o p a (in_either x st) q z l i k m 
       },
     )
   where
-    some_after : (xs : List (Vec Stmt Global)) (y : Vec Stmt Global) → is_none (xs ++ y ∷ []) ≡ false
+    some_after : (xs : List (Vec Stmt Global)) (y : Vec Stmt Global) → is_empty (xs ++ y ∷ []) ≡ false
     some_after [] y = refl
     some_after (x ∷ xs) y = refl
 

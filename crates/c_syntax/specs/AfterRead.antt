@@ -9,6 +9,7 @@ use Rattle.tla_tree.specs.Reader.{Reader, Out, gives, refuses, skip, is_mark}
 use Rattle.expr_nodes.specs.declared.cursor.Halt.{Halt}
 use Rattle.expr_nodes.specs.ReadIn.{Told}
 use Rattle.expr_nodes.specs.Ahead.{ahead}
+use Rattle.pcal_tree.specs.Tests.{only_if}
 use Rattle.pcal_tree.specs.GrammarC.{Labelled}
 use Rattle.syntax_reading.specs.TokenReaders.{by_next, Parts}
 use Rattle.algorithm_reader.specs.PartsRead.{parts_in, StepLess}
@@ -27,10 +28,6 @@ taken f (Some (a, st)) = f a st
 taken f None = None
 
 -- another statement, where one may come
-abbrev pub only_if : {A : Type 0} → Bool → Option A → Option A
-only_if true o = o
-only_if false o = None
-
 abbrev pub next_taken : Option Place → Labelled → Stack → Option Stack
 next_taken s a st = only_if (is_divided s a) (another_taken s a st)
 

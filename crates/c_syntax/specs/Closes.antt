@@ -6,7 +6,7 @@ use Rattle.pcal_tree.specs.GrammarParts.{last_place}
 use Rattle.pcal_tree.specs.GrammarC.{Labelled, no_else, else_then, last_branch, labelled_tokens, labelled_ends_in_block}
 use Rattle.c_reading.specs.ReadStatements.{Stack, bottom, in_block, in_then, in_else, in_body, in_either, first_arm, later_arm, tested, opened, joined}
 use Rattle.c_reading.specs.ReadStatements as reader
-use Rattle.syntax_reading.specs.StatementsRead.{is_none}
+use Rattle.pcal_tree.specs.Tests.{is_empty}
 use Rattle.c_syntax.specs.StatesRead.{is_first, past_one, Stands}
 use Rattle.c_syntax.specs.declared.open.Frame.{Frame}
 use Rattle.c_syntax.specs.declared.open.Frame.TheVariants as frame
@@ -29,7 +29,7 @@ fate frame.Block q = it.Stops
 fate (frame.Then g e) ask.Else = it.Takes
 fate (frame.Then g e) q = it.Ends
 fate (frame.Either g bs) ask.Or = it.Takes
-fate (frame.Either g bs) q = cond (is_none bs.items) it.Stops it.Ends
+fate (frame.Either g bs) q = cond (is_empty bs.items) it.Stops it.Ends
 fate f q = it.Ends
 
 -- the innermost may end with its last part, and the statement that it is then
@@ -78,5 +78,5 @@ AllClosed _ _ _ _ _ = ⊥
 abbrev pub or_by : Frame → Option Bool
 or_by frame.Block = Some false
 or_by (frame.Then g e) = Some false
-or_by (frame.Either g bs) = Some (is_none bs.items)
+or_by (frame.Either g bs) = Some (is_empty bs.items)
 or_by f = None

@@ -16,8 +16,9 @@ use Rattle.pcal_tree.specs.GrammarC.{Labelled, labelled_tokens, labelled_ends_in
 use Rattle.expr_nodes.specs.declared.cursor.Halt.{Halt}
 use Rattle.expr_nodes.specs.ReadIn.{Told}
 use Rattle.expr_nodes.specs.Ahead.{ahead}
-use Rattle.syntax_reading.specs.StatementsRead.{is_none}
+use Rattle.pcal_tree.specs.Tests.{is_empty}
 use Rattle.syntax_reading.specs.TokenReaders.{by_next, a_name, pick, Parts}
+use Rattle.algorithm_reader.specs.ListsRead.{in_branches, ListStands}
 use Rattle.algorithm_reader.specs.PartsRead.{StandsFor, parts_in, StepLess}
 use Rattle.algorithm_reader.specs.SimpleRead.{simple_reader}
 use Rattle.syntax_reading.specs.ReadParts.{read_colon}
@@ -83,22 +84,7 @@ around (in_else ls t a s p st) = st
 around (in_body ls o st) = st
 around (in_either t st) = st
 
--- ---- the same of what is in memory
-
--- labels and statements before the rest of their list
-abbrev pub in_list : List Tree → List Stmt → Statements → Statements
-in_list ts [] rest = rest
-in_list ts (s ∷ ss) rest = stmt_at ts s (in_list ts ss rest)
-
-abbrev pub in_branches : List Tree → List (Vec Stmt Global) → Branches → Branches
-in_branches ts [] rest = rest
-in_branches ts (b ∷ bs) rest = tree.or (statements_at ts b.items) (in_branches ts bs rest)
-
 -- ---- what stands for what, over the trees of a pool
-
-pub record ListStands (ts : List Tree) (ss : List Stmt) (f : Statements → Statements) : Type 0 where
-  pub below : past_statements ss ≤ length ts
-  pub tree : (rest : Statements) → in_list ts ss rest ≡ f rest
 
 -- a statement with these labels that has begun at this place, in the list that it stands in
 pub record BegunStands (ts : List Tree) (g : Begun) (ls : Labels) (p : Place) (st : Stack) : Type 0 where
@@ -107,7 +93,7 @@ pub record BegunStands (ts : List Tree) (g : Begun) (ls : Labels) (p : Place) (s
 
 pub record BranchesStand (ts : List Tree) (bs : List (Vec Stmt Global)) (t : Arms) : Type 0 where
   pub below : past_branches bs ≤ length ts
-  pub first : is_none bs ≡ is_first t
+  pub first : is_empty bs ≡ is_first t
   pub tree : (rest : Branches) → in_branches ts bs rest ≡ arms_tree t rest
 
 -- the innermost

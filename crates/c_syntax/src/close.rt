@@ -5,7 +5,8 @@ ghost use Rattle.tla_tree.specs.Tree.{Tree};
 ghost use Rattle.pcal_tree.specs.GrammarParts.{last_place};
 ghost use Rattle.pcal_tree.specs.GrammarC.{Labelled, labelled_tokens};
 ghost use Rattle.c_reading.specs.ReadStatements.{Stack, closed as closed_there};
-ghost use Rattle.c_syntax.specs.StatesRead.{FrameStands, ListStands, StackStands, past_one, around};
+ghost use Rattle.algorithm_reader.specs.ListsRead.{ListStands};
+ghost use Rattle.c_syntax.specs.StatesRead.{FrameStands, StackStands, past_one, around};
 ghost use Rattle.c_syntax.specs.Closes.{ask_seen, fate, fate_at, can_end, ended_with, EndStands, AllClosed};
 ghost use Rattle.c_syntax.specs.declared.close.Fate.TheVariants as fates;
 

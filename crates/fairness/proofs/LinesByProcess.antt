@@ -19,7 +19,8 @@ use Rattle.fairness.specs.MarkedLabels.{left_out_labels, strong_labels}
 use Rattle.fairness.specs.ReachedProcedures.{reached_within, reached}
 use Rattle.fairness.specs.Demands.{Demand, all_steps, routine_steps, label_steps, demands_in, demands_of, main_demands, demands}
 use Rattle.fairness.specs.Obligations.{obligation_of, written_labels, obligations}
-use Rattle.fairness.specs.FairnessLines.{identifier_of, over_of, own_call, action_call, guard_of, line_of, fairness_lines}
+use Rattle.action_builder.specs.LabelActions.{call_by}
+use Rattle.fairness.specs.FairnessLines.{identifier_of, over_of, action_call, guard_of, line_of, fairness_lines}
 use Rattle.fairness.specs.laws.LinesOfObligations.{identifier, quantified, own_action, IsCallBy, LeavesOut, IsOf, AreOf}
 use Rattle.fairness.proofs.LabelsShared.{labels_shared, strong_is_label, one_shared}
 use Rattle.fairness.proofs.TestsOfLabels.{guard_leaves_out}
@@ -63,10 +64,10 @@ identifier_is p = by p.several
     by true = refl
     by false = refl
 
-own_is : (p : Process) (c : Word) → own_call (taken_process 0 p).takers c ≡ own_action p c
+own_is : (p : Process) (c : Word) → call_by (taken_process 0 p).takers c ≡ own_action p c
 own_is p c = by p.several
   where
-    by : (b : Bool) → own_call (cond b (each_of p.identity) (single p.identity)) c ≡ cond b (call_with c (named self)) (call c)
+    by : (b : Bool) → call_by (cond b (each_of p.identity) (single p.identity)) c ≡ cond b (call_with c (named self)) (call c)
     by true = refl
     by false = refl
 
@@ -83,9 +84,9 @@ module _ (P : Program) (n : ℕ) (p : Process) (behind : first_process P.algorit
 
   its_call : (u : Routine) → Its u → (c : Word) → IsCallBy P n p u c (action_call t u c)
   its_call u (inl e) c =
-      inl (e, ap (λ b. cond b (own_call t.takers c) (call_with c (identifier_of t.takers))) (eq-eqb n u.number (sym (ap (λ v. v.number) e))) ∙ own_is p c)
+      inl (e, ap (λ b. cond b (call_by t.takers c) (call_with c (identifier_of t.takers))) (eq-eqb n u.number (sym (ap (λ v. v.number) e))) ∙ own_is p c)
   its_call u (inr h) c =
-      inr (h, ap (λ b. cond b (own_call t.takers c) (call_with c (identifier_of t.takers))) (ne_eqb n u.number (λ e. apart e)) ∙ ap (call_with c) (identifier_is p))
+      inr (h, ap (λ b. cond b (call_by t.takers c) (call_with c (identifier_of t.takers))) (ne_eqb n u.number (λ e. apart e)) ∙ ap (call_with c) (identifier_is p))
     where
       apart : n ≡ u.number → ⊥
       apart e = let b = reached_below P.algorithm t.routine u h in omega (arith, e, b, behind)

@@ -1,13 +1,14 @@
 -- The formulas of fairness in Spec, one for each obligation ("Specifying Systems", section 8.9; "A PlusCal User's Manual", section 3.7).
 use Rattle.std.specs.Prelude.{List, [], ◌∷◌, map, nat_eq, true, false, cond, codes, Option, Some, None}
 use Rattle.tla_tree.specs.Tree.{Word, Tree}
-use Rattle.module_tree.specs.Module.{Call, call, call_with, Fairness}
+use Rattle.module_tree.specs.Module.{Call, call_with, Fairness}
 use Rattle.module_tree.specs.Formulas.{self, named, quoted, at, is_in, set}
 use Rattle.pcal_tree.specs.Algorithm.{Routine}
 use Rattle.pcal_tree.specs.Takers.{Takers, each_of, single, Taken}
 use Rattle.pcal_tree.specs.Program.{Program}
 use Rattle.pcal_tree.specs.Calls.{label_name}
 use Rattle.pcal_tree.specs.Variables.{pc}
+use Rattle.action_builder.specs.LabelActions.{call_by}
 use Rattle.fairness.specs.MarkedLabels.{left_out_labels}
 use Rattle.fairness.specs.Demands.{Demand, all_steps, routine_steps, label_steps, demands}
 use Rattle.fairness.specs.Obligations.{written_labels}
@@ -22,14 +23,9 @@ abbrev pub over_of : Takers → Option (Word × Tree)
 over_of (each_of s) = Some (self, s)
 over_of _ = None
 
--- an action of a single process has no argument
-abbrev pub own_call : Takers → Word → Call
-own_call (each_of s) a = call_with a (named self)
-own_call _ a = call a
-
 -- the call of an action, of the process's own or of a procedure
 abbrev pub action_call : Taken → Routine → Word → Call
-action_call t u a = cond (nat_eq t.routine.number u.number) (own_call t.takers a) (call_with a (identifier_of t.takers))
+action_call t u a = cond (nat_eq t.routine.number u.number) (call_by t.takers a) (call_with a (identifier_of t.takers))
 
 -- pc[self] \notin {"L"}, where labels are left out
 abbrev pub guard_of : Takers → List Word → Option Tree

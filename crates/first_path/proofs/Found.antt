@@ -5,9 +5,10 @@ use Rattle.tla_token.specs.Places.{start}
 use Rattle.tla_token.specs.Offences.{Offence}
 use Rattle.module_tree.specs.TextFront.{on_some}
 use Rattle.first_path.specs.Placed.{Places}
-use Rattle.first_path.specs.TreeForm.{if_so, if_none}
+use Rattle.first_path.specs.TreeForm.{if_none}
+use Rattle.pcal_tree.specs.Tests.{only_if}
 
-pub so : {A : Type 0} (b : Bool) (o : Option A) (r : A) → if_so b o ≡ Some r → (b ≡ true) × (o ≡ Some r)
+pub so : {A : Type 0} (b : Bool) (o : Option A) (r : A) → only_if b o ≡ Some r → (b ≡ true) × (o ≡ Some r)
 so true o r e = (refl, e)
 so false o r e = absurd cc
 

@@ -11,7 +11,8 @@ use Rattle.pcal_tree.specs.Algorithm.{Start, Declaration, Definition, Macro, Pro
 use Rattle.pcal_tree.specs.Placeless.{start_placeless, declarations_placeless, definitions_placeless, macros_placeless, procedures_placeless, statements_placeless, main_placeless, placeless}
 use Rattle.module_tree.specs.TextFront.{on_some}
 use Rattle.first_path.specs.Form.{variable_operand, Right, single, sum, Parts}
-use Rattle.first_path.specs.TreeForm.{if_so, number_in, name_in, sum_in, number_or, operand_in, sum_or, right_in, start_in, variable_in, labelled_in, sides_in, is_none, assigned_in, form_of}
+use Rattle.first_path.specs.TreeForm.{number_in, name_in, sum_in, number_or, operand_in, sum_or, right_in, start_in, variable_in, labelled_in, sides_in, assigned_in, form_of}
+use Rattle.pcal_tree.specs.Tests.{only_if, is_empty}
 
 -- ---- expressions
 
@@ -31,7 +32,7 @@ sum_bare (node (strict (operator Plus)) p (tree.tree a (tree.tree b no_trees))) 
 sum_bare t = refl
 
 operand_bare : (v : Word) (t : Tree) → operand_in v (tree_placeless t) ≡ operand_in v t
-operand_bare v t = λ i. number_or (number_bare t i) (on_some (name_bare t i) (λ x. if_so (bytes_eq x v) (Some variable_operand)))
+operand_bare v t = λ i. number_or (number_bare t i) (on_some (name_bare t i) (λ x. only_if (bytes_eq x v) (Some variable_operand)))
 
 right_bare : (v : Word) (t : Tree) → right_in v (tree_placeless t) ≡ right_in v t
 right_bare v t =
@@ -63,20 +64,20 @@ sides_bare : (ss : Statements) → sides_in (statements_placeless ss) ≡ option
 sides_bare (then at (assign (assignment l e no_assignments)) done) = refl
 sides_bare ss = refl
 
-no_definitions : (ds : List Definition) → is_none (definitions_placeless ds) ≡ is_none ds
+no_definitions : (ds : List Definition) → is_empty (definitions_placeless ds) ≡ is_empty ds
 no_definitions [] = refl
 no_definitions (d ∷ ds) = refl
 
-no_macros : (ms : List Macro) → is_none (macros_placeless ms) ≡ is_none ms
+no_macros : (ms : List Macro) → is_empty (macros_placeless ms) ≡ is_empty ms
 no_macros [] = refl
 no_macros (m ∷ ms) = refl
 
-no_procedures : (ps : List Procedure) → is_none (procedures_placeless ps) ≡ is_none ps
+no_procedures : (ps : List Procedure) → is_empty (procedures_placeless ps) ≡ is_empty ps
 no_procedures [] = refl
 no_procedures (p ∷ ps) = refl
 
 assigned_bare : (v : Word) (e : Tree × Tree) → assigned_in v (both_bare e) ≡ assigned_in v e
-assigned_bare v e = λ i. on_some (name_bare e.0 i) (λ x. if_so (bytes_eq x v) (right_bare v e.1 i))
+assigned_bare v e = λ i. on_some (name_bare e.0 i) (λ x. only_if (bytes_eq x v) (right_bare v e.1 i))
 
 -- where there is something it is gone on with alike
 on_both : {A C : Type 0} (h : A → A) (o p : Option A) → o ≡ option_map h p → (go there : A → Option C) → ((x : A) → go (h x) ≡ there x) → on_some o go ≡ on_some p there
@@ -96,7 +97,7 @@ on_same o p e go there same = ap (λ (o : Option _). on_some o go) e ∙ by p
 
 pub form_bare : (m : Word) (g : Algorithm) → form_of m (placeless g) ≡ form_of m g
 form_bare m g =
-    (λ i. if_so (not g.fair && (no_definitions g.definitions i && (no_macros g.macros i && no_procedures g.procedures i))) (parts_bare i))
+    (λ i. only_if (not g.fair && (no_definitions g.definitions i && (no_macros g.macros i && no_procedures g.procedures i))) (parts_bare i))
   where
     parts : Word → ℕ → Word → Right → Option Parts
     parts v n l r = Some (record { title = m; algorithm = g.name.word; variable = v; initial = n; label = l; right = r })

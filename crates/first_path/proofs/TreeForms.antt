@@ -15,7 +15,8 @@ use Rattle.promise.specs.Headline.{Stands, Headline}
 use Rattle.first_path.specs.Beside.{beside}
 use Rattle.first_path.specs.Form.{Parts, is_fit, suits}
 use Rattle.first_path.specs.Placed.{Places, algorithm_at, module_at, region_of, translation_of}
-use Rattle.first_path.specs.TreeForm.{if_so, form_of, IsFitted, HasForm, if_none, suiting, tree_form}
+use Rattle.first_path.specs.TreeForm.{form_of, IsFitted, HasForm, if_none, suiting, tree_form}
+use Rattle.pcal_tree.specs.Tests.{only_if}
 use Rattle.first_path.proofs.Found.{so, some_on, some_is, none_wrong}
 use Rattle.first_path.proofs.TreeParts.{form_is}
 use Rattle.first_path.proofs.TreeBare.{same_form}
@@ -45,12 +46,12 @@ form_found x g f s e =
 -- the function finds it where the file suits the parts
 pub form_read : (x : List ℕ) (g : Algorithm) (f : Parts) → IsFitted x f → form_of f.title g ≡ Some f → tree_form x g ≡ Some f
 form_read x g f h e =
-    let suit : Parts → Option Parts = λ f. if_so (is_fit f) (suiting (beside (walk x)) f) in
+    let suit : Parts → Option Parts = λ f. only_if (is_fit f) (suiting (beside (walk x)) f) in
     ap (λ (os : List Offence). if_none os (on_some (title (walk x)) (λ m. on_some (form_of m g) suit))) h.fine
     ∙ ap (λ (o : Option Word). on_some o (λ m. on_some (form_of m g) suit)) h.titled
     ∙ ap (λ (o : Option Parts). on_some o suit) e
-    ∙ ap (λ (b : Bool). if_so b (suiting (beside (walk x)) f)) h.fit
-    ∙ ap (λ (b : Bool). if_so b (Some f)) h.suited
+    ∙ ap (λ (b : Bool). only_if b (suiting (beside (walk x)) f)) h.fit
+    ∙ ap (λ (b : Bool). only_if b (Some f)) h.suited
 
 -- ---- the promise
 

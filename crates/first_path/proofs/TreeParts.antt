@@ -13,7 +13,8 @@ use Rattle.pcal_tree.specs.Algorithm.{Span, Start, Declaration, Statements, Main
 use Rattle.module_tree.specs.TextFront.{on_some}
 use Rattle.first_path.specs.Form.{Operand, number_operand, variable_operand, Right, single, sum, Parts}
 use Rattle.first_path.specs.Placed.{Places, leaf, infix_of, operand_tree, right_at, word_at, algorithm_at}
-use Rattle.first_path.specs.TreeForm.{if_so, number_in, name_in, sum_in, number_or, operand_in, sum_or, right_in, start_in, variable_in, labelled_in, sides_in, is_none, is_bare, assigned_in, form_of}
+use Rattle.first_path.specs.TreeForm.{number_in, name_in, sum_in, number_or, operand_in, sum_or, right_in, start_in, variable_in, labelled_in, sides_in, is_bare, assigned_in, form_of}
+use Rattle.pcal_tree.specs.Tests.{only_if, is_empty}
 use Rattle.first_path.proofs.Names.{word_same}
 use Rattle.first_path.proofs.Found.{so, some_on, some_is, nth}
 
@@ -34,12 +35,12 @@ sum_is t s e = absurd cc
 operand_is : (v : Word) (t : Tree) (a : Operand) → operand_in v t ≡ Some a → t ≡ operand_tree v a (root_place t)
 operand_is v t a e = by (number_in t) refl e
   where
-    variable : (x : Word) → name_in t ≡ Some x → if_so (bytes_eq x v) (Some variable_operand) ≡ Some a → t ≡ operand_tree v a (root_place t)
+    variable : (x : Word) → name_in t ≡ Some x → only_if (bytes_eq x v) (Some variable_operand) ≡ Some a → t ≡ operand_tree v a (root_place t)
     variable x is e =
         let s = so (bytes_eq x v) (Some variable_operand) a e in
         name_is t x is ∙ ap (λ (w : Word). leaf (name w) (root_place t)) (same_bytes x v s.0) ∙ ap (λ (b : Operand). operand_tree v b (root_place t)) (some_is s.1)
 
-    by : (o : Option ℕ) → number_in t ≡ o → number_or o (on_some (name_in t) (λ x. if_so (bytes_eq x v) (Some variable_operand))) ≡ Some a → t ≡ operand_tree v a (root_place t)
+    by : (o : Option ℕ) → number_in t ≡ o → number_or o (on_some (name_in t) (λ x. only_if (bytes_eq x v) (Some variable_operand))) ≡ Some a → t ≡ operand_tree v a (root_place t)
     by (Some n) is e = number_is t n is ∙ ap (λ (b : Operand). operand_tree v b (root_place t)) (some_is e)
     by None is e = (let (x, named, e1) = some_on (name_in t) _ a e in variable x named e1)
 
@@ -98,7 +99,7 @@ sides_are : (ss : Statements) (s : Tree × Tree) → sides_in ss ≡ Some s → 
 sides_are (then at (assign (assignment l e no_assignments)) done) s h = (at, ap (λ (s : Tree × Tree). then at (assign (assignment s.0 s.1 no_assignments)) done) (some_is h))
 sides_are ss s h = absurd cc
 
-none_is : {A : Type 0} (xs : List A) → is_none xs ≡ true → xs ≡ []
+none_is : {A : Type 0} (xs : List A) → is_empty xs ≡ true → xs ≡ []
 none_is [] e = refl
 none_is (x ∷ xs) e = absurd cc
 
@@ -112,8 +113,8 @@ pub form_is : (m : Word) (g : Algorithm) (f : Parts) → form_of m g ≡ Some f 
 form_is m g f e =
     let bare = so (is_bare g) _ f e in
     let own = and_parts (not g.fair) _ bare.0 in
-    let less = and_parts (is_none g.definitions) _ own.1 in
-    let least = and_parts (is_none g.macros) (is_none g.procedures) less.1 in
+    let less = and_parts (is_empty g.definitions) _ own.1 in
+    let least = and_parts (is_empty g.macros) (is_empty g.procedures) less.1 in
     let (v, is_v, e1) = some_on (variable_in g.globals) _ f bare.1 in
     let (n, is_n, e2) = some_on (number_in v.1) _ f e1 in
     let (l, is_l, e3) = some_on (labelled_in g.main) _ f e2 in

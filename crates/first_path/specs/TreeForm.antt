@@ -6,6 +6,7 @@ use Rattle.tla_token.specs.Offences.{Offence}
 use Rattle.tla_tree.specs.declared.op.Op.TheVariants.{Plus}
 use Rattle.tla_tree.specs.Tree.{Word, Tree, node, no_trees, number, name, strict, operator}
 use Rattle.tla_tree.specs.Tree as tree
+use Rattle.pcal_tree.specs.Tests.{is_empty, only_if}
 use Rattle.pcal_tree.specs.declared.mark.Mark.TheVariants.{Plain}
 use Rattle.pcal_tree.specs.Algorithm.{Start, Declaration, Statements, Main, Algorithm, equals, assign, done, then, mark, no_assignments, assignment, alone}
 use Rattle.module_tree.specs.TextFront.{on_some}
@@ -15,10 +16,6 @@ use Rattle.module_tree.specs.FileOffences.{file_offences}
 use Rattle.promise.specs.Headline.{Stands}
 use Rattle.first_path.specs.Beside.{Beside, beside}
 use Rattle.first_path.specs.Form.{Operand, number_operand, variable_operand, Right, single, sum, Parts, is_fit, suits}
-
-abbrev pub if_so : {A : Type 0} → Bool → Option A → Option A
-if_so true o = o
-if_so false o = None
 
 -- ---- expressions
 
@@ -43,7 +40,7 @@ number_or (Some n) a = Some (number_operand n)
 number_or None a = a
 
 abbrev pub operand_in : Word → Tree → Option Operand
-operand_in v t = number_or (number_in t) (on_some (name_in t) (λ x. if_so (bytes_eq x v) (Some variable_operand)))
+operand_in v t = number_or (number_in t) (on_some (name_in t) (λ x. only_if (bytes_eq x v) (Some variable_operand)))
 
 -- a sum of two operands, or else the other
 abbrev pub sum_or : Word → Option (Tree × Tree) → Option Right → Option Right
@@ -74,22 +71,18 @@ abbrev pub sides_in : Statements → Option (Tree × Tree)
 sides_in (then at (assign (assignment l e no_assignments)) done) = Some (l, e)
 sides_in ss = None
 
-abbrev pub is_none : {A : Type 0} → List A → Bool
-is_none [] = true
-is_none (x ∷ xs) = false
-
 -- it has nothing but variables and a body
 abbrev pub is_bare : Algorithm → Bool
-is_bare g = not g.fair && (is_none g.definitions && (is_none g.macros && is_none g.procedures))
+is_bare g = not g.fair && (is_empty g.definitions && (is_empty g.macros && is_empty g.procedures))
 
 -- the assignment e is one to the variable v
 abbrev pub assigned_in : Word → Tree × Tree → Option Right
-assigned_in v e = on_some (name_in e.0) (λ x. if_so (bytes_eq x v) (right_in v e.1))
+assigned_in v e = on_some (name_in e.0) (λ x. only_if (bytes_eq x v) (right_in v e.1))
 
 -- the parts of an algorithm of the form, in the module m
 abbrev pub form_of : Word → Algorithm → Option Parts
 form_of m g =
-    if_so (is_bare g) (on_some (variable_in g.globals) (λ v. on_some (number_in v.1) (λ n. on_some (labelled_in g.main) (λ l.
+    only_if (is_bare g) (on_some (variable_in g.globals) (λ v. on_some (number_in v.1) (λ n. on_some (labelled_in g.main) (λ l.
     on_some (sides_in l.1) (λ e. on_some (assigned_in v.0 e) (λ r.
     Some (record { title = m; algorithm = g.name.word; variable = v.0; initial = n; label = l.0; right = r })))))))
 
@@ -115,9 +108,9 @@ if_none [] o = o
 if_none (e ∷ es) o = None
 
 abbrev pub suiting : Beside → Parts → Option Parts
-suiting o f = if_so (suits o f) (Some f)
+suiting o f = only_if (suits o f) (Some f)
 
 -- the parts of the file x, in which this algorithm is, where it has the form
 abbrev pub tree_form : List ℕ → Algorithm → Option Parts
 tree_form x g =
-    if_none (file_offences x) (on_some (title (walk x)) (λ m. on_some (form_of m g) (λ f. if_so (is_fit f) (suiting (beside (walk x)) f))))
+    if_none (file_offences x) (on_some (title (walk x)) (λ m. on_some (form_of m g) (λ f. only_if (is_fit f) (suiting (beside (walk x)) f))))

@@ -57,7 +57,7 @@ quoted s r p e = by (begins_with 34 rest) refl (unquoted raw) refl
 
 -- ---- a piece is found
 
-piece_found : (p : Piece) (b : ℕ) (m rest r : Text) → bytes_of p ≡ b ∷ m → Fits p rest → inner_part (length (m ++ rest)) b ((m ++ rest) ++ r) ≡ sound p
+pub piece_found : (p : Piece) (b : ℕ) (m rest r : Text) → bytes_of p ≡ b ∷ m → Fits p rest → inner_part (length (m ++ rest)) b ((m ++ rest) ++ r) ≡ sound p
 piece_found p b m rest r e h = by (nat_eq b 34) refl
   where
     found : part_at b (m ++ rest) ≡ sound p

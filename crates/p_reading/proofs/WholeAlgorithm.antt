@@ -17,7 +17,7 @@ use Rattle.syntax_reading.specs.TokenReaders.{Parts, parts_of, first, by_next, a
 use Rattle.syntax_reading.specs.ReadParts.{section_by}
 use Rattle.syntax_reading.proofs.Whole.{Fits, smaller, less, then_is, is_word_next, word_divides, divider_calm, WholeParts, parts_whole}
 use Rattle.syntax_reading.proofs.WholeParts.{semicolon_whole, section_whole, macro_parameters_whole, procedure_parameters_whole, definitions_whole, signed}
-use Rattle.syntax_reading.proofs.Lengths.{Grows, GrowsMore, grow_semicolon, grow_section, grow_macro, grow_procedure, grow_phrase, grow_definitions}
+use Rattle.syntax_reading.proofs.Lengths.{Grows, GrowsMore, grow_semicolon, grow_section, grow_fair, grow_each, grow_macro, grow_procedure, grow_phrase, grow_definitions}
 use Rattle.syntax_reading.specs.ReadAround.{read_head}
 use Rattle.syntax_reading.specs.ReadRoutines.{read_macro, read_procedure, read_process, macros_by, read_macros, procedures_by, read_procedures, processes_by, read_processes, define_by, read_define}
 use Rattle.p_reading.specs.ReadAlgorithm.{read_body, read_identity, ways, read_main, read_text, read_algorithm}
@@ -38,19 +38,10 @@ grow_identity : (x : Identity) → GoodIdentity p_syntax x → Grows (identity x
 grow_identity (bare x b p e) i ts = omega (arith, grow_phrase e ts)
 grow_identity (bracketed q x b p e s) i ts = absurd i
 
-grow_fair : (f : Fair) → Grows (fair f)
-grow_fair unfair ts = omega arith
-grow_fair (weak p) ts = omega arith
-grow_fair (strong p q) ts = omega arith
-
 grow_process : (x : Process) → GoodProcess p_syntax x → GrowsMore (process x)
 grow_process x i ts =
     (let us = body (codes "process") x.body ts in
     omega (arith, grow_fair x.fair (key x.place (codes "process") (identity x.identity (section_tokens x.variables us))), grow_identity x.identity i.0 (section_tokens x.variables us), grow_section x.variables us, grow_body (codes "process") x.body i.2 ts))
-
-grow_each : {A : Type 0} (f : A → List Token → List Token) (Q : A → Type 0) → ((x : A) → Q x → GrowsMore (f x)) → (xs : List A) → AllByRecursion Q xs → Grows (each f xs)
-grow_each f Q h [] i ts = omega arith
-grow_each f Q h (x ∷ xs) i ts = omega (arith, h x i.0 (each f xs ts), grow_each f Q h xs i.1 ts)
 
 grow_define : (d : Define) → GoodDefine p_syntax d → Grows (define d)
 grow_define no_define i ts = omega arith

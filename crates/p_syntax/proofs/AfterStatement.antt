@@ -21,10 +21,11 @@ use Rattle.p_reading.specs.ReadStatements.{Before, none, after, Stack, Turn, on,
 use Rattle.p_syntax.specs.declared.open.Point.{Point}
 use Rattle.p_syntax.specs.declared.open.Point.TheVariants as point
 use Rattle.p_syntax.specs.declared.open.State.{State}
-use Rattle.p_syntax.specs.StatesRead.{before_tree, past_one, ListStands, list_at, past_list, point_of, so_far, Stands, StateStands}
+use Rattle.algorithm_reader.specs.ListsRead.{ListStands}
+use Rattle.p_syntax.specs.StatesRead.{before_tree, past_one, list_at, past_list, point_of, so_far, Stands, StateStands}
 use Rattle.p_syntax.specs.StepsRead.{separator_step, another_step, ended_step, closes_by}
 use Rattle.algorithm_reader.proofs.Between.{ahead_length}
-use Rattle.p_syntax.proofs.InLists.{in_list-all}
+use Rattle.algorithm_reader.proofs.InLists.{in_list-all}
 
 -- a mark is a token, and what is left behind it begins further on
 pub mark_is_passed : (v : Tokens) (i j : ℕ) (m : Mark) → i ≤ length v.items.items → j ≤ length v.items.items → is_mark m (first (ahead v i)).kind ≡ true → ahead v j ≡ tail (ahead v i) → i < j

@@ -27,9 +27,10 @@ use Rattle.p_syntax.specs.declared.open.Frame.TheVariants as frame
 use Rattle.p_syntax.specs.declared.open.Open.{Open}
 use Rattle.p_syntax.specs.declared.open.Point.TheVariants as point
 use Rattle.p_syntax.specs.declared.open.State.{State}
-use Rattle.syntax_reading.specs.StatementsRead.{is_none}
+use Rattle.pcal_tree.specs.Tests.{is_empty}
 use Rattle.p_syntax.specs.StatesRead.{so_far, past_one, tests_place, tests_tree, tests_list, arms_place, arms_tree, nested, past_test, before_rest, ThenStands, ElseStands, EitherStands, FrameStands, OpenStands, StackStands, Stands, StateStands, list_at, past_list}
-use Rattle.p_syntax.proofs.InLists.{nested-append, in_branches-append, in_branches-all, one_more_stands}
+use Rattle.algorithm_reader.proofs.InLists.{in_branches-append, in_branches-all, one_more_stands}
+use Rattle.p_syntax.proofs.Nested.{nested-append}
 use Rattle.p_reading.proofs.Ends.{Puts, spell_puts, binds_puts, sequence_puts, else_puts, branches_puts, last_put}
 use Rattle.p_reading.proofs.SoundStatements.{tests, arms, closed_if_tokens, closed_either_tokens}
 
@@ -133,7 +134,7 @@ or_stands ts a bs x t c r h i = record {
   tree = λ rest. in_branches-append ts bs (x ∷ []) rest ∙ h.tree (tree.or (statements_at ts x.items) rest) ∙ ap (λ (z : Statements). arms_tree t (tree.or z rest)) i.tree;
 }
   where
-    some : (l : List (Vec Stmt Global)) → is_none (l ++ x ∷ []) ≡ false
+    some : (l : List (Vec Stmt Global)) → is_empty (l ++ x ∷ []) ≡ false
     some [] = refl
     some (y ∷ ys) = refl
 

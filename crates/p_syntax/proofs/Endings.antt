@@ -28,7 +28,7 @@ use Rattle.p_syntax.specs.declared.open.Frame.TheVariants as frame
 use Rattle.p_syntax.specs.declared.open.Point.TheVariants as point
 use Rattle.p_syntax.specs.declared.open.State.{State}
 use Rattle.p_syntax.specs.declared.open.Turn.TheVariants as turn
-use Rattle.syntax_reading.specs.StatementsRead.{is_none}
+use Rattle.pcal_tree.specs.Tests.{is_empty}
 use Rattle.p_syntax.specs.StatesRead.{so_far, ThenStands, ElseStands, EitherStands, FrameStands, Stands, TurnStands, list_at, past_list}
 use Rattle.p_syntax.specs.StepsRead.{test_reader}
 use Rattle.algorithm_reader.proofs.Gathered.{as_pair, fails_then, refused_as}
@@ -182,13 +182,13 @@ module _ (P : Out Turn → Type 0) (ts : List Tree) (c : p.Sequence) (q : Place)
   at_else xs x (in_else t d r) h f = f t d r h
   at_else xs x _ h f = absurd h
 
-  pub at_either : (a : Place) (bs : Vec (Vec Stmt Global) Global) (g : reader.Frame) → FrameStands ts (frame.Either a bs) g → is_none bs.items ≡ false
+  pub at_either : (a : Place) (bs : Vec (Vec Stmt Global) Global) (g : reader.Frame) → FrameStands ts (frame.Either a bs) g → is_empty bs.items ≡ false
       → ((t : reader.Arms) (d : p.Sequence) (r : Place) → EitherStands ts a bs.items (later_arm t d r) → P (ends (codes "either") (closed_either t d (p.last_branch r c) q) b ls st us)) → P (takes_end c q (inside g b ls st) us)
   at_either a bs (in_either (later_arm t d r)) h n f = f t d r h
   at_either a bs (in_either (first_arm r)) h n f = (let no : true ≡ false = sym h.first ∙ n in absurd cc)
   at_either a bs _ h n f = absurd h
 
-  pub at_first : (a : Place) (bs : Vec (Vec Stmt Global) Global) (g : reader.Frame) → FrameStands ts (frame.Either a bs) g → is_none bs.items ≡ true → P (Err (rule.Syntax, us)) → P (takes_end c q (inside g b ls st) us)
+  pub at_first : (a : Place) (bs : Vec (Vec Stmt Global) Global) (g : reader.Frame) → FrameStands ts (frame.Either a bs) g → is_empty bs.items ≡ true → P (Err (rule.Syntax, us)) → P (takes_end c q (inside g b ls st) us)
   at_first a bs (in_either (first_arm r)) h n f = f
   at_first a bs (in_either (later_arm t d r)) h n f = (let no : false ≡ true = sym h.first ∙ n in absurd cc)
   at_first a bs _ h n f = absurd h
@@ -201,6 +201,6 @@ module _ (P : Out Turn → Type 0) (ts : List Tree) (c : p.Sequence) (q : Place)
   at_while a e (in_while r x s) h f = f r x s h
   at_while a e _ h f = absurd h
 
-pub some_there : {A : Type 0} (l : List A) (n : ℕ) (b : Bool) → n ≡ length l → (b ≡ nat_eq n 0) → b ≡ false → is_none l ≡ false
+pub some_there : {A : Type 0} (l : List A) (n : ℕ) (b : Bool) → n ≡ length l → (b ≡ nat_eq n 0) → b ≡ false → is_empty l ≡ false
 some_there [] n b h e f = (let no : true ≡ false = sym (e ∙ ap (λ (k : ℕ). nat_eq k 0) h) ∙ f in absurd cc)
 some_there (x ∷ xs) n b h e f = refl

@@ -1,5 +1,5 @@
 mod RowsForms
-pub mod InLists
+pub mod Nested
 pub mod Grows
 pub mod Steps
 pub mod Sequences

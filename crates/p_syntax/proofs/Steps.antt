@@ -24,8 +24,9 @@ use Rattle.p_syntax.specs.declared.open.Test.{Test}
 use Rattle.p_syntax.specs.declared.open.Frame.{Frame}
 use Rattle.p_syntax.specs.declared.open.Point.TheVariants as point
 use Rattle.p_syntax.specs.declared.open.State.{State}
-use Rattle.p_syntax.specs.StatesRead.{before_tree, so_far, past_one, ListStands, ThenStands, EitherStands, FrameStands, Stands, StateStands}
-use Rattle.p_syntax.proofs.InLists.{one_more_stands}
+use Rattle.algorithm_reader.specs.ListsRead.{ListStands}
+use Rattle.p_syntax.specs.StatesRead.{before_tree, so_far, past_one, ThenStands, EitherStands, FrameStands, Stands, StateStands}
+use Rattle.algorithm_reader.proofs.InLists.{one_more_stands}
 
 -- ---- labels
 pub label_stands : (ts : List Tree) (s t : State) (b : Before) (ls : Labels) (st : Stack) (x : Name) (m : Mark) (c : Colon) → Stands ts s (so_far b ls) st → m ≡ mark_of c

@@ -12,7 +12,8 @@ use Rattle.pcal_tree.specs.Algorithm as tree
 use Rattle.pcal_tree.specs.InMemory.{stmt_at, statements_at, binds_at, past_statements, past_binds, past_branches}
 use Rattle.pcal_tree.specs.GrammarParts.{span, Labels, with_labels, binds_of}
 use Rattle.pcal_tree.specs.GrammarP as p
-use Rattle.syntax_reading.specs.StatementsRead.{is_none}
+use Rattle.pcal_tree.specs.Tests.{is_empty}
+use Rattle.algorithm_reader.specs.ListsRead.{in_branches, ListStands}
 use Rattle.algorithm_reader.specs.PartsRead.{StandsFor}
 use Rattle.p_reading.specs.ReadStatements as reader
 use Rattle.p_reading.specs.ReadStatements.{Before, none, after, Tests, if_test, elsif_test, Arms, first_arm, later_arm, Stack, bottom, inside, depth}
@@ -66,19 +67,10 @@ is_first (later_arm t b a) = false
 
 -- ---- the same of what is in memory
 
--- labels and statements before the rest of their list
-abbrev pub in_list : List Tree → List Stmt → Statements → Statements
-in_list ts [] rest = rest
-in_list ts (s ∷ ss) rest = stmt_at ts s (in_list ts ss rest)
-
 -- each test in the `else` of the one before it
 abbrev pub nested : List Tree → List Test → Place → Statements → Statements
 nested ts [] last rest = rest
 nested ts (x ∷ xs) last rest = tree.then (record { first = x.place; last = last }) (tree.branch (pool.at ts x.test) (statements_at ts x.then.items) (nested ts xs last rest)) tree.done
-
-abbrev pub in_branches : List Tree → List (Vec Stmt Global) → Branches → Branches
-in_branches ts [] rest = rest
-in_branches ts (b ∷ bs) rest = tree.or (statements_at ts b.items) (in_branches ts bs rest)
 
 abbrev pub past_test : Test → ℕ
 past_test x = max (x.test + 1) (past_statements x.then.items)
@@ -90,10 +82,6 @@ before_rest (tree.then s x ss) rest = tree.then s x rest
 before_rest (tree.mark x m ss) rest = tree.mark x m rest
 
 -- ---- what stands for what, over the trees of a pool
-
-pub record ListStands (ts : List Tree) (ss : List Stmt) (f : Statements → Statements) : Type 0 where
-  pub below : past_statements ss ≤ length ts
-  pub tree : (rest : Statements) → in_list ts ss rest ≡ f rest
 
 pub record ThenStands (ts : List Tree) (xs : List Test) (a : Place) (e : ℕ) (t : Tests) : Type 0 where
   pub below : greatest (map past_test xs) ≤ length ts
@@ -107,7 +95,7 @@ pub record ElseStands (ts : List Tree) (xs : List Test) (t : Tests) (c : p.Seque
 pub record EitherStands (ts : List Tree) (a : Place) (bs : List (Vec Stmt Global)) (t : Arms) : Type 0 where
   pub place : a ≡ arms_place t
   pub below : past_branches bs ≤ length ts
-  pub first : is_none bs ≡ is_first t
+  pub first : is_empty bs ≡ is_first t
   pub tree : (rest : Branches) → in_branches ts bs rest ≡ arms_tree t rest
 
 abbrev pub FrameStands : List Tree → Frame → reader.Frame → Type 0

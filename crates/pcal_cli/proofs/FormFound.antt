@@ -20,7 +20,8 @@ use Rattle.module_tree.specs.WithTranslation.{WithTranslation}
 use Rattle.module_split.specs.Splitting.{Splits}
 use Rattle.first_path.specs.Beside.{Beside, beside, declared_by, extended_by}
 use Rattle.first_path.specs.Form.{Parts, is_fit, suits}
-use Rattle.first_path.specs.TreeForm.{if_so, form_of, if_none, suiting, tree_form}
+use Rattle.first_path.specs.TreeForm.{form_of, if_none, suiting, tree_form}
+use Rattle.pcal_tree.specs.Tests.{only_if}
 use Rattle.first_path.specs.Placed.{put_in}
 use Rattle.pcal_cli.specs.OutsideTokens.{view_seen, views_of}
 
@@ -52,9 +53,9 @@ pub record Asked (x : Text) (p : code_parts.Parts) (m : Word) : Type 0 where
   pub titled : m ≡ stretch x p.title.from p.title.to
 
 asked_form : (x : Text) (p : code_parts.Parts) (m : Word) (g : Algorithm) → Asked x p m
-    → tree_form x g ≡ on_some (form_of m g) (λ f. if_so (is_fit f) (suiting (beside_with (views_of p.before) (views_of p.after)) f))
+    → tree_form x g ≡ on_some (form_of m g) (λ f. only_if (is_fit f) (suiting (beside_with (views_of p.before) (views_of p.after)) f))
 asked_form x p m g a =
-    let form : Word → Beside → Option Parts = λ m o. on_some (form_of m g) (λ f. if_so (is_fit f) (suiting o f)) in
+    let form : Word → Beside → Option Parts = λ m o. on_some (form_of m g) (λ f. only_if (is_fit f) (suiting o f)) in
     let around = beside_is x p a.splits in
     ap (λ (os : List Offence). if_none os (on_some (title (walk x)) (λ m. form m (beside (walk x))))) a.fine
     ∙ ap (λ (o : Option Word). on_some o (λ m. form m (beside (walk x)))) a.splits.title
@@ -62,21 +63,21 @@ asked_form x p m g a =
 
 pub no_form : (x : Text) (p : code_parts.Parts) (m : Word) (g : Algorithm) → Asked x p m → form_of m g ≡ None → tree_form x g ≡ None
 no_form x p m g a e =
-    asked_form x p m g a ∙ ap (λ (o : Option Parts). on_some o (λ f. if_so (is_fit f) (suiting (beside_with (views_of p.before) (views_of p.after)) f))) e
+    asked_form x p m g a ∙ ap (λ (o : Option Parts). on_some o (λ f. only_if (is_fit f) (suiting (beside_with (views_of p.before) (views_of p.after)) f))) e
 
 -- with parts that fit, or don't
 fit_by : (x : Text) (p : code_parts.Parts) (m : Word) (g : Algorithm) (f : Parts) (b : Bool) → Asked x p m → form_of m g ≡ Some f → is_fit f ≡ b
-    → tree_form x g ≡ if_so b (suiting (beside_with (views_of p.before) (views_of p.after)) f)
+    → tree_form x g ≡ only_if b (suiting (beside_with (views_of p.before) (views_of p.after)) f)
 fit_by x p m g f b a found fit =
-    asked_form x p m g a ∙ ap (λ (o : Option Parts). on_some o (λ f. if_so (is_fit f) (suiting (beside_with (views_of p.before) (views_of p.after)) f))) found
-    ∙ ap (λ (b : Bool). if_so b (suiting (beside_with (views_of p.before) (views_of p.after)) f)) fit
+    asked_form x p m g a ∙ ap (λ (o : Option Parts). on_some o (λ f. only_if (is_fit f) (suiting (beside_with (views_of p.before) (views_of p.after)) f))) found
+    ∙ ap (λ (b : Bool). only_if b (suiting (beside_with (views_of p.before) (views_of p.after)) f)) fit
 
 pub unfit_form : (x : Text) (p : code_parts.Parts) (m : Word) (g : Algorithm) (f : Parts) → Asked x p m → form_of m g ≡ Some f → is_fit f ≡ false → tree_form x g ≡ None
 unfit_form x p m g f a found fit = fit_by x p m g f false a found fit
 
 suited_by : (x : Text) (p : code_parts.Parts) (m : Word) (g : Algorithm) (f : Parts) (b : Bool) → Asked x p m → form_of m g ≡ Some f → is_fit f ≡ true
-    → suits (beside_with (views_of p.before) (views_of p.after)) f ≡ b → tree_form x g ≡ if_so b (Some f)
-suited_by x p m g f b a found fit suit = fit_by x p m g f true a found fit ∙ ap (λ (b : Bool). if_so b (Some f)) suit
+    → suits (beside_with (views_of p.before) (views_of p.after)) f ≡ b → tree_form x g ≡ only_if b (Some f)
+suited_by x p m g f b a found fit suit = fit_by x p m g f true a found fit ∙ ap (λ (b : Bool). only_if b (Some f)) suit
 
 pub some_form : (x : Text) (p : code_parts.Parts) (m : Word) (g : Algorithm) (f : Parts) → Asked x p m → form_of m g ≡ Some f → is_fit f ≡ true
     → suits (beside_with (views_of p.before) (views_of p.after)) f ≡ true → tree_form x g ≡ Some f

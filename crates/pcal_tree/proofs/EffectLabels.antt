@@ -8,7 +8,8 @@ use Rattle.pcal_tree.specs.Run.{Partner, partner_of}
 use Rattle.pcal_tree.specs.Paths.{Effect, Effects, Path, after_one}
 use Rattle.pcal_tree.specs.Variables.{declared}
 use Rattle.pcal_tree.specs.OffencesSteps.{Before, due_after, inside, next, call_effect, procedure_effects, outer_effects}
-use Rattle.pcal_tree.specs.Labelled.{Supply, names_after, is_empty, labelled_if, inside_needs, needs_label, before, add_inside, add, add_some, add_to_macros, add_to_procedures, add_to_processes, add_to_main, typed_labels, with_labels, is_alone, labelled, labelled_by}
+use Rattle.pcal_tree.specs.Labelled.{Supply, names_after, labelled_if, inside_needs, needs_label, before, add_inside, add, add_some, add_to_macros, add_to_procedures, add_to_processes, add_to_main, typed_labels, with_labels, is_alone, labelled, labelled_by}
+use Rattle.pcal_tree.specs.Tests.{is_empty}
 use Rattle.pcal_tree.specs.laws.MacroSummaries.{summaries, summary_effect}
 use Rattle.pcal_tree.proofs.SummaryLaws.{Agreeing, calls_agree}
 use Rattle.pcal_tree.proofs.EffectLaws.{Alike, AgreeAll, alike_after_one, At, here_alike, inside_alike, effects_agree}

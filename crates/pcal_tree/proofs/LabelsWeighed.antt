@@ -5,7 +5,8 @@ use Rattle.tla_token.specs.declared.rule.Rule.TheVariants.{FirstLabel}
 use Rattle.tla_tree.specs.Tree.{Word, Trees}
 use Rattle.pcal_tree.specs.Algorithm.{Statement, assign, await, print, assert, skip, branch, either, with, while, goto, macro, call, return, Statements, done, then, mark, Branches, no_branches, or, Macro, Procedure, Process, Main, alone, processes, Algorithm}
 use Rattle.pcal_tree.specs.Grammar.{Text, spell, algorithm_of}
-use Rattle.pcal_tree.specs.Labelled.{Supply, names_after, labelled_if, needs_label, before, add_inside, add, add_some, add_to_macros, add_to_procedures, add_to_processes, add_to_main, typed_labels, with_labels, is_alone, is_empty, labelled}
+use Rattle.pcal_tree.specs.Labelled.{Supply, names_after, labelled_if, needs_label, before, add_inside, add, add_some, add_to_macros, add_to_procedures, add_to_processes, add_to_main, typed_labels, with_labels, is_alone, labelled}
+use Rattle.pcal_tree.specs.Tests.{is_empty}
 use Rattle.pcal_tree.specs.Names.{kept, wanted}
 use Rattle.pcal_tree.specs.OffencesSteps.{Before, at_label, at_first, inside, next, call_effect, procedure_effects, outer_effects}
 use Rattle.pcal_tree.specs.Paths.{Effect, Effects, nothing, after_one}

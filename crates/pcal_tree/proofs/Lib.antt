@@ -89,3 +89,4 @@ pub mod RowsDeep
 pub mod InMemoryGrown
 pub mod InMemoryEach
 mod RowsInMemory
+pub mod StatementHeights

@@ -17,7 +17,7 @@ every_one Q x [] h k = absurd k
 every_one Q x (y ∷ ys) h (inl e) = subst Q (sym e) h.0
 every_one Q x (y ∷ ys) h (inr k) = every_one Q x ys h.1 k
 
-one_each : {X Y : Type 0} (f : X → List Y) (x : X) (y : Y) (xs : List X) → OneOf x xs → OneOf y (f x) → OneOf y (flat_map f xs)
+pub one_each : {X Y : Type 0} (f : X → List Y) (x : X) (y : Y) (xs : List X) → OneOf x xs → OneOf y (f x) → OneOf y (flat_map f xs)
 one_each f x y [] h k = absurd h
 one_each f x y (z ∷ zs) (inl e) k = one_left y (f z) (flat_map f zs) (subst (λ u. OneOf y (f u)) e k)
 one_each f x y (z ∷ zs) (inr h) k = one_right y (f z) (flat_map f zs) (one_each f x y zs h k)

@@ -7,6 +7,7 @@ use Rattle.tla_token.specs.declared.rule.Rule.TheVariants.{FirstLabel}
 use Rattle.tla_token.specs.declared.rule.Refusal.{Refusal}
 use Rattle.tla_token.specs.Signs.{is_among}
 use Rattle.tla_tree.specs.Tree.{Word, Trees}
+use Rattle.pcal_tree.specs.Tests.{is_empty}
 use Rattle.pcal_tree.specs.declared.mark.Mark.TheVariants.{Plain}
 use Rattle.pcal_tree.specs.Algorithm.{Span, Statement, branch, either, with, while, Statements, done, then, mark, Branches, no_branches, or, Macro, Procedure, Process, Main, alone, processes, Algorithm}
 use Rattle.pcal_tree.specs.Run.{Partner, partner_of}
@@ -39,10 +40,6 @@ rest_of s = record { root = s.root; typed = s.typed; from = suc (number s) }
 
 abbrev pub names_after : Bool → Supply → Supply
 names_after b s = cond b (rest_of s) s
-
-abbrev pub is_empty : {X : Type 0} → List X → Bool
-is_empty [] = true
-is_empty (x ∷ xs) = false
 
 -- ---- statements
 

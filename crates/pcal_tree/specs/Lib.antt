@@ -53,3 +53,4 @@ pub mod laws
 pub mod Takers
 pub mod InMemory
 pub mod Syntaxes
+pub mod Tests

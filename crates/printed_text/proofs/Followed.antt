@@ -15,6 +15,7 @@ use Rattle.tla_token.proofs.Parted.{first_part, fits_first, same_some, some_part
 use Rattle.module_tree.specs.TextFront.{Text}
 use Rattle.module_tree.specs.ModuleParts.{kind_in}
 use Rattle.module_tree.specs.AlgorithmText.{Stage, is_past, after_part, Inside, with_part, inner_part, inside}
+use Rattle.module_tree.proofs.InsidePieces.{piece_found}
 use Rattle.module_tree.proofs.WalkLines.{begins_alike}
 use Rattle.module_tree.proofs.InsidePieces.{inside_pieces, quoted, passed}
 
@@ -104,22 +105,6 @@ fit_alone [] q h = tt
 fit_alone (p ∷ ps) q h = (fits_less p (text_of ps) q h.0, fit_alone ps q h.1)
 
 -- ---- found in a comment
-
-piece_found : (p : Piece) (b : ℕ) (m rest r : Text) → bytes_of p ≡ b ∷ m → Fits p rest → inner_part (length (m ++ rest)) b ((m ++ rest) ++ r) ≡ sound p
-piece_found p b m rest r e h = by (nat_eq b 34) refl
-  where
-    found : part_at b (m ++ rest) ≡ sound p
-    found = same_some (part_at b (m ++ rest)) (sound p) (ap (λ (u : Text). first_part (u ++ rest)) (sym e) ∙ fits_first (sound p) rest h)
-
-    choose : {k : Bool} → nat_eq b 34 ≡ k
-        → inner_part (length (m ++ rest)) b ((m ++ rest) ++ r) ≡ part_at b (if k then (m ++ rest) ++ r else take (length (m ++ rest)) ((m ++ rest) ++ r))
-    choose e = ap (λ (k : Bool). part_at b (if k then (m ++ rest) ++ r else take (length (m ++ rest)) ((m ++ rest) ++ r))) e
-
-    by : (k : Bool) → nat_eq b 34 ≡ k → inner_part (length (m ++ rest)) b ((m ++ rest) ++ r) ≡ sound p
-    by true k =
-        let same : b ≡ 34 = eqb-true b 34 k in
-        choose k ∙ (ap (λ (c : ℕ). part_at c ((m ++ rest) ++ r)) same ∙ quoted (m ++ rest) r p (ap (λ (c : ℕ). part_at c (m ++ rest)) (sym same) ∙ found))
-    by false k = choose k ∙ ap (part_at b) (take-append_seam (m ++ rest) r) ∙ found
 
 less : (n : ℕ) → suc n - 1 ≡ n
 less n = omega arith

@@ -1,5 +1,6 @@
 -- Tokens before others are no fewer than those.
-use Rattle.std.proofs.Common.{◌≤◌, suc, List, length, Option, Some, None, arith}
+use Rattle.std.proofs.Common.{◌≤◌, suc, List, [], ◌∷◌, length, Option, Some, None, arith}
+use Rattle.std.specs.List.{AllByRecursion}
 use Rattle.tla_token.specs.declared.place.Place.{Place}
 use Rattle.tla_tree.specs.Lexical.{Token}
 use Rattle.tla_tree.specs.Lexical as tk
@@ -7,6 +8,7 @@ use Rattle.tla_tree.specs.Spelling.{Phrase, spell}
 use Rattle.tla_tree.proofs.Steps.{few, few_all}
 use Rattle.pcal_tree.specs.GrammarParts.{Separator, by_semicolon, by_comma, Initial, unset, equals, among, Variables, last_variable, variable, Section, no_section, section, Names, last_name, more_names, MacroParameters, no_names, some_names, Parameters, last_parameter, parameter, ProcedureParameters, no_parameters, some_parameters, Heading, plain, applied, Definitions, last_definition, more_definitions, Colon, colon, colon_plus, colon_minus, Labels, no_labels, label, Binds, last_bind, bind, Arguments, no_arguments, some_arguments, Assignments, last_assignment, assignment, Simple}
 use Rattle.pcal_tree.specs.GrammarParts as g
+use Rattle.pcal_tree.specs.Grammar.{Fair, unfair, weak, strong, fair, each}
 
 abbrev pub Grows : (List Token → List Token) → Type 0
 Grows x = (ts : List Token) → length ts ≤ length (x ts)
@@ -98,3 +100,12 @@ grow_simple (g.goto p x) ts = omega arith
 grow_simple (g.call p x xs) ts = omega (arith, grow_arguments xs ts)
 grow_simple (g.return p) ts = omega arith
 grow_simple (g.macro x xs) ts = omega (arith, grow_arguments xs ts)
+
+pub grow_fair : (f : Fair) → Grows (fair f)
+grow_fair unfair ts = omega arith
+grow_fair (weak p) ts = omega arith
+grow_fair (strong p q) ts = omega arith
+
+pub grow_each : {A : Type 0} (f : A → List Token → List Token) (Q : A → Type 0) → ((x : A) → Q x → GrowsMore (f x)) → (xs : List A) → AllByRecursion Q xs → Grows (each f xs)
+grow_each f Q h [] i ts = omega arith
+grow_each f Q h (x ∷ xs) i ts = omega (arith, h x i.0 (each f xs ts), grow_each f Q h xs i.1 ts)

@@ -14,19 +14,9 @@ use Rattle.syntax_reading.specs.TokenReaders.{first, Parts}
 use Rattle.syntax_reading.specs.ReadSimple.{left_by, read_left, assignments_by, read_assignments, named_by}
 use Rattle.syntax_reading.proofs.SoundSimple.{IsLeft}
 use Rattle.syntax_reading.proofs.Whole.{Fits, smaller, less, then_is, WholeParts}
-use Rattle.syntax_reading.proofs.WholeSimple.{root, after_root, root_tokens, first_left, after_first, assignment_tokens, is_left_next}
+use Rattle.syntax_reading.proofs.WholeSimple.{root, after_root, root_tokens, assignment_right, first_left, after_first, assignment_tokens, is_left_next}
 use Rattle.syntax_reading.proofs.Lengths.{grow_phrase, grow_assignments}
 use Rattle.syntax_reading.proofs.WholeEnds.{is_divider_next, next_calm}
-
-root_right : (a : Phrase) → is_left_side a ≡ true → IsGood a → nat_lt 0 (root a).place.col ≡ true
-root_right (spelled.name p x) l i = i
-root_right (spelled.apply a p xs q) l i = root_right a l i.0
-root_right (spelled.select a p f) l i = root_right a l i.0
-root_right a l i = absurd cc
-
-assignment_right : (ms : Assignments) → GoodAssignments ms → nat_lt 0 (root (first_left ms)).place.col ≡ true
-assignment_right (last_assignment l p e) i = root_right l i.0 i.1
-assignment_right (assignment l p e q ms) i = root_right l i.0 i.1
 
 module _ (m : ℕ) (r : Parts) (h : WholeParts m r) where
   -- ---- left sides

@@ -72,7 +72,7 @@ pub assignment_next : (ms : Assignments) → GoodAssignments ms → (ts : List T
 assignment_next (last_assignment l p e) i ts = left_next l i.0 (mark p tk.assigns (spell e ts)) refl
 assignment_next (assignment l p e q ms) i ts = left_next l i.0 (mark p tk.assigns (spell e (mark q tk.beside (assignments ms ts)))) refl
 
-assignment_right : (ms : Assignments) → GoodAssignments ms → nat_lt 0 (root (first_left ms)).place.col ≡ true
+pub assignment_right : (ms : Assignments) → GoodAssignments ms → nat_lt 0 (root (first_left ms)).place.col ≡ true
 assignment_right (last_assignment l p e) i = root_right l i.0 i.1
 assignment_right (assignment l p e q ms) i = root_right l i.0 i.1
 

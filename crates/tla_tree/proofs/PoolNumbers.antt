@@ -6,6 +6,7 @@ use Rattle.tla_token.specs.declared.place.Place.{Place}
 use Rattle.tla_tree.specs.Tree.{Form, Tree, node, Trees, Graft, graft, grafted_node}
 use Rattle.tla_tree.specs.TreeOf.{trees_from}
 use Rattle.tla_tree.specs.Pool.{at, AllBelow, Keeps}
+use Rattle.tla_tree.specs.Nesting.{greatest}
 use Rattle.tla_tree.proofs.TreeLemmas.{grafts_from}
 
 -- numbers of these trees
@@ -28,6 +29,18 @@ pub AllBelow-at : (m : ℕ) (is : List ℕ) (k d : ℕ) → AllBelow m is → k 
 AllBelow-at m [] k d h lt = absurd (omega arith)
 AllBelow-at m (i ∷ is) zero d h lt = h.0
 AllBelow-at m (i ∷ is) (suc k) d h lt = AllBelow-at m is k d h.1 (omega arith)
+
+-- a number of an element is within a bound on all
+pub past_at : {A : Type 0} (f : A → ℕ) (xs : List A) (i : ℕ) (x : A) → x ≡ get_or xs i x → i < length xs → f x ≤ greatest (map f xs)
+past_at f [] i x is lt = absurd (omega arith)
+past_at f (y ∷ ys) zero x is lt = (let e = ap f is in omega (arith, e))
+past_at f (y ∷ ys) (suc i) x is lt = (let r = past_at f ys i x is (omega (arith, lt)) in omega (arith, r))
+
+-- within a list the default doesn't count
+pub same_default : {A : Type 0} (xs : List A) (i : ℕ) (d e : A) → i < length xs → get_or xs i d ≡ get_or xs i e
+same_default [] i d e lt = absurd (omega arith)
+same_default (x ∷ xs) zero d e lt = refl
+same_default (x ∷ xs) (suc i) d e lt = same_default xs i d e (omega (arith, lt))
 
 pub map_at-kept : (ts us : List Tree) (is : List ℕ) → Keeps ts us → AllBelow (length ts) is → map (at us) is ≡ map (at ts) is
 map_at-kept ts us [] k h = refl

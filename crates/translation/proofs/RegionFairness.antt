@@ -23,14 +23,15 @@ use Rattle.pcal_tree.specs.Variables.{pc}
 use Rattle.pcal_tree.proofs.BodyLabels.{labels_in, labels, labels_of, same_labels}
 use Rattle.action_builder.specs.WrittenNames.{with_names}
 use Rattle.action_builder.proofs.FitJumps.{identifier_string}
+use Rattle.action_builder.specs.LabelActions.{call_by}
 use Rattle.fairness.specs.MarkedLabels.{Marked, marked_in, marked, marked_some, if_left_out, if_strong, left_out_labels, strong_labels}
 use Rattle.fairness.specs.ReachedProcedures.{called_by as calls_of, reached_within, reached}
 use Rattle.fairness.specs.Demands.{Demand, all_steps, routine_steps, label_steps, demands_in, demands_of, main_demands, demands}
 use Rattle.fairness.specs.Obligations.{written_labels}
-use Rattle.fairness.specs.FairnessLines.{identifier_of, over_of, own_call, action_call, guard_of, line_of, fairness_lines}
+use Rattle.fairness.specs.FairnessLines.{identifier_of, over_of, action_call, guard_of, line_of, fairness_lines}
 use Rattle.translation.specs.laws.WritableAlgorithm.{IsWritableMain, IsWritableAlgorithm}
 use Rattle.translation.proofs.RoutinesNamed.{IsTitled, label_identifiers, title_free, label_name_string, label_name_identifier}
-use Rattle.translation.proofs.RegionActions.{every_map, every_both, every_flat, one_filtered, self_name, named_writable, quoted_writable, TakersFit, procedures_in, mains_in}
+use Rattle.translation.proofs.RegionActions.{every_map, every_both, every_flat, one_filtered, self_name, named_writable, quoted_writable, TakersFit, procedures_in, mains_in, call_writable}
 use Rattle.translation.proofs.RegionInit.{in_writable, listed_writable}
 use Rattle.translation.proofs.RegionNext.{at_writable}
 use Rattle.translation.proofs.RegionTakers.{takers_fit}
@@ -86,16 +87,11 @@ over_writable (each_of s) f = (self_name, f)
 over_writable (single e) f = tt
 over_writable lone f = tt
 
-own_call_writable : (t : Takers) (x : Word) → IsIdentifier x → IsCall (own_call t x)
-own_call_writable (each_of s) x i = (i, named_writable self self_name)
-own_call_writable (single e) x i = i
-own_call_writable lone x i = i
-
 called_writable : (t : Taken) (u : Routine) (x : Word) → TakersFit t.takers → IsIdentifier x → IsCall (action_call t u x)
 called_writable t u x f i = by (nat_eq t.routine.number u.number)
   where
-    by : (b : Bool) → IsCall (cond b (own_call t.takers x) (call_with x (identifier_of t.takers)))
-    by true = own_call_writable t.takers x i
+    by : (b : Bool) → IsCall (cond b (call_by t.takers x) (call_with x (identifier_of t.takers)))
+    by true = call_writable t.takers x i
     by false = (i, identifier_writable t.takers f)
 
 guard_writable : (t : Takers) → TakersFit t → (ls : List Word) → AllByRecursion IsString ls → IsGuard (guard_of t ls)

@@ -18,7 +18,7 @@ use Rattle.pcal_tree.specs.Program.{Program, written}
 use Rattle.pcal_tree.specs.Variables.{declared, pc, stack}
 use Rattle.pcal_tree.proofs.BodyLabels.{same_labels}
 use Rattle.pcal_tree.proofs.FreeNames.{given_apart, given_untaken, every_map}
-use Rattle.pcal_tree.proofs.RoutineNames.{one_either}
+use Rattle.pcal_tree.proofs.RoutineNames.{one_either, one_each}
 use Rattle.pcal_tree.proofs.TroubleLaws.{one_left, one_right}
 use Rattle.action_builder.specs.WrittenNames.{with_names}
 use Rattle.action_builder.specs.laws.Jumps.{AllUnlike}
@@ -38,11 +38,6 @@ true_false e = cc
 all_flat : {X Y : Type 0} (Q : Y → Type 0) (f : X → List Y) (xs : List X) → ((x : X) → OneOf x xs → AllByRecursion Q (f x)) → AllByRecursion Q (flat_map f xs)
 all_flat Q f [] h = tt
 all_flat Q f (x ∷ xs) h = every_both Q (f x) (flat_map f xs) (h x (inl refl)) (all_flat Q f xs (λ y k. h y (inr k)))
-
-pub one_flat : {X Y : Type 0} (f : X → List Y) (x : X) (y : Y) (xs : List X) → OneOf x xs → OneOf y (f x) → OneOf y (flat_map f xs)
-one_flat f x y [] h k = absurd h
-one_flat f x y (z ∷ zs) (inl e) k = one_left y (f z) (flat_map f zs) (subst (λ u. OneOf y (f u)) e k)
-one_flat f x y (z ∷ zs) (inr h) k = one_right y (f z) (flat_map f zs) (one_flat f x y zs h k)
 
 pub one_each_of : (Q : Word → Type 0) (xs : List Word) → Each Q xs → (x : Word) → OneOf x xs → Q x
 one_each_of Q [] h x k = absurd k
@@ -78,14 +73,14 @@ one_wants n r x (w ∷ ws) (inl e) = inl (ap (want_of n r) e)
 one_wants n r x (w ∷ ws) (inr h) = inr (one_wants n r x ws h)
 
 main_wanted : (a : Algorithm) (m : Main) (u : Routine) (w : Want) → OneOf u (main_routines a m) → OneOf w (wanted_within u) → OneOf w (wanted_by_main a m)
-main_wanted a (alone b) u w h k = one_flat wanted_within u w (main_routines a (alone b)) h k
-main_wanted a (processes ps) u w h k = one_flat wanted_by u w (main_routines a (processes ps)) h (inr k)
+main_wanted a (alone b) u w h k = one_each wanted_within u w (main_routines a (alone b)) h k
+main_wanted a (processes ps) u w h k = one_each wanted_by u w (main_routines a (processes ps)) h (inr k)
 
 within_wanted : (a : Algorithm) (u : Routine) (w : Want) → OneOf u (routines a) → OneOf w (wanted_within u) → OneOf w (wanted a)
 within_wanted a u w h k = by (one_either u (procedure_routines a) (main_routines a a.main) h)
   where
     by : OneOf u (procedure_routines a) ⊎ OneOf u (main_routines a a.main) → OneOf w (wanted a)
-    by (inl p) = one_left w (flat_map wanted_by (procedure_routines a)) (wanted_by_main a a.main) (one_flat wanted_by u w (procedure_routines a) p (inr k))
+    by (inl p) = one_left w (flat_map wanted_by (procedure_routines a)) (wanted_by_main a a.main) (one_each wanted_by u w (procedure_routines a) p (inr k))
     by (inr p) = one_right w (flat_map wanted_by (procedure_routines a)) (wanted_by_main a a.main) (main_wanted a a.main u w p k)
 
 -- a procedure, or one of several processes
@@ -95,13 +90,13 @@ IsTitled a (processes ps) u = OneOf u (procedure_routines a) ⊎ OneOf u (main_r
 
 title_wanted : (a : Algorithm) (m : Main) (u : Routine) → IsTitled a m u → OneOf (want_of u.number title u.name.word) (flat_map wanted_by (procedure_routines a) ++ wanted_by_main a m)
 title_wanted a (alone b) u h =
-    one_left (want_of u.number title u.name.word) (flat_map wanted_by (procedure_routines a)) (wanted_by_main a (alone b)) (one_flat wanted_by u (want_of u.number title u.name.word) (procedure_routines a) h (inl refl))
+    one_left (want_of u.number title u.name.word) (flat_map wanted_by (procedure_routines a)) (wanted_by_main a (alone b)) (one_each wanted_by u (want_of u.number title u.name.word) (procedure_routines a) h (inl refl))
 title_wanted a (processes ps) u (inl h) =
     one_left (want_of u.number title u.name.word) (flat_map wanted_by (procedure_routines a)) (wanted_by_main a (processes ps))
-    (one_flat wanted_by u (want_of u.number title u.name.word) (procedure_routines a) h (inl refl))
+    (one_each wanted_by u (want_of u.number title u.name.word) (procedure_routines a) h (inl refl))
 title_wanted a (processes ps) u (inr h) =
     one_right (want_of u.number title u.name.word) (flat_map wanted_by (procedure_routines a)) (wanted_by_main a (processes ps))
-    (one_flat wanted_by u (want_of u.number title u.name.word) (main_routines a (processes ps)) h (inl refl))
+    (one_each wanted_by u (want_of u.number title u.name.word) (main_routines a (processes ps)) h (inl refl))
 
 -- ---- the names of an algorithm
 

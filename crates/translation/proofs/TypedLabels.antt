@@ -13,7 +13,8 @@ use Rattle.pcal_tree.specs.Algorithm.{Span, Statement, assign, await, print, ass
 use Rattle.pcal_tree.specs.Run.{partner_of}
 use Rattle.pcal_tree.specs.Paths.{Effect, Effects, nothing, after_one}
 use Rattle.pcal_tree.specs.OffencesSteps.{Before, at_label, at_first, inside, next, call_effect, procedure_effects, outer_effects}
-use Rattle.pcal_tree.specs.Labelled.{added_name, Supply, number, names_after, labelled_if, needs_label, before, add_inside, add, add_some, add_to_macros, add_to_procedures, add_to_processes, add_to_main, typed_labels, with_labels, is_alone, is_empty, labelled}
+use Rattle.pcal_tree.specs.Labelled.{added_name, Supply, number, names_after, labelled_if, needs_label, before, add_inside, add, add_some, add_to_macros, add_to_procedures, add_to_processes, add_to_main, typed_labels, with_labels, is_alone, labelled}
+use Rattle.pcal_tree.specs.Tests.{is_empty}
 use Rattle.translation.specs.laws.WritableAlgorithm.{IsStarted}
 use Rattle.translation.specs.laws.TypedAlgorithm.{IsTypedStatement, AreTypedStatements, AreTypedBranches, IsTypedMacro, IsTypedProcedure, IsTypedProcess, IsTypedMain, IsTypedAlgorithm}
 

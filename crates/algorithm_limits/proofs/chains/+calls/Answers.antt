@@ -2,7 +2,8 @@
 use Rattle.std.proofs.Common.{max, List, Vec, Global, sym, ap, ◌∙◌, arith}
 use Rattle.pcal_tree.specs.declared.algorithm.Stmt.{Stmt}
 use Rattle.pcal_tree.specs.InMemory.{stmt_at, statements_at, branches_at}
-use Rattle.algorithm_limits.proofs.Heights.{height, heights, branch_heights, either_height, part_at}
+use Rattle.pcal_tree.proofs.StatementHeights.{height, heights, branch_heights, either_height}
+use Rattle.tla_tree.proofs.PoolNumbers.{past_at}
 use Rattle.pcal_tree.specs.OffencesCounts.{calls_of, calls_of_some}
 use Rattle.algorithm_limits.specs.ChainsIn.{longest_in}
 use Rattle.algorithm_limits.proofs.CallWalks.{simple_longest, if_longest, either_longest, with_longest, while_longest, stmt_more, stmts_done, branch_more}
@@ -10,12 +11,12 @@ use Rattle.algorithm_limits.proofs.chains.+calls.Goals as goal
 
 pub longest_in_branches-longest_in_statements-longest-requires : goal.longest_in_branches-longest_in_statements-longest-requires
 longest_in_branches-longest_in_statements-longest-requires t c =
-    let less = part_at (λ (b : Vec Stmt Global). heights b.items) c.args.list.now c.loop-i.i c.index-list-i.result c.index-list-i.is c.loop-i-test.true in
+    let less = past_at (λ (b : Vec Stmt Global). heights b.items) c.args.list.now c.loop-i.i c.index-list-i.result c.index-list-i.is c.loop-i-test.true in
     omega (arith, less, ap heights c.deref.ensures.value, c.decreases)
 
 pub longest_in_statements-longest_in_stmt-longest-requires : goal.longest_in_statements-longest_in_stmt-longest-requires
 longest_in_statements-longest_in_stmt-longest-requires t c =
-    let less = part_at height c.args.stmts.now c.loop-stmt.stmt-index c.stmt-item.result c.stmt-item.is c.loop-stmt-test.true in omega (arith, less, c.decreases)
+    let less = past_at height c.args.stmts.now c.loop-stmt.stmt-index c.stmt-item.result c.stmt-item.is c.loop-stmt-test.true in omega (arith, less, c.decreases)
 
 pub longest_in_stmt-longest_in_branches-requires : goal.longest_in_stmt-longest_in_branches-requires
 longest_in_stmt-longest_in_branches-requires t c =

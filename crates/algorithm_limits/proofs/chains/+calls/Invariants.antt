@@ -4,7 +4,7 @@ use Rattle.tla_tree.specs.Tree.{Tree}
 use Rattle.pcal_tree.specs.InMemory.{statements_at, branches_at}
 use Rattle.pcal_tree.specs.OffencesCounts.{calls_of, calls_of_some}
 use Rattle.algorithm_limits.specs.ChainsIn.{longest_in}
-use Rattle.algorithm_limits.proofs.Heights.{height, heights, branch_heights}
+use Rattle.pcal_tree.proofs.StatementHeights.{height, heights, branch_heights}
 use Rattle.algorithm_limits.proofs.chains.+calls.Given as goal
 
 abbrev pub decreases-longest_in_stmt : goal.decreases-longest_in_stmt

@@ -2,7 +2,8 @@
 use Rattle.std.proofs.Common.{List, Vec, Global, sym, ap, ◌∙◌, arith}
 use Rattle.pcal_tree.specs.declared.algorithm.Stmt.{Stmt}
 use Rattle.pcal_tree.specs.InMemory.{stmt_at, statements_at, branches_at}
-use Rattle.algorithm_limits.proofs.Heights.{height, heights, branch_heights, either_height, part_at}
+use Rattle.pcal_tree.proofs.StatementHeights.{height, heights, branch_heights, either_height}
+use Rattle.tla_tree.proofs.PoolNumbers.{past_at}
 use Rattle.algorithm_limits.specs.Counting.{counted}
 use Rattle.algorithm_limits.specs.LabelNames.{label_names, names_of_some}
 use Rattle.algorithm_limits.proofs.LabelWalks.{simple_counted, if_counted, either_counted, with_counted, while_counted, stmt_more, stmts_done, branch_more}
@@ -10,12 +11,12 @@ use Rattle.algorithm_limits.proofs.labels.+labels.Goals as goal
 
 pub with_branches-with_statements-so_far-requires : goal.with_branches-with_statements-so_far-requires
 with_branches-with_statements-so_far-requires t c =
-    let less = part_at (λ (b : Vec Stmt Global). heights b.items) c.args.list.now c.loop-i.i c.index-list-i.result c.index-list-i.is c.loop-i-test.true in
+    let less = past_at (λ (b : Vec Stmt Global). heights b.items) c.args.list.now c.loop-i.i c.index-list-i.result c.index-list-i.is c.loop-i-test.true in
     omega (arith, less, ap heights c.deref.ensures.value, c.decreases)
 
 pub with_statements-with_stmt-so_far-requires : goal.with_statements-with_stmt-so_far-requires
 with_statements-with_stmt-so_far-requires t c =
-    let less = part_at height c.args.stmts.now c.loop-stmt.stmt-index c.stmt-item.result c.stmt-item.is c.loop-stmt-test.true in omega (arith, less, c.decreases)
+    let less = past_at height c.args.stmts.now c.loop-stmt.stmt-index c.stmt-item.result c.stmt-item.is c.loop-stmt-test.true in omega (arith, less, c.decreases)
 
 pub with_stmt-with_branches-requires : goal.with_stmt-with_branches-requires
 with_stmt-with_branches-requires t c =

@@ -4,7 +4,7 @@ use Rattle.tla_tree.specs.Tree.{Tree}
 use Rattle.pcal_tree.specs.InMemory.{statements_at, branches_at}
 use Rattle.algorithm_limits.specs.Counting.{counted}
 use Rattle.algorithm_limits.specs.LabelNames.{label_names, names_of_some}
-use Rattle.algorithm_limits.proofs.Heights.{height, heights, branch_heights}
+use Rattle.pcal_tree.proofs.StatementHeights.{height, heights, branch_heights}
 use Rattle.algorithm_limits.proofs.labels.+labels.Given as goal
 
 abbrev pub decreases-with_stmt : goal.decreases-with_stmt

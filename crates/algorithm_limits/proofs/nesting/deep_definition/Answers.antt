@@ -7,13 +7,13 @@ use Rattle.pcal_tree.specs.InMemory.{definition_at, definitions_at, past_definit
 use Rattle.pcal_tree.specs.Program.{inner}
 use Rattle.algorithm_limits.specs.Numbers.{with_number}
 use Rattle.algorithm_limits.specs.DepthsIn.{AreDepths}
-use Rattle.algorithm_limits.proofs.Heights.{part_at}
+use Rattle.tla_tree.proofs.PoolNumbers.{past_at}
 use Rattle.algorithm_limits.proofs.DeepFound.{deep_as, deep_more}
 use Rattle.algorithm_limits.proofs.nesting.deep_definition.Goals as goal
 
 pub definition_nests-requires-clause-there : goal.definition_nests-requires-clause-there
 definition_nests-requires-clause-there c =
-    let past = part_at past_definition c.args.definitions.now c.loop-definition.definition-index c.definition-item.result c.definition-item.is c.loop-definition-test.true in omega (arith, past, c.requires)
+    let past = past_at past_definition c.args.definitions.now c.loop-definition.definition-index c.definition-item.result c.definition-item.is c.loop-definition-test.true in omega (arith, past, c.requires)
 
 pub loop-definition-preserved : goal.loop-definition-preserved
 loop-definition-preserved c =

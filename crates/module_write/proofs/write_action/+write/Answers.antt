@@ -6,7 +6,7 @@ use Rattle.module_tree.specs.Layout.{line, item_text, items_text, branches_text}
 use Rattle.module_write.specs.InMemory.{item_at, items_at, branches_at, past_item, past_items, past_branches}
 use Rattle.module_write.proofs.ItemEquations.{exists_at, local_at, choice_at, either_at, past_either}
 use Rattle.module_write.proofs.Heights.{height, heights, branch_heights, either_height}
-use Rattle.module_write.proofs.Below.{past_at}
+use Rattle.tla_tree.proofs.PoolNumbers.{past_at}
 use Rattle.tla_write.proofs.OneMore.{listed_more}
 use Rattle.module_write.proofs.write_action.+write.Goals as goal
 

@@ -5,7 +5,7 @@ use Rattle.tla_tree.specs.Pool.{at}
 use Rattle.tla_tree.specs.Written.{written}
 use Rattle.tla_tree.proofs.PoolNumbers.{AllBelow-at}
 use Rattle.module_tree.specs.Layout.{blanks, line, conjuncts_text}
-use Rattle.module_write.proofs.Below.{same_default}
+use Rattle.tla_tree.proofs.PoolNumbers.{same_default}
 use Rattle.tla_write.proofs.OneMore.{listed_more}
 use Rattle.module_write.proofs.Regrouped.{line_joined}
 use Rattle.module_write.proofs.write_units.write_conjuncts.Goals as goal

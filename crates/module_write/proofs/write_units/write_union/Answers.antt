@@ -5,7 +5,7 @@ use Rattle.tla_tree.specs.Pool.{at}
 use Rattle.tla_tree.proofs.PoolNumbers.{AllBelow-at}
 use Rattle.module_tree.specs.ExprText.{operand}
 use Rattle.module_tree.specs.Layout.{union_text}
-use Rattle.module_write.proofs.Below.{same_default}
+use Rattle.tla_tree.proofs.PoolNumbers.{same_default}
 use Rattle.tla_write.proofs.OneMore.{parted_more}
 use Rattle.module_write.proofs.write_units.write_union.Goals as goal
 

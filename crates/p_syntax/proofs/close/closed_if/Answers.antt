@@ -8,7 +8,7 @@ use Rattle.pcal_tree.specs.InMemory.{stmt_at, statements_at, past_statements}
 use Rattle.pcal_tree.proofs.InMemoryEach.{past_one_more}
 use Rattle.p_syntax.specs.declared.open.Test.{Test}
 use Rattle.p_syntax.specs.StatesRead.{nested, before_rest, past_test}
-use Rattle.p_syntax.proofs.InLists.{nested-append}
+use Rattle.p_syntax.proofs.Nested.{nested-append}
 use Rattle.p_syntax.proofs.close.closed_if.Goals as goal
 
 pub loop-test-init : goal.loop-test-init

@@ -2,7 +2,7 @@
 use Rattle.std.proofs.Common.{get_or, arith}
 use Rattle.tla_write.proofs.OneMore.{parted_more}
 use Rattle.syntax_print.proofs.Commas.{assignments_parted}
-use Rattle.syntax_print.proofs.Within.{past_at, same_default}
+use Rattle.tla_tree.proofs.PoolNumbers.{past_at, same_default}
 use Rattle.pcal_tree.specs.InMemory.{past_assignment}
 use Rattle.syntax_print.proofs.write_part.write_assignments.Goals as goal
 

@@ -2,7 +2,7 @@
 use Rattle.std.proofs.Common.{arith}
 use Rattle.tla_write.proofs.OneMore.{parted_more}
 use Rattle.syntax_print.proofs.Commas.{declarations_parted}
-use Rattle.syntax_print.proofs.Within.{past_at}
+use Rattle.tla_tree.proofs.PoolNumbers.{past_at}
 use Rattle.pcal_tree.specs.InMemory.{past_declaration}
 use Rattle.syntax_print.proofs.write_part.write_declarations.Goals as goal
 

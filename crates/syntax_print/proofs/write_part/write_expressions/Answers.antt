@@ -2,7 +2,7 @@
 use Rattle.std.proofs.Common.{get_or, arith}
 use Rattle.tla_write.proofs.OneMore.{parted_more}
 use Rattle.syntax_print.proofs.Commas.{expressions_parted}
-use Rattle.syntax_print.proofs.Within.{past_at, same_default}
+use Rattle.tla_tree.proofs.PoolNumbers.{past_at, same_default}
 use Rattle.pcal_tree.specs.InMemory.{past_number}
 use Rattle.syntax_print.proofs.write_part.write_expressions.Goals as goal
 

@@ -11,8 +11,8 @@ use Rattle.pcal_tree.specs.Printed.{Text, head, opening, listed, binds_texts, ot
 use Rattle.pcal_tree.specs.Syntaxes.{syntax_of}
 use Rattle.syntax_print.specs.Adding.{labels_after, Adds, AddsFirst}
 use Rattle.syntax_print.proofs.Lines.{on_ok, not_empty}
-use Rattle.syntax_print.proofs.Within.{past_at}
-use Rattle.syntax_print.proofs.Heights.{height, heights, branch_heights, either_height}
+use Rattle.tla_tree.proofs.PoolNumbers.{past_at}
+use Rattle.pcal_tree.proofs.StatementHeights.{height, heights, branch_heights, either_height}
 use Rattle.syntax_print.proofs.Branches.{branch_more, statement_more, no_more, otherwise_adds, rewritten, after_simple, after_if, after_either, after_with, after_while, first_printed, simple_printed, if_adds, either_adds, with_adds, while_adds}
 use Rattle.syntax_print.proofs.write_statement.+write.Goals as goal
 

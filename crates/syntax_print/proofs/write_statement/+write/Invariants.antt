@@ -5,7 +5,7 @@ use Rattle.pcal_tree.specs.InMemory.{statements_at, branches_at}
 use Rattle.pcal_tree.specs.Syntaxes.{syntax_of}
 use Rattle.syntax_print.specs.Adding.{behind}
 use Rattle.syntax_print.proofs.Branches.{branch_line}
-use Rattle.syntax_print.proofs.Heights.{height, heights, branch_heights}
+use Rattle.pcal_tree.proofs.StatementHeights.{height, heights, branch_heights}
 use Rattle.syntax_print.proofs.write_statement.+write.Given as goal
 
 abbrev pub decreases-write_stmt : goal.decreases-write_stmt

@@ -1,7 +1,7 @@
 -- Proves what is asked of `write_macros`.
 use Rattle.std.proofs.Common.{arith}
 use Rattle.pcal_tree.specs.InMemory.{past_macro}
-use Rattle.syntax_print.proofs.Within.{past_at}
+use Rattle.tla_tree.proofs.PoolNumbers.{past_at}
 use Rattle.syntax_print.proofs.write_unit.write_macros.Goals as goal
 
 pub write_macro-requires : goal.write_macro-requires

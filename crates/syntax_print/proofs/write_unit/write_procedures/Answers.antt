@@ -4,7 +4,7 @@ use Rattle.pcal_tree.specs.Printed.{procedures}
 use Rattle.pcal_tree.specs.InMemory.{procedure_at, past_procedure}
 use Rattle.pcal_tree.specs.Syntaxes.{syntax_of}
 use Rattle.syntax_print.proofs.Lines.{one_more}
-use Rattle.syntax_print.proofs.Within.{past_at}
+use Rattle.tla_tree.proofs.PoolNumbers.{past_at}
 use Rattle.syntax_print.proofs.write_unit.write_procedures.Goals as goal
 
 pub write_procedure-requires : goal.write_procedure-requires

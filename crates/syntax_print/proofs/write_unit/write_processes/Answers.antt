@@ -4,7 +4,7 @@ use Rattle.pcal_tree.specs.Printed.{process_lines}
 use Rattle.pcal_tree.specs.InMemory.{process_at, past_process}
 use Rattle.pcal_tree.specs.Syntaxes.{syntax_of}
 use Rattle.syntax_print.proofs.Lines.{one_more}
-use Rattle.syntax_print.proofs.Within.{past_at}
+use Rattle.tla_tree.proofs.PoolNumbers.{past_at}
 use Rattle.syntax_print.proofs.write_unit.write_processes.Goals as goal
 
 pub write_process-requires : goal.write_process-requires

@@ -8,7 +8,7 @@ use Rattle.pcal_tree.specs.Algorithm as tree
 use Rattle.pcal_tree.specs.InMemory.{stmt_at, statements_at, branches_at, past_stmt, past_statements, past_branches}
 use Rattle.pcal_tree.proofs.InMemoryGrown.{stmt_at-kept, statements_at-kept}
 use Rattle.pcal_tree.proofs.InMemoryEach.{past_one_more}
-use Rattle.c_syntax.specs.StatesRead.{in_list, in_branches, ListStands}
+use Rattle.algorithm_reader.specs.ListsRead.{in_list, in_branches, ListStands}
 
 pub in_list-append : (ts : List Tree) (xs ys : List Stmt) (rest : Statements) → in_list ts (xs ++ ys) rest ≡ in_list ts xs (in_list ts ys rest)
 in_list-append ts [] ys rest = refl

@@ -1,4 +1,4 @@
--- How deep statements are in a statement: why the printer's calls end.
+-- How deep statements are in a statement: why calls that go through statements end.
 use Rattle.std.proofs.lemmas.Simd.{map-map}
 use Rattle.std.proofs.Common.{◌≡◌, ℕ, ◌+◌, max, List, map, Vec, Global, sym, ap, ◌∙◌}
 use Rattle.pcal_tree.specs.declared.algorithm.Span.{Span}
