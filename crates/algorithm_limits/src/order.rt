@@ -48,7 +48,7 @@ pub fn lesser(first: Option<Refusal>, second: Refusal) -> Refusal
 }
 
 /// The same where the second one is an offence of this rule, at a place, if it is one.
-#[tactic(auto, using(crate::proofs::Joins::joined_none))]
+#[tactic(auto, using(algorithm_answer::proofs::Joins::joined_none))]
 pub fn or_offence(
     found: Option<Refusal>,
     is_offence: bool,

@@ -120,7 +120,7 @@ pub fn past_tokens_refusal(tokens: &Tokens) -> Option<Refusal>
 }
 
 /// The first offence of an algorithm's tokens one by one, whatever they spell.
-#[tactic(auto, using(crate::proofs::Joins::first_append))]
+#[tactic(auto, using(algorithm_answer::proofs::Joins::first_append))]
 pub fn tokens_refusal(tokens: &Tokens) -> Option<Refusal>
     ensures { result ≡ first (token_refusals (tokens_seen tokens.now)) }
 {

@@ -1,7 +1,7 @@
 -- The formulas of fairness in Spec, one for each obligation ("Specifying Systems", section 8.9; "A PlusCal User's Manual", section 3.7).
 use Rattle.std.specs.Prelude.{List, [], ◌∷◌, map, nat_eq, true, false, cond, codes, Option, Some, None}
 use Rattle.tla_tree.specs.Tree.{Word, Tree}
-use Rattle.module_tree.specs.Module.{Call, call_with, Fairness}
+use Rattle.module_tree.specs.Module.{Call, call, call_with, Fairness}
 use Rattle.module_tree.specs.Formulas.{self, named, quoted, at, is_in, set}
 use Rattle.pcal_tree.specs.Algorithm.{Routine}
 use Rattle.pcal_tree.specs.Takers.{Takers, each_of, single, Taken}

@@ -37,7 +37,7 @@ pub fn dash_len(text: &[u8]) -> usize
 }
 
 // What comes after blanks of the line.
-#[tactic(auto, using(crate::proofs::LineLengths::past_of))]
+#[tactic(auto, using(module_tree::proofs::LineLengths::past_of))]
 fn past_spaces(text: &[u8]) -> &[u8]
     ensures { result.now ≡ past_all is_space text.now }
 {
@@ -45,7 +45,7 @@ fn past_spaces(text: &[u8]) -> &[u8]
 }
 
 // What comes after at least one blank of the line.
-#[tactic(auto, using(crate::proofs::LineLengths::some_blanks, crate::proofs::LineLengths::no_blanks))]
+#[tactic(auto, using(module_tree::proofs::LineLengths::some_blanks, module_tree::proofs::LineLengths::no_blanks))]
 fn past_blanks(text: &[u8]) -> Option<&[u8]>
     ensures { MatchOption result (past_blanks is_space text.now ≡ None) (λ r. past_blanks is_space text.now ≡ Some r.now) }
 {
@@ -61,7 +61,7 @@ fn past_word<'a>(text: &'a [u8], word: &[u8]) -> Option<&'a [u8]>
 }
 
 // What comes after four or more dashes.
-#[tactic(auto, using(crate::proofs::LineLengths::dashed, crate::proofs::LineLengths::undashed))]
+#[tactic(auto, using(module_tree::proofs::LineLengths::dashed, module_tree::proofs::LineLengths::undashed))]
 fn past_dashes(text: &[u8]) -> Option<&[u8]>
     ensures { MatchOption result (past_run 45 text.now ≡ None) (λ r. past_run 45 text.now ≡ Some r.now) }
 {
@@ -70,7 +70,7 @@ fn past_dashes(text: &[u8]) -> Option<&[u8]>
 }
 
 // What comes after a name.
-#[tactic(auto, using(crate::proofs::LineLengths::named, crate::proofs::LineLengths::nameless))]
+#[tactic(auto, using(module_tree::proofs::LineLengths::named, module_tree::proofs::LineLengths::nameless))]
 fn past_name(text: &[u8]) -> Option<&[u8]>
     ensures { MatchOption result (past_name text.now ≡ None) (λ r. past_name text.now ≡ Some r.now) }
 {
@@ -157,7 +157,7 @@ pub fn is_end(text: &[u8]) -> bool
 // ---- whole lines
 
 /// How many bytes the line in front has, its end among them.
-#[tactic(auto, using(crate::proofs::LineLengths::whole_more, crate::proofs::LineLengths::whole_all, crate::proofs::LineLengths::whole_some, crate::proofs::LineLengths::run_within))]
+#[tactic(auto, using(module_tree::proofs::LineLengths::whole_more, module_tree::proofs::LineLengths::whole_all, module_tree::proofs::LineLengths::whole_some, module_tree::proofs::LineLengths::run_within))]
 pub fn whole_len(text: &[u8]) -> usize
     ensures value { result ≡ length (whole_line text.now) }
     ensures bound { result ≤ length text.now }
