@@ -89,3 +89,7 @@ pub mod RowsDeep
 pub mod InMemoryGrown
 pub mod InMemoryEach
 mod RowsInMemory
+pub mod NothingCaptured
+pub mod CallsFine
+pub mod NamesSeen
+pub mod ProcessesInOrder
