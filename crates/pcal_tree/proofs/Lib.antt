@@ -90,3 +90,7 @@ pub mod InMemoryGrown
 pub mod InMemoryEach
 mod RowsInMemory
 pub mod StatementHeights
+pub mod NothingCaptured
+pub mod CallsFine
+pub mod NamesSeen
+pub mod ProcessesInOrder

@@ -46,3 +46,4 @@ pub mod Canonical
 pub mod CanonicalForms
 pub mod CanonicalEval
 pub mod CanonicalTests
+pub mod NeverOver

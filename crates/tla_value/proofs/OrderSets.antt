@@ -42,7 +42,7 @@ pub either_twice : (a b : Bool) → (a || b) ≡ (a || (a || b))
 either_twice true b = refl
 either_twice false b = refl
 
-either_swap : (a b c : Bool) → (a || (b || c)) ≡ (b || (a || c))
+pub either_swap : (a b c : Bool) → (a || (b || c)) ≡ (b || (a || c))
 either_swap true true c = refl
 either_swap true false c = refl
 either_swap false true c = refl
