@@ -16,7 +16,7 @@ use crate::bytes::{
 use crate::sign::{Sign, sign_at, sign_of, spelling_len};
 
 /// What a part of a text is.
-#[derive(Clone, Copy, PartialEq, Eq, Debug)]
+#[derive(Clone, Copy)]
 pub enum Class {
     /// A space, a tab, LF or CR.
     Blank,
@@ -45,7 +45,7 @@ pub enum Class {
 }
 
 /// A part of a text.
-#[derive(Clone, Copy, PartialEq, Eq, Debug)]
+#[derive(Clone, Copy)]
 pub struct Part {
     /// What it is.
     pub class: Class,
