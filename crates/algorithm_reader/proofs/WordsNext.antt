@@ -22,7 +22,7 @@ use Rattle.tla_tree.specs.Tree.{Word}
 use Rattle.tla_tree.specs.TokenViews.{kind_of, sign_kind, word_kind}
 use Rattle.tla_tree.specs.Lexical as tk
 use Rattle.expr_nodes.proofs.ViewLemmas.{name_view, reserved_view, fairness_view}
-use Rattle.algorithm_reader.specs.TokenReaders.{is_reserved}
+use Rattle.syntax_reading.specs.TokenReaders.{is_reserved}
 
 -- ---- words with one spelling are one
 
