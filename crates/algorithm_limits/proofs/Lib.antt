@@ -1,4 +1,5 @@
 -- That the first offences are found.
+pub mod LeftOutWords
 pub mod TokensFound
 pub mod Counts
 pub mod LabelWalks

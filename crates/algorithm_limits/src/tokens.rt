@@ -1,37 +1,36 @@
 //! Words and signs of an algorithm that are left out, and too many tokens.
 
-ghost use Rattle.std.specs.Prelude.{◌≡◌, ◌||◌, ℕ, [], ◌∷◌, map, drop};
+ghost use Rattle.std.specs.Prelude.{◌≡◌, true, ℕ, [], ◌∷◌, map, drop};
 ghost use Rattle.tla_token.specs.declared.place.Place.{Place};
 ghost use Rattle.tla_token.specs.Lexemes.{one};
 ghost use Rattle.tla_token.specs.AlgorithmOffences.{left_out_words, begins_path, is_left_out};
 ghost use Rattle.tla_token.specs.Signs.{is_among as is_among_of};
-ghost use Rattle.tla_token.specs.Words.{begins_fairness};
+ghost use Rattle.tla_token.specs.ReservedWords.{tla_spelling};
+ghost use Rattle.tla_token.specs.KeptWords.{is_kept};
 ghost use Rattle.tla_token.specs.TokensSeen.{kind_seen, token_seen, tokens_seen};
 ghost use Rattle.pcal_tree.specs.Offences.{first};
 ghost use Rattle.algorithm_answer.specs.TokensRefused.{left_out_at, past_tokens_at, token_refusals};
 
 use crate::order::{least, or_offence};
-use tla_token::word::is_among;
-use tla_token::{Kind, Refusal, Rule, Sign, Token, Tokens};
-
-// The words that are left out, but for those that begin a fairness formula.
-static LEFT_OUT: [&str; 6] = [
-    "CHOOSE",
-    "LAMBDA",
-    "RECURSIVE",
-    "INSTANCE",
-    "ENABLED",
-    "UNCHANGED",
-];
+use tla_token::{Kind, Refusal, Rule, Sign, TlaWord, Token, Tokens};
 
 // How many tokens an algorithm may have.
 const MOST_TOKENS: usize = 65536;
 
-// Whether a word is left out.
-fn is_left_out_word(word: &[u8]) -> bool
-    ensures { result ≡ (is_among_of left_out_words word.now || begins_fairness word.now) }
+// Whether a reserved word of TLA+ is left out.
+#[tactic(auto, using(crate::proofs::LeftOutWords::word_kept))]
+fn is_left_out_word(word: TlaWord) -> bool
+    ensures { result ≡ is_among_of left_out_words (tla_spelling word) }
 {
-    is_among(&LEFT_OUT, word) || word.starts_with(b"WF_") || word.starts_with(b"SF_")
+    match word {
+        TlaWord::Choose
+        | TlaWord::Lambda
+        | TlaWord::Recursive
+        | TlaWord::Instance
+        | TlaWord::Enabled
+        | TlaWord::Unchanged => true,
+        _ => false,
+    }
 }
 
 // Whether a path of an `EXCEPT` goes on with a sign.
@@ -80,11 +79,14 @@ fn is_left_out_sign(tokens: &Tokens, sign: Sign, next: usize) -> bool
 }
 
 // Whether a token is left out, before the token of this number.
+#[tactic(auto, using(crate::proofs::LeftOutWords::name_stands, crate::proofs::LeftOutWords::pluscal_stands, crate::proofs::LeftOutWords::tla_stands, crate::proofs::LeftOutWords::fairness_left_out))]
 fn is_left_out(tokens: &Tokens, token: Token, next: usize) -> bool
+    requires { is_kept tokens.now.bytes.items token.kind ≡ true }
     ensures { result ≡ is_left_out (kind_seen tokens.now.bytes.items token.kind) (map (token_seen tokens.now.bytes.items) (drop next tokens.now.items.items)) }
 {
     match token.kind {
-        Kind::Name(span) => is_left_out_word(tokens.word(span)),
+        Kind::TlaWord(_, word) => is_left_out_word(word),
+        Kind::Fairness(_) => true,
         Kind::Other(_) => true,
         Kind::Sign(sign) => is_left_out_sign(tokens, sign, next),
         _ => false,
@@ -92,7 +94,7 @@ fn is_left_out(tokens: &Tokens, token: Token, next: usize) -> bool
 }
 
 /// The first word or sign of an algorithm's tokens that is left out.
-#[tactic(auto, using(crate::proofs::TokensFound::found_more, crate::proofs::TokensFound::found_all))]
+#[tactic(auto, using(tla_token::proofs::KeptLemmas::kept_there, crate::proofs::TokensFound::found_more, crate::proofs::TokensFound::found_all))]
 pub fn left_out_refusal(tokens: &Tokens) -> Option<Refusal>
     ensures { result ≡ first (left_out_at (tokens_seen tokens.now)) }
 {

@@ -1,3 +1,4 @@
+pub mod WordsNext
 pub mod Gathered
 pub mod GatheredNames
 pub mod GatheredVariables

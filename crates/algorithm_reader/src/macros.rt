@@ -19,7 +19,7 @@ use expr_nodes::cursor::Halt;
 use pcal_tree::algorithm::{Definition, Macro};
 use std::alloc::Global;
 use tla_pool::Pool;
-use tla_token::Tokens;
+use tla_token::{PluscalWord, Tokens};
 
 /// `M(a, b)` with its body, behind the word `macro`.
 ///
@@ -41,7 +41,7 @@ pub fn read_macro<W: Ways>(
 {
     let (name, next) = past_name(alloc, tokens, at)?;
     let (params, behind) = read_macro_parameters(alloc, tokens, next)?;
-    let (body, end) = W::body(alloc, tokens, pool, behind, b"macro")?;
+    let (body, end) = W::body(alloc, tokens, pool, behind, PluscalWord::Macro)?;
     Ok((Macro { name, params, body }, end))
 }
 
@@ -65,7 +65,7 @@ pub fn read_macros<W: Ways>(
 {
     let mut list = Vec::new(alloc);
     let mut from = at;
-    while let Some(next) = after_word(tokens, from, b"macro") {
+    while let Some(next) = after_word(tokens, from, PluscalWord::Macro) {
         let (one, end) = read_macro::<W>(alloc, tokens, pool, next)?;
         list.push(one)?;
         from = end;
@@ -91,7 +91,7 @@ pub fn read_define<W: Ways>(
     ensures inside { IfOk result (λ x. x.1 ≤ length tokens.now.items.items) }
     ensures further { IfOk result (λ x. at ≤ x.1) }
 {
-    match after_word(tokens, at, b"define") {
+    match after_word(tokens, at, PluscalWord::Define) {
         Some(next) => W::definitions(alloc, tokens, pool, next),
         None => Ok((Vec::new(alloc), at)),
     }

@@ -20,7 +20,7 @@ use expr_nodes::cursor::Halt;
 use pcal_tree::algorithm::Procedure;
 use std::alloc::Global;
 use tla_pool::Pool;
-use tla_token::Tokens;
+use tla_token::{PluscalWord, Tokens};
 
 /// `P(a, b = e)` with its variables and its body, behind the word `procedure`.
 ///
@@ -43,7 +43,7 @@ pub fn read_procedure<W: Ways>(
     let (name, next) = past_name(alloc, tokens, at)?;
     let (params, after) = read_procedure_parameters(alloc, tokens, pool, next)?;
     let (variables, behind) = read_section(alloc, tokens, pool, after, false)?;
-    let (body, end) = W::body(alloc, tokens, pool, behind, b"procedure")?;
+    let (body, end) = W::body(alloc, tokens, pool, behind, PluscalWord::Procedure)?;
     let procedure = Procedure {
         name,
         params,
@@ -73,7 +73,7 @@ pub fn read_procedures<W: Ways>(
 {
     let mut list = Vec::new(alloc);
     let mut from = at;
-    while let Some(next) = after_word(tokens, from, b"procedure") {
+    while let Some(next) = after_word(tokens, from, PluscalWord::Procedure) {
         let (one, end) = read_procedure::<W>(alloc, tokens, pool, next)?;
         list.push(one)?;
         from = end;

@@ -23,7 +23,7 @@ use pcal_tree::algorithm::{Main, Process};
 use pcal_tree::mark::Fairness;
 use std::alloc::Global;
 use tla_pool::Pool;
-use tla_token::{Rule, Tokens};
+use tla_token::{PluscalWord, Rule, Tokens};
 use tla_tree::Op;
 
 // Behind `fair`: past the `+` that makes it strong, if it is next.
@@ -52,11 +52,11 @@ pub fn past_process_word(tokens: &Tokens, at: usize) -> Result<(Option<Fairness>
     ensures no_less { IfOk result (λ x. at ≤ x.1) }
     ensures further { IfOk result (λ x. IfSome x.0 (λ a. at < x.1)) }
 {
-    if let Some(next) = after_word(tokens, at, b"process") {
+    if let Some(next) = after_word(tokens, at, PluscalWord::Process) {
         Ok((Some(Fairness::Unfair), next))
-    } else if let Some(next) = after_word(tokens, at, b"fair") {
+    } else if let Some(next) = after_word(tokens, at, PluscalWord::Fair) {
         let (fairness, next) = past_fair(tokens, next);
-        let (_, end) = past_key(tokens, next, b"process")?;
+        let (_, end) = past_key(tokens, next, PluscalWord::Process)?;
         Ok((Some(fairness), end))
     } else {
         Ok((None, at))
@@ -84,7 +84,7 @@ pub fn read_process<W: Ways>(
 {
     let ((name, several, identity), next) = W::identity(alloc, tokens, pool, at)?;
     let (variables, behind) = read_section(alloc, tokens, pool, next, true)?;
-    let (body, end) = W::body(alloc, tokens, pool, behind, b"process")?;
+    let (body, end) = W::body(alloc, tokens, pool, behind, PluscalWord::Process)?;
     let process = Process {
         name,
         fairness,

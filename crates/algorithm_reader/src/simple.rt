@@ -18,7 +18,7 @@ use expr_nodes::view::Mark;
 use pcal_tree::algorithm::Simple;
 use std::alloc::Global;
 use tla_pool::Pool;
-use tla_token::{Rule, Tokens};
+use tla_token::{PluscalWord, Rule, Tokens};
 
 // A macro call or assignments.
 fn read_named(
@@ -61,28 +61,28 @@ fn read_keyed(
     ensures further { IfOk result (λ x. at ≤ x.1) }
 {
     let next = behind(tokens, at);
-    if is_next_word(tokens, at, b"await") {
+    if is_next_word(tokens, at, PluscalWord::Await) {
         let (e, end) = read_expression(alloc, tokens, pool, next)?;
         Ok((Simple::Await(e), end))
-    } else if is_next_word(tokens, at, b"when") {
+    } else if is_next_word(tokens, at, PluscalWord::When) {
         let (e, end) = read_expression(alloc, tokens, pool, next)?;
         Ok((Simple::Await(e), end))
-    } else if is_next_word(tokens, at, b"print") {
+    } else if is_next_word(tokens, at, PluscalWord::Print) {
         let (e, end) = read_expression(alloc, tokens, pool, next)?;
         Ok((Simple::Print(e), end))
-    } else if is_next_word(tokens, at, b"assert") {
+    } else if is_next_word(tokens, at, PluscalWord::Assert) {
         let (e, end) = read_expression(alloc, tokens, pool, next)?;
         Ok((Simple::Assert(e), end))
-    } else if is_next_word(tokens, at, b"skip") {
+    } else if is_next_word(tokens, at, PluscalWord::Skip) {
         Ok((Simple::Skip, next))
-    } else if is_next_word(tokens, at, b"goto") {
+    } else if is_next_word(tokens, at, PluscalWord::Goto) {
         let (name, end) = past_name(alloc, tokens, next)?;
         Ok((Simple::Goto(name.name), end))
-    } else if is_next_word(tokens, at, b"call") {
+    } else if is_next_word(tokens, at, PluscalWord::Call) {
         let (name, from) = past_name(alloc, tokens, next)?;
         let (list, end) = read_arguments(alloc, tokens, pool, from)?;
         Ok((Simple::Call(name, list), end))
-    } else if is_next_word(tokens, at, b"return") {
+    } else if is_next_word(tokens, at, PluscalWord::Return) {
         Ok((Simple::Return, next))
     } else {
         Err(refused_there(tokens, at, Rule::Syntax))

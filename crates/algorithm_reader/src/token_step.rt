@@ -1,6 +1,10 @@
 //! Steps over single tokens of an algorithm, wherever in their lines they are: what is next, and past a word or mark.
 
-ghost use Rattle.std.specs.Prelude.{◌≡◌, ◌<◌, ◌≤◌, IfOk, IfSome, IfNone, true, false, length, is_some};
+ghost use Rattle.std.specs.Prelude.{◌≡◌, ℕ, List, ◌<◌, ◌≤◌, IfOk, IfSome, IfNone, true, false, length, is_some};
+ghost use Rattle.tla_token.specs.ReservedWords.{pluscal_spelling};
+ghost use Rattle.tla_token.specs.KeptWords.{is_kept};
+ghost use Rattle.tla_token.specs.TokensSeen.{kind_seen};
+ghost use Rattle.tla_tree.specs.TokenViews.{kind_of};
 ghost use Rattle.tla_tree.specs.Lexical.{token};
 ghost use Rattle.tla_tree.specs.Reader as reader;
 ghost use Rattle.expr_nodes.specs.ViewSeen.{mark_seen, view_seen};
@@ -14,7 +18,7 @@ use expr_nodes::make::name_of as word_name;
 use expr_nodes::spot::{Spot, after, refused};
 use expr_nodes::view::{Mark, View, view_of};
 use std::alloc::Global;
-use tla_token::{Place, Rule, Span, Tokens};
+use tla_token::{Kind, Place, PluscalWord, Rule, Span, Tokens};
 use tla_tree::PlacedName;
 
 // With all that is read wherever it is.
@@ -29,6 +33,7 @@ fn spot(at: usize) -> Spot
 }
 
 /// The next token; at the end, one that is no token of an algorithm.
+#[tactic(auto, using(tla_token::proofs::KeptLemmas::kept_there))]
 pub fn next_token(tokens: &Tokens, at: usize) -> Next
     requires { at ≤ length tokens.now.items.items }
     ensures { token result.place (view_seen tokens.now.bytes.items result.view) ≡ first (ahead tokens.now at) }
@@ -85,12 +90,21 @@ pub fn past_mark(tokens: &Tokens, at: usize, mark: Mark) -> Result<(Place, usize
 }
 
 /// Whether this reserved word of PlusCal is next.
-pub fn is_next_word(tokens: &Tokens, at: usize, word: &[u8]) -> bool
+#[tactic(auto, using(tla_token::proofs::KeptLemmas::kept_there))]
+pub fn is_next_word(tokens: &Tokens, at: usize, word: PluscalWord) -> bool
     requires { at ≤ length tokens.now.items.items }
-    ensures { result ≡ is_reserved word.now (first (ahead tokens.now at)).kind }
+    ensures { result ≡ is_reserved (pluscal_spelling word) (first (ahead tokens.now at)).kind }
 {
-    match next_token(tokens, at).view {
-        View::Reserved(span) => word == tokens.word(span),
+    at < tokens.items.len() && is_word(tokens.items[at].kind, word)
+}
+
+// Whether a token is this reserved word of PlusCal.
+#[tactic(auto, using(crate::proofs::WordsNext::reserved_next, crate::proofs::WordsNext::unreserved_next))]
+fn is_word(kind: Kind, word: PluscalWord) -> bool
+    ensures { (bytes : List ℕ) → is_kept bytes kind ≡ true → result ≡ is_reserved (pluscal_spelling word) (kind_of (kind_seen bytes kind)) }
+{
+    match kind {
+        Kind::PluscalWord(_, other) => other == word,
         _ => false,
     }
 }
@@ -100,9 +114,9 @@ pub fn is_next_word(tokens: &Tokens, at: usize, word: &[u8]) -> bool
 /// # Errors
 ///
 /// Where another token is next.
-pub fn past_key(tokens: &Tokens, at: usize, word: &[u8]) -> Result<(Place, usize), Halt>
+pub fn past_key(tokens: &Tokens, at: usize, word: PluscalWord) -> Result<(Place, usize), Halt>
     requires { at ≤ length tokens.now.items.items }
-    ensures value { Gives (λ x. (x.0, ahead tokens.now x.1)) result (a_key word.now (ahead tokens.now at)) }
+    ensures value { Gives (λ x. (x.0, ahead tokens.now x.1)) result (a_key (pluscal_spelling word) (ahead tokens.now at)) }
     ensures inside { IfOk result (λ x. x.1 ≤ length tokens.now.items.items) }
     ensures further { IfOk result (λ x. at ≤ x.1) }
 {

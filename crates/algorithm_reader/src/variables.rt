@@ -16,7 +16,7 @@ use expr_nodes::cursor::{Halt, is_sign};
 use pcal_tree::algorithm::{Declaration, Start};
 use std::alloc::Global;
 use tla_pool::Pool;
-use tla_token::Tokens;
+use tla_token::{PluscalWord, Tokens};
 use tla_tree::Op;
 
 /// `= e`, or `\in S` where that may be, or nothing.
@@ -126,7 +126,7 @@ pub fn read_section(
     ensures inside { IfOk result (λ x. x.1 ≤ length tokens.now.items.items) }
     ensures further { IfOk result (λ x. at ≤ x.1) }
 {
-    if is_next_word(tokens, at, b"variable") || is_next_word(tokens, at, b"variables") {
+    if is_next_word(tokens, at, PluscalWord::Variable) || is_next_word(tokens, at, PluscalWord::Variables) {
         let next = behind(tokens, at);
         read_variables(alloc, tokens, pool, next, among)
     } else {

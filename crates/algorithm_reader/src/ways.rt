@@ -1,6 +1,7 @@
 //! What a syntax spells in its own way: bodies, which process it is, and `define`.
 
 ghost use Rattle.std.specs.Prelude.{ℕ, ◌<◌, ◌≤◌, IfOk, length};
+ghost use Rattle.tla_token.specs.ReservedWords.{pluscal_spelling};
 ghost use Rattle.tla_token.specs.declared.place.Place as placed;
 ghost use Rattle.tla_tree.specs.Pool.{Keeps};
 ghost use Rattle.expr_nodes.specs.Ahead.{ahead};
@@ -15,7 +16,7 @@ use expr_nodes::cursor::Halt;
 use pcal_tree::algorithm::{Definition, Stmt};
 use std::alloc::Global;
 use tla_pool::Pool;
-use tla_token::Tokens;
+use tla_token::{PluscalWord, Tokens};
 use tla_tree::{NodeId, PlacedName};
 
 /// Readers of what the two syntaxes spell in their own ways.
@@ -33,11 +34,11 @@ pub trait Ways {
         tokens: &Tokens,
         pool: &mut Pool,
         at: usize,
-        word: &[u8],
+        word: PluscalWord,
     ) -> Result<(Vec<Stmt>, usize), Halt>
         requires there { at ≤ length tokens.now.items.items }
         requires numbers { NumbersFit tokens.now }
-        ensures read { (n : ℕ) → Enough tokens.now at n → ReadsPart body_at past_body body_tree tokens.now pool.new result ((readers (parts_in tokens.now)).body n word.now (ahead tokens.now at)) }
+        ensures read { (n : ℕ) → Enough tokens.now at n → ReadsPart body_at past_body body_tree tokens.now pool.new result ((readers (parts_in tokens.now)).body n (pluscal_spelling word) (ahead tokens.now at)) }
         ensures kept { Keeps pool.old pool.new }
         ensures inside { IfOk result (λ x. x.1 ≤ length tokens.now.items.items) }
         ensures further { IfOk result (λ x. at ≤ x.1) };

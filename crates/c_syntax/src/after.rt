@@ -29,7 +29,7 @@ use expr_nodes::cursor::Halt;
 use expr_nodes::view::Mark;
 use std::alloc::{AllocError, Global};
 use tla_pool::Pool;
-use tla_token::{Place, Rule, Tokens};
+use tla_token::{Place, PluscalWord, Rule, Tokens};
 
 // ---- what takes what comes, after what has ended
 
@@ -284,9 +284,9 @@ pub fn read_after(
 {
     if is_semicolon_next(tokens, end, at) {
         Ok((Turn::On(divided(state, end)), at + 1))
-    } else if is_next_word(tokens, at, b"else") {
+    } else if is_next_word(tokens, at, PluscalWord::Else) {
         take_else(alloc, tokens, state, end, at)
-    } else if is_next_word(tokens, at, b"or") {
+    } else if is_next_word(tokens, at, PluscalWord::Or) {
         take_or(alloc, tokens, state, end, at)
     } else {
         read_in_list(alloc, tokens, pool, state, end, at)

@@ -18,7 +18,7 @@ use expr_nodes::cursor::Halt;
 use expr_nodes::view::Mark;
 use std::alloc::Global;
 use tla_pool::Pool;
-use tla_token::{Rule, Tokens};
+use tla_token::{PluscalWord, Rule, Tokens};
 
 // Whether an `or` must stand right after the statement that is its next part, if it tells.
 fn or_after(frame: &Frame) -> Option<bool>
@@ -64,16 +64,16 @@ pub fn read_statement(
     ensures inside { IfOk result (λ x. x.1 ≤ length tokens.now.items.items) }
     ensures further { IfOk result (λ x. at < x.1) }
 {
-    if is_next_word(tokens, at, b"if") {
+    if is_next_word(tokens, at, PluscalWord::If) {
         open_if(alloc, tokens, pool, state, at)
-    } else if is_next_word(tokens, at, b"either") {
+    } else if is_next_word(tokens, at, PluscalWord::Either) {
         if before_or(&state.stack) {
             return Err(refused_there(tokens, at, Rule::Syntax));
         }
         open_either(alloc, tokens, state, at)
-    } else if is_next_word(tokens, at, b"with") {
+    } else if is_next_word(tokens, at, PluscalWord::With) {
         open_with(alloc, tokens, pool, state, at)
-    } else if is_next_word(tokens, at, b"while") {
+    } else if is_next_word(tokens, at, PluscalWord::While) {
         open_while(alloc, tokens, pool, state, at)
     } else if is_next_mark(tokens, at, Mark::OpenBrace) {
         open_block(tokens, state, at)

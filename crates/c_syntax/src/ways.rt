@@ -23,7 +23,7 @@ use expr_nodes::view::Mark;
 use pcal_tree::algorithm::{Definition, Stmt};
 use std::alloc::Global;
 use tla_pool::Pool;
-use tla_token::Tokens;
+use tla_token::{PluscalWord, Tokens};
 use tla_tree::{NodeId, PlacedName};
 
 /// The body of a macro, a procedure or a process: `{ .. }`, and a `;` if it is next.
@@ -113,7 +113,7 @@ impl Ways for CSyntax {
         tokens: &Tokens,
         pool: &mut Pool,
         at: usize,
-        _word: &[u8],
+        _word: PluscalWord,
     ) -> Result<(Vec<Stmt>, usize), Halt> {
         read_body(alloc, tokens, pool, at)
     }

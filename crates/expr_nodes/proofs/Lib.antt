@@ -4,5 +4,6 @@ pub mod MakeLemmas
 pub mod ElementLemmas
 pub mod DepthLemmas
 pub mod QuoteLemmas
+pub mod ViewLemmas
 pub mod AheadLemmas
 pub mod PlaceLemmas

@@ -1,5 +1,5 @@
 -- What a view in memory stands for.
-use Rattle.std.specs.Prelude.{ℕ, List, [], unwrap_or, take, drop}
+use Rattle.std.specs.Prelude.{ℕ, List, [], unwrap_or}
 use Rattle.tla_token.specs.TokensSeen.{span_bytes}
 use Rattle.tla_token.specs.Lexemes.{number_of, unquoted}
 use Rattle.expr_nodes.specs.declared.view.Mark.{Mark}
@@ -10,9 +10,7 @@ use Rattle.expr_nodes.specs.declared.view.Constant.{Constant}
 use Rattle.expr_nodes.specs.declared.view.Constant.TheVariants as constant
 use Rattle.expr_nodes.specs.declared.view.View.{View}
 use Rattle.expr_nodes.specs.declared.view.View.TheVariants as view
-use Rattle.tla_tree.specs.Tree.{Word}
 use Rattle.tla_tree.specs.Lexical as tk
-use Rattle.tla_tree.specs.TokenViews.{word_kinds}
 
 abbrev pub mark_seen : Mark → tk.Mark
 mark_seen mark.OpenBracket = tk.open_bracket
@@ -65,10 +63,3 @@ view_seen bytes (view.Constant c) = tk.constant (constant_seen c)
 view_seen bytes (view.Mark m) = tk.mark (mark_seen m)
 view_seen bytes (view.Key k) = tk.key (key_seen k)
 view_seen bytes (view.Other s) = tk.other (span_bytes bytes s)
-
--- the reserved words of expressions, as the code looks them up
-abbrev pub key_words : List (Word × tk.TokenView)
-key_words = take 8 word_kinds
-
-abbrev pub value_words : List (Word × tk.TokenView)
-value_words = drop 8 word_kinds

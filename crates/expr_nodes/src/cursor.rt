@@ -8,13 +8,13 @@ ghost use Rattle.expr_nodes.specs.ReadIn.{seen};
 ghost use Rattle.expr_nodes.specs.declared.cursor.Halt.TheVariants as halt;
 
 use crate::shape::same_op;
-use crate::view::{Key, Mark, View, view_of};
+use crate::view::{Key, Mark, View};
 use std::alloc::{AllocError, AllocFailed};
-use tla_token::{Place, Rule, Span, Token, Tokens};
+use tla_token::{Place, Rule, Span};
 use tla_tree::Op;
 
 /// Why reading stopped.
-#[derive(Debug, Drop)]
+#[derive(Drop)]
 pub enum Halt {
     /// There was no memory.
     Memory,
@@ -66,32 +66,13 @@ pub struct FieldName {
     pub span: Span,
 }
 
-// What is seen at the end, and where the next token is not to the right of the edge.
-fn at_end() -> Next
+/// What is seen at the end, and where the next token is not to the right of the edge.
+pub fn at_end() -> Next
     ensures { (bytes : List ℕ) → token result.place (view_seen bytes result.view) ≡ reader.end }
 {
     Next {
         place: Place { line: 0, col: 0 },
         view: View::Other(Span { from: 0, to: 0 }),
-    }
-}
-
-/// The next token, if it is to the right of the edge, and else one that goes with nothing.
-pub fn look(tokens: &Tokens, ts: &[Token], edge: u32) -> Next
-    ensures { token result.place (view_seen tokens.now.bytes.items result.view) ≡ reader.next edge (seen tokens.now.bytes.items ts.now) }
-{
-    match ts.split_first() {
-        None => at_end(),
-        Some((t, _)) => {
-            if edge < t.place.col {
-                Next {
-                    place: t.place,
-                    view: view_of(tokens, *t),
-                }
-            } else {
-                at_end()
-            }
-        }
     }
 }
 

@@ -13,7 +13,7 @@ use tla_token::Place;
 use tla_tree::{Op, rank};
 
 /// What an expression is to the operators beside it.
-#[derive(Clone, Copy, PartialEq, Eq, Debug)]
+#[derive(Clone, Copy)]
 pub enum Head {
     /// Above all operators.
     Primary,
@@ -24,7 +24,7 @@ pub enum Head {
 }
 
 /// Which `[]` after an expression belong to a `CASE` in it.
-#[derive(Clone, Copy, PartialEq, Eq, Debug)]
+#[derive(Clone, Copy)]
 pub enum Boxes {
     Never,
     Always,
@@ -33,14 +33,14 @@ pub enum Boxes {
 }
 
 /// A list by columns: its operator, and the column of its bullets.
-#[derive(Clone, Copy, PartialEq, Eq, Debug)]
+#[derive(Clone, Copy)]
 pub struct Bullet {
     pub op: Op,
     pub col: u32,
 }
 
 /// What reading goes by of an expression that was read.
-#[derive(Clone, Copy, PartialEq, Eq, Debug)]
+#[derive(Clone, Copy)]
 pub struct Shape {
     pub head: Head,
     /// The place of its first token.
@@ -61,7 +61,7 @@ pub struct Shape {
 }
 
 /// Where an expression is: free, to the right of an operator, or under a prefix operator.
-#[derive(Clone, Copy, PartialEq, Eq, Debug)]
+#[derive(Clone, Copy)]
 pub enum Context {
     Free,
     RightOf(Op),

@@ -9,8 +9,8 @@ ghost use Rattle.expr_nodes.specs.Ahead.{ahead, place_before};
 ghost use Rattle.expr_nodes.specs.declared.cursor.Halt.TheVariants as halt;
 ghost use Rattle.tla_token.specs.declared.rule.Rule.TheVariants as rule;
 
-use crate::cursor::{FieldName, Halt, Next, Word, is_key, is_mark, is_sign, look};
-use crate::view::{Key, Mark, View};
+use crate::cursor::{FieldName, Halt, Next, Word, at_end, is_key, is_mark, is_sign};
+use crate::view::{Key, Mark, View, view_of};
 use tla_token::{Place, Rule, Tokens};
 use tla_tree::Op;
 
@@ -22,12 +22,22 @@ pub struct Spot {
     pub left: u32,
 }
 
-/// What is there.
+/// The next token, if it is to the right of the edge, and else one that goes with nothing.
+#[tactic(auto, using(tla_token::proofs::KeptLemmas::kept_there))]
 pub fn next_at(tokens: &Tokens, s: Spot) -> Next
     requires { s.at ≤ length tokens.now.items.items }
     ensures { token result.place (view_seen tokens.now.bytes.items result.view) ≡ reader.next s.edge (ahead tokens.now s.at) }
 {
-    look(tokens, &tokens.items[s.at..], s.edge)
+    if s.at < tokens.items.len() {
+        let t = tokens.items[s.at];
+        if s.edge < t.place.col {
+            return Next {
+                place: t.place,
+                view: view_of(tokens, t),
+            };
+        }
+    }
+    at_end()
 }
 
 /// Refused at this token, by this rule.

@@ -1,17 +1,18 @@
 //! What the grammars see of a token in memory.
 
-ghost use Rattle.std.specs.Prelude.{◌≡◌, List, ℕ};
+ghost use Rattle.std.specs.Prelude.{◌≡◌, true, List, ℕ};
 ghost use Rattle.tla_token.specs.TokensSeen.{kind_seen, span_bytes};
+ghost use Rattle.tla_token.specs.ReservedWords.{tla_spelling};
+ghost use Rattle.tla_token.specs.KeptWords.{is_kept};
 ghost use Rattle.std.specs.Str.{bytes_eq};
-ghost use Rattle.tla_tree.specs.TokenViews.{sign_kind, kind_of, kind_among, word_kind};
-ghost use Rattle.expr_nodes.specs.ViewSeen.{view_seen, key_words, value_words};
+ghost use Rattle.tla_tree.specs.TokenViews.{sign_kind, kind_of, word_kind};
+ghost use Rattle.expr_nodes.specs.ViewSeen.{view_seen};
 
-use tla_token::word::{is_pluscal_word, is_tla_word};
-use tla_token::{Kind, Sign, Span, Token, Tokens};
+use tla_token::{Kind, Sign, Span, TlaWord, Token, Tokens};
 use tla_tree::Op;
 
 /// A mark of the grammars.
-#[derive(Clone, Copy, PartialEq, Eq, Debug)]
+#[derive(Clone, Copy)]
 pub enum Mark {
     /// `(`
     OpenBracket,
@@ -51,7 +52,7 @@ pub enum Mark {
 }
 
 /// A reserved word or sign that begins or divides a form.
-#[derive(Clone, Copy, PartialEq, Eq, Debug)]
+#[derive(Clone, Copy)]
 pub enum Key {
     If,
     Then,
@@ -68,7 +69,7 @@ pub enum Key {
 }
 
 /// A reserved word that is an expression.
-#[derive(Clone, Copy, PartialEq, Eq, Debug)]
+#[derive(Clone, Copy)]
 pub enum Constant {
     Truth(bool),
     /// `BOOLEAN`
@@ -78,7 +79,7 @@ pub enum Constant {
 }
 
 /// What a token is to the grammars. Its words are bytes of the tokens' stretch.
-#[derive(Clone, Copy, PartialEq, Eq, Debug)]
+#[derive(Clone, Copy)]
 pub enum View {
     /// A sign or word of an operator; `-` is that of subtraction, also as a prefix.
     Sign(Op),
@@ -159,75 +160,42 @@ fn is(word: &[u8], other: &[u8]) -> bool
     other == word
 }
 
-// What a word is that begins or divides a form, or the rest.
-fn key_view(word: &[u8], rest: View) -> View
-    ensures { (bytes : List ℕ) → view_seen bytes result ≡ kind_among key_words word.now (view_seen bytes rest) }
+// What a reserved word of TLA+ is.
+#[tactic(auto, using(crate::proofs::ViewLemmas::other_view))]
+fn tla_view(word: TlaWord, span: Span) -> View
+    ensures { (bytes : List ℕ) → span_bytes bytes span ≡ tla_spelling word → view_seen bytes result ≡ word_kind (tla_spelling word) }
 {
-    if is(word, b"IF") {
-        View::Key(Key::If)
-    } else if is(word, b"THEN") {
-        View::Key(Key::Then)
-    } else if is(word, b"ELSE") {
-        View::Key(Key::Else)
-    } else if is(word, b"CASE") {
-        View::Key(Key::Case)
-    } else if is(word, b"OTHER") {
-        View::Key(Key::Other)
-    } else if is(word, b"LET") {
-        View::Key(Key::Let)
-    } else if is(word, b"IN") {
-        View::Key(Key::In)
-    } else if is(word, b"EXCEPT") {
-        View::Key(Key::Except)
-    } else {
-        rest
+    match word {
+        TlaWord::If => View::Key(Key::If),
+        TlaWord::Then => View::Key(Key::Then),
+        TlaWord::Else => View::Key(Key::Else),
+        TlaWord::Case => View::Key(Key::Case),
+        TlaWord::Other => View::Key(Key::Other),
+        TlaWord::Let => View::Key(Key::Let),
+        TlaWord::In => View::Key(Key::In),
+        TlaWord::Except => View::Key(Key::Except),
+        TlaWord::True => View::Constant(Constant::Truth(true)),
+        TlaWord::False => View::Constant(Constant::Truth(false)),
+        TlaWord::Boolean => View::Constant(Constant::Booleans),
+        TlaWord::String => View::Constant(Constant::Strings),
+        TlaWord::Subset => View::Sign(Op::Subset),
+        TlaWord::Union => View::Sign(Op::Union),
+        TlaWord::Domain => View::Sign(Op::Domain),
+        _ => View::Other(span),
     }
 }
 
-// What a word is that is an expression or an operator, or the rest.
-fn value_view(word: &[u8], rest: View) -> View
-    ensures { (bytes : List ℕ) → view_seen bytes result ≡ kind_among value_words word.now (view_seen bytes rest) }
-{
-    if is(word, b"TRUE") {
-        View::Constant(Constant::Truth(true))
-    } else if is(word, b"FALSE") {
-        View::Constant(Constant::Truth(false))
-    } else if is(word, b"BOOLEAN") {
-        View::Constant(Constant::Booleans)
-    } else if is(word, b"STRING") {
-        View::Constant(Constant::Strings)
-    } else if is(word, b"SUBSET") {
-        View::Sign(Op::Subset)
-    } else if is(word, b"UNION") {
-        View::Sign(Op::Union)
-    } else if is(word, b"DOMAIN") {
-        View::Sign(Op::Domain)
-    } else {
-        rest
-    }
-}
-
-// What a name or reserved word is.
-fn word_view(word: &[u8], span: Span) -> View
-    ensures { (bytes : List ℕ) → span_bytes bytes span ≡ word.now → view_seen bytes result ≡ word_kind word.now }
-{
-    if is_pluscal_word(word) {
-        return View::Reserved(span);
-    }
-    let rest = if is_tla_word(word) {
-        View::Other(span)
-    } else {
-        View::Word(span)
-    };
-    key_view(word, value_view(word, rest))
-}
-
-/// What a token is to the grammars.
+/// What a token is to the grammars, whose word is kept as its bytes say.
+#[tactic(auto, using(crate::proofs::ViewLemmas::name_view, crate::proofs::ViewLemmas::reserved_view, crate::proofs::ViewLemmas::fairness_view, crate::proofs::ViewLemmas::tla_word_view, tla_token::proofs::KeptLemmas::kept_tla))]
 pub fn view_of(tokens: &Tokens, token: Token) -> View
+    requires { is_kept tokens.now.bytes.items token.kind ≡ true }
     ensures { view_seen tokens.now.bytes.items result ≡ kind_of (kind_seen tokens.now.bytes.items token.kind) }
 {
     match token.kind {
-        Kind::Name(span) => word_view(tokens.word(span), span),
+        Kind::Name(span) => View::Word(span),
+        Kind::PluscalWord(span, _) => View::Reserved(span),
+        Kind::TlaWord(span, word) => tla_view(word, span),
+        Kind::Fairness(span) => View::Other(span),
         Kind::Number(n) => View::Number(n),
         Kind::BigNumber(span) => View::BigNumber(span),
         Kind::Text(span) => View::Quote(span),

@@ -1,5 +1,5 @@
 -- How far code comes in a text, and what begins at each place of it.
-use Rattle.std.proofs.Common.{◌≡◌, ℕ, zero, suc, ◌+◌, ◌-◌, ◌<◌, ◌≤◌, Bool, true, false, nat_le, List, [], ◌∷◌, ◌++◌, length, take, drop, Option, Some, None, codes, refl, sym, ap, ◌∙◌, arith, append_assoc, length-append, length-drop}
+use Rattle.std.proofs.Common.{◌≡◌, ℕ, zero, suc, ◌+◌, ◌-◌, ◌<◌, ◌≤◌, Bool, true, false, nat_eq, nat_le, List, [], ◌∷◌, ◌++◌, length, take, drop, Option, Some, None, codes, refl, sym, ap, ◌∙◌, arith, append_assoc, length-append, length-drop}
 use Rattle.std.specs.Prelude.{is_some}
 use Rattle.std.specs.List.{list_any}
 use Rattle.std.proofs.lemmas.List.{drop_all, drop-take, length-take-le}
@@ -109,7 +109,25 @@ begun s n k (l, e) h = h ∙ ap (λ (o : Option Text). is_some (on_some o (λ r.
 pub not_begun : (s : Text) → past_opening s ≡ None → false ≡ begins_algorithm s
 not_begun s e = ap (λ (o : Option Text). is_some (on_some o (λ r. on_some (past_blanks is_blank r) past_name))) (sym e)
 
+-- what begins with a byte is not where another byte is, or none
+first_byte : (c : ℕ) (s w : Text) → begins s (c ∷ []) ≡ false → begins s (c ∷ w) ≡ false
+first_byte c [] w h = refl
+first_byte c (b ∷ s) w h = by (nat_eq c b) refl
+  where
+    by : (k : Bool) → nat_eq c b ≡ k → begins (b ∷ s) (c ∷ w) ≡ false
+    by true e = (let g : true ≡ false = rw e at h in cc)
+    by false e = rw e refl
+
+pub unbegun : (s : Text) → begins s (45 ∷ []) ≡ false → false ≡ begins_algorithm s
+unbegun s h =
+    let f : begins s (codes "--fair") ≡ false = first_byte 45 s (codes "-fair") h in
+    let a : begins s (codes "--algorithm") ≡ false = first_byte 45 s (codes "-algorithm") h in
+    rw (f, a) refl
+
 -- ---- options
+
+pub options_unbegun : (s : Text) → begins s (80 ∷ []) ≡ false → false ≡ is_options s
+options_unbegun s h = (let p : begins s (codes "PlusCal") ≡ false = first_byte 80 s (codes "lusCal") h in rw p refl)
 
 abbrev opens : Text → Option Text
 opens r = on_some (past_word (codes "options") r) (λ r. past_word (codes "(") (past_all is_blank r))

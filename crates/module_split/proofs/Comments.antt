@@ -1,14 +1,15 @@
 -- What is within the comments of a file in memory.
-use Rattle.std.proofs.Common.{◌≡◌, ℕ, zero, suc, ◌+◌, ◌-◌, ◌<◌, ◌≤◌, Bool, true, false, List, [], ◌∷◌, ◌++◌, length, get_or, take, drop, Option, Some, None, refl, sym, ap, ◌∙◌, arith, append_assoc, length-drop, map}
+use Rattle.std.proofs.Common.{◌≡◌, ℕ, zero, suc, ◌+◌, ◌-◌, ◌<◌, ◌≤◌, Bool, true, false, List, [], ◌∷◌, ◌++◌, length, get_or, take, drop, Option, Some, None, refl, sym, ap, ◌∙◌, arith, append_assoc, length-drop, map, ◌&&◌}
 use Rattle.std.specs.Option.{option_map}
 use Rattle.std.specs.Prelude.{is_some, slice_get, find}
 use Rattle.std.specs.List.{position_or_len}
 use Rattle.std.proofs.lemmas.Option.{same_Some}
 use Rattle.std.proofs.lemmas.List.{map-append, length-take-le, drop-take, drop_all}
-use Rattle.std.proofs.lemmas.List.Folds.{find_at}
+use Rattle.std.proofs.lemmas.List.Folds.{find_at, list_all-append}
 use Rattle.tla_token.specs.declared.part.Class.TheVariants as class
 use Rattle.tla_token.specs.declared.token.Span.{Span}
 use Rattle.tla_token.specs.declared.token.Token as code
+use Rattle.tla_token.specs.KeptWords.{is_kept, are_kept}
 use Rattle.tla_token.specs.TokensSeen.{token_seen}
 use Rattle.tla_token.specs.Tokens as text
 use Rattle.tla_token.specs.Tokens.{stretch}
@@ -119,6 +120,11 @@ plain_pushed x items after t more o e h =
 
 pub plain_left : (x : Text) (items : List text.Token) (r : Option code.Token) (more : List text.Token) (o : Option text.Token) → r ≡ None → option_map (token_seen x) r ≡ o → items ++ more ≡ items ++ with_token o more
 plain_left x items r more o e h = ap (λ (o : Option text.Token). items ++ with_token o more) (ap (option_map (token_seen x)) (sym e) ∙ h)
+
+-- words are kept as their bytes say with one token more
+pub kept_pushed : (x : Text) (items after : List code.Token) (t : code.Token) → after ≡ items ++ t ∷ [] → is_kept x t.kind ≡ true → are_kept x items ≡ true → are_kept x after ≡ true
+kept_pushed x items after t e h k =
+    ap (are_kept x) e ∙ list_all-append (λ (u : code.Token). is_kept x u.kind) items (t ∷ []) ∙ (λ i. k i && (h i && true))
 
 -- what stands past the end of a list of segments, as code sees it
 abbrev pub no_stand : Stand

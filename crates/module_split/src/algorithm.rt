@@ -19,7 +19,7 @@ use tla_token::fault::{part_fault, sooner};
 use tla_token::{Class, Part, Reading, Rule, Sign, part_at};
 
 /// What the tokens of an algorithm are so far.
-#[derive(Clone, Copy, PartialEq, Eq, Debug)]
+#[derive(Clone, Copy)]
 pub enum Stage {
     /// Before the name, and so many words before that.
     Head(usize),
@@ -36,7 +36,7 @@ pub enum Stage {
 }
 
 /// A walk over an algorithm: where it is, and what it has found.
-#[derive(Clone, Copy, PartialEq, Eq, Debug)]
+#[derive(Clone, Copy)]
 pub struct Inside {
     /// The index of the next byte.
     pub at: usize,
@@ -212,7 +212,7 @@ fn inner_fault(class: Class, bytes: &[u8], at: usize) -> Option<(Rule, usize)>
     ensures { result ≡ least (filter is_splitting (part_offences true at (part_of class bytes.now))) }
 {
     match class {
-        Class::Number => None,
+        Class::Blank | Class::Block | Class::Line | Class::Name | Class::Sign(_) | Class::Number => None,
         _ => part_fault(class, bytes, at, Reading::Algorithm),
     }
 }

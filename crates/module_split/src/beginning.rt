@@ -1,10 +1,10 @@
 //! Where algorithms and options begin.
 
-ghost use Rattle.std.specs.Prelude.{◌≡◌, true, ◌+◌, ◌≤◌, ◌^◌, ◌<◌, ◌++◌, length, drop, is_some, codes, Some, IfSome, IfOk, All};
+ghost use Rattle.std.specs.Prelude.{◌≡◌, [], ◌∷◌, true, ◌+◌, ◌≤◌, ◌^◌, ◌<◌, ◌++◌, length, drop, is_some, codes, Some, IfSome, IfOk, All};
 ghost use Rattle.tla_token.specs.Lexemes.{is_blank};
 ghost use Rattle.tla_token.specs.Tokens.{stretch};
 ghost use Rattle.tla_token.specs.Offences.{least};
-ghost use Rattle.module_tree.specs.TextFront.{on_some, past_all, past_word, past_blanks, past_name};
+ghost use Rattle.module_tree.specs.TextFront.{begins, on_some, past_all, past_word, past_blanks, past_name};
 ghost use Rattle.module_tree.specs.Beginnings as pure;
 ghost use Rattle.module_tree.specs.Beginnings.{past_opening, all_at};
 ghost use Rattle.module_tree.specs.FileParts.{first_of};
@@ -19,14 +19,24 @@ use tla_token::fault::sooner;
 // ---- algorithms
 
 /// Whether an algorithm begins here: its first words, blanks and a name.
-#[tactic(auto, using(crate::proofs::BeginningSteps::begun, crate::proofs::BeginningSteps::not_begun))]
+#[tactic(auto, using(crate::proofs::BeginningSteps::begun, crate::proofs::BeginningSteps::not_begun, crate::proofs::BeginningSteps::unbegun))]
 pub fn begins_algorithm(text: &[u8]) -> bool
     ensures { result ≡ pure.begins_algorithm text.now }
 {
+    if !begins_with(text, b'-') {
+        return false;
+    }
     match first_words_len(text) {
         Some(n) => is_named(&text[n..]),
         None => false,
     }
+}
+
+// Whether this byte is in front.
+fn begins_with(text: &[u8], byte: u8) -> bool
+    ensures { result ≡ begins text.now (byte ∷ []) }
+{
+    !text.is_empty() && text[0] == byte
 }
 
 /// Whether `--fair` stands before `algorithm` here.
@@ -128,10 +138,13 @@ pub fn first_beginning(text: &[u8], from: usize, to: usize) -> Option<usize>
 // ---- options
 
 /// Whether a line of options goes on here: `PlusCal options (`.
-#[tactic(auto, using(crate::proofs::BeginningSteps::options_no, crate::proofs::BeginningSteps::options_blankless, crate::proofs::BeginningSteps::options_yes))]
+#[tactic(auto, using(crate::proofs::BeginningSteps::options_unbegun, crate::proofs::BeginningSteps::options_no, crate::proofs::BeginningSteps::options_blankless, crate::proofs::BeginningSteps::options_yes))]
 pub fn is_options(text: &[u8]) -> bool
     ensures { result ≡ pure.is_options text.now }
 {
+    if !begins_with(text, b'P') {
+        return false;
+    }
     if !text.starts_with(b"PlusCal") {
         return false;
     }

@@ -1,11 +1,12 @@
 //! A module's text in its parts, or the rule that counts of those that it breaks.
 
-ghost use Rattle.std.specs.Prelude.{◌≡◌, ℕ, Bool, List, ◌+◌, ◌≤◌, ◌<◌, ◌^◌, ◌++◌, [], length, map, Some, Err, IfOk, All, filter, option_map, is_some, true, slice_index_or, slice_get, unwrap_or, false};
+ghost use Rattle.std.specs.Prelude.{◌≡◌, ℕ, Bool, List, ◌+◌, ◌≤◌, ◌<◌, ◌^◌, ◌++◌, [], length, map, Some, Err, IfOk, IfSome, All, filter, option_map, is_some, true, slice_index_or, slice_get, unwrap_or, false};
 ghost use Rattle.std.specs.List.{position_or_len, flat_map};
 ghost use Rattle.tla_token.specs.declared.rule.Refusal as refusals;
 ghost use Rattle.tla_token.specs.Places.{place_at};
 ghost use Rattle.tla_token.specs.Tokens.{stretch};
 ghost use Rattle.tla_token.specs.Offences.{least};
+ghost use Rattle.tla_token.specs.KeptWords.{is_kept, are_kept};
 ghost use Rattle.tla_token.specs.TokensSeen.{token_seen, tokens_seen};
 ghost use Rattle.module_tree.specs.Walk.{Located, walk};
 ghost use Rattle.module_split.specs.StandsSeen.{located_seen, stands_seen, IsSolid};
@@ -31,7 +32,7 @@ use crate::walk::walk;
 use module_tree::Parts;
 use std::alloc::{AllocError, Global};
 use tla_token::fault::sooner;
-use tla_token::token::kind_at;
+use tla_token::kind_at;
 use tla_token::{Part, Place, Refusal, Rule, Span, Stop, Token, Tokens, place_of};
 
 // ---- the place of a translation
@@ -97,8 +98,10 @@ fn insertion(text: &[u8], rest: &[Stand], end: usize) -> Option<Span>
 
 // Adds the tokens among segments.
 fn add_tokens(text: &[u8], stands: &[Stand], items: &mut Vec<Token>) -> Result<(), AllocError>
-    requires { All (IsSolid text.now) stands.now }
-    ensures { IfOk result (λ u. map (token_seen text.now) items.new.items ≡ map (token_seen text.now) items.old.items ++ plain_tokens (stands_seen text.now stands.now)) }
+    requires solid { All (IsSolid text.now) stands.now }
+    requires kept { are_kept text.now items.old.items ≡ true }
+    ensures added { IfOk result (λ u. map (token_seen text.now) items.new.items ≡ map (token_seen text.now) items.old.items ++ plain_tokens (stands_seen text.now stands.now)) }
+    ensures kept { IfOk result (λ u. are_kept text.now items.new.items ≡ true) }
 {
     'stands: for stand in stands {
         if let Some(token) = token_of(text, *stand) {
@@ -111,7 +114,8 @@ fn add_tokens(text: &[u8], stands: &[Stand], items: &mut Vec<Token>) -> Result<(
 // The token that a segment is.
 fn token_of(text: &[u8], stand: Stand) -> Option<Token>
     requires { IsSolid text.now stand }
-    ensures { option_map (token_seen text.now) result ≡ plain_token (located_seen text.now stand) }
+    ensures seen { option_map (token_seen text.now) result ≡ plain_token (located_seen text.now stand) }
+    ensures kept { IfSome result (λ t. is_kept text.now t.kind ≡ true) }
 {
     match stand.shape {
         Shape::Part(class) => {

@@ -3,7 +3,7 @@
 use tla_token::{Class, Place};
 
 /// What a segment is.
-#[derive(Clone, Copy, PartialEq, Eq, Debug)]
+#[derive(Clone, Copy)]
 pub enum Shape {
     /// A line before the header, with its end.
     Free,
@@ -22,7 +22,7 @@ pub enum Shape {
 }
 
 /// A segment, by its bytes in the file.
-#[derive(Clone, Copy, PartialEq, Eq, Debug)]
+#[derive(Clone, Copy)]
 pub struct Stand {
     /// The index of its first byte.
     pub at: usize,

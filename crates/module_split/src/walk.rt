@@ -16,7 +16,7 @@ use tla_token::bytes::line_len;
 use tla_token::place::{Place, place_after};
 
 /// What a segment is, and how many bytes it has.
-#[derive(Clone, Copy, PartialEq, Eq, Debug)]
+#[derive(Clone, Copy)]
 pub struct Front {
     /// What it is.
     pub shape: Shape,
@@ -25,7 +25,7 @@ pub struct Front {
 }
 
 /// What is known of the bytes from here on, so that none is looked at again for it.
-#[derive(Clone, Copy, PartialEq, Eq, Debug)]
+#[derive(Clone, Copy)]
 pub struct Known {
     /// No END line begins after the line that is here.
     pub endless: bool,
@@ -34,7 +34,7 @@ pub struct Known {
 }
 
 /// Where a walk is in a file, and what it knows.
-#[derive(Clone, Copy, PartialEq, Eq, Debug)]
+#[derive(Clone, Copy)]
 pub struct Walker {
     /// The index of the next byte.
     pub at: usize,

@@ -24,7 +24,7 @@ use expr_nodes::cursor::Halt;
 use pcal_tree::algorithm::{Algorithm, Main};
 use std::alloc::Global;
 use tla_pool::Pool;
-use tla_token::{Rule, Tokens};
+use tla_token::{PluscalWord, Rule, Tokens};
 
 /// The main part of an algorithm of one process, behind its `begin`.
 ///
@@ -66,7 +66,7 @@ pub fn read_main_part(
     ensures inside { IfOk result (λ x. x.1 ≤ length tokens.now.items.items) }
     ensures further { IfOk result (λ x. at ≤ x.1) }
 {
-    match after_word(tokens, at, b"begin") {
+    match after_word(tokens, at, PluscalWord::Begin) {
         Some(next) => read_main_list(alloc, tokens, pool, next),
         None => read_main_processes::<PSyntax>(alloc, tokens, pool, at),
     }
@@ -79,8 +79,8 @@ fn past_closing(tokens: &Tokens, at: usize) -> Result<usize, Halt>
     ensures inside { IfOk result (λ end. end ≤ length tokens.now.items.items) }
     ensures further { IfOk result (λ end. at ≤ end) }
 {
-    let (_, next) = past_key(tokens, at, b"end")?;
-    let (_, end) = past_key(tokens, next, b"algorithm")?;
+    let (_, next) = past_key(tokens, at, PluscalWord::End)?;
+    let (_, end) = past_key(tokens, next, PluscalWord::Algorithm)?;
     Ok(end)
 }
 

@@ -29,7 +29,7 @@ use expr_nodes::cursor::Halt;
 use pcal_tree::algorithm::{Bind, Span, Stmt};
 use std::alloc::Global;
 use tla_pool::Pool;
-use tla_token::{Place, Rule, Tokens};
+use tla_token::{Place, PluscalWord, Rule, Tokens};
 use tla_tree::NodeId;
 
 // Past `elsif` and its test with the `then` behind it.
@@ -51,7 +51,7 @@ fn read_test(
 {
     one_deeper(tokens, at, depth)?;
     let (test, end) = read_expression(alloc, tokens, pool, behind(tokens, at))?;
-    let (_, end) = past_key(tokens, end, b"then")?;
+    let (_, end) = past_key(tokens, end, PluscalWord::Then)?;
     Ok((test, end))
 }
 
@@ -174,7 +174,7 @@ fn end_if(
     ensures inside { IfOk result (λ x. x.1 ≤ length tokens.now.items.items) }
     ensures further { IfOk result (λ x. at < x.1) }
 {
-    let (last, end) = past_key(tokens, at + 1, b"if")?;
+    let (last, end) = past_key(tokens, at + 1, PluscalWord::If)?;
     let statement = closed_if(alloc, tests, test, otherwise, last)?;
     Ok((extended(around, statement, Point::Ended)?, end))
 }
@@ -195,7 +195,7 @@ fn end_either(
     ensures inside { IfOk result (λ x. x.1 ≤ length tokens.now.items.items) }
     ensures further { IfOk result (λ x. at < x.1) }
 {
-    let (last, end) = past_key(tokens, at + 1, b"either")?;
+    let (last, end) = past_key(tokens, at + 1, PluscalWord::Either)?;
     let mut branches = branches;
     branches.push(list)?;
     let span = Span { first: place, last };
@@ -219,7 +219,7 @@ fn end_with(
     ensures inside { IfOk result (λ x. x.1 ≤ length tokens.now.items.items) }
     ensures further { IfOk result (λ x. at < x.1) }
 {
-    let (last, end) = past_key(tokens, at + 1, b"with")?;
+    let (last, end) = past_key(tokens, at + 1, PluscalWord::With)?;
     let span = Span { first: place, last };
     let statement = Stmt::With(span, binds, list);
     Ok((extended(around, statement, Point::Ended)?, end))
@@ -241,7 +241,7 @@ fn end_while(
     ensures inside { IfOk result (λ x. x.1 ≤ length tokens.now.items.items) }
     ensures further { IfOk result (λ x. at < x.1) }
 {
-    let (last, end) = past_key(tokens, at + 1, b"while")?;
+    let (last, end) = past_key(tokens, at + 1, PluscalWord::While)?;
     let span = Span { first: place, last };
     let statement = Stmt::While(span, test, list);
     Ok((extended(around, statement, Point::Ended)?, end))

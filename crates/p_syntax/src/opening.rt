@@ -17,7 +17,7 @@ use expr_nodes::cursor::Halt;
 use pcal_tree::algorithm::Stmt;
 use std::alloc::Global;
 use tla_pool::Pool;
-use tla_token::Tokens;
+use tla_token::{PluscalWord, Tokens};
 
 /// Past a label.
 ///
@@ -63,7 +63,7 @@ pub fn open_if(
     let place = next_token(tokens, at).place;
     let depth = one_deeper(tokens, at, state.depth)?;
     let (test, end) = read_expression(alloc, tokens, pool, behind(tokens, at))?;
-    let (_, end) = past_key(tokens, end, b"then")?;
+    let (_, end) = past_key(tokens, end, PluscalWord::Then)?;
     let frame = Frame::Then(Vec::new(alloc), place, test);
     Ok((opened(alloc, state, frame, depth)?, end))
 }
@@ -90,7 +90,7 @@ pub fn open_while(
     let place = next_token(tokens, at).place;
     let depth = one_deeper(tokens, at, state.depth)?;
     let (test, end) = read_expression(alloc, tokens, pool, behind(tokens, at))?;
-    let (_, end) = past_key(tokens, end, b"do")?;
+    let (_, end) = past_key(tokens, end, PluscalWord::Do)?;
     let frame = Frame::While(place, test);
     Ok((opened(alloc, state, frame, depth)?, end))
 }
@@ -163,7 +163,7 @@ pub fn open_with(
 {
     let place = next_token(tokens, at).place;
     let ((binds, depth), end) = read_binds(alloc, tokens, pool, at + 1, state.depth)?;
-    let (_, end) = past_key(tokens, end, b"do")?;
+    let (_, end) = past_key(tokens, end, PluscalWord::Do)?;
     let frame = Frame::With(place, binds);
     Ok((opened(alloc, state, frame, depth)?, end))
 }

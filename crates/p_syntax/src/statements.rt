@@ -27,7 +27,7 @@ use expr_nodes::cursor::Halt;
 use expr_nodes::view::Mark;
 use std::alloc::Global;
 use tla_pool::Pool;
-use tla_token::{Rule, Tokens};
+use tla_token::{PluscalWord, Rule, Tokens};
 
 /// Past what comes where a statement may: a label, a statement, or what opens one.
 ///
@@ -48,13 +48,13 @@ pub fn read_statement(
     ensures inside { IfOk result (λ x. x.1 ≤ length tokens.now.items.items) }
     ensures further { IfOk result (λ x. at < x.1) }
 {
-    if is_next_word(tokens, at, b"if") {
+    if is_next_word(tokens, at, PluscalWord::If) {
         open_if(alloc, tokens, pool, state, at)
-    } else if is_next_word(tokens, at, b"either") {
+    } else if is_next_word(tokens, at, PluscalWord::Either) {
         open_either(alloc, tokens, state, at)
-    } else if is_next_word(tokens, at, b"with") {
+    } else if is_next_word(tokens, at, PluscalWord::With) {
         open_with(alloc, tokens, pool, state, at)
-    } else if is_next_word(tokens, at, b"while") {
+    } else if is_next_word(tokens, at, PluscalWord::While) {
         open_while(alloc, tokens, pool, state, at)
     } else if is_next_label(tokens, at) {
         read_label(alloc, tokens, state, at)
@@ -127,11 +127,11 @@ fn read_on(
     ensures inside { IfOk result (λ x. x.1 ≤ length tokens.now.items.items) }
     ensures further { IfOk result (λ x. at < x.1) }
 {
-    if is_next_word(tokens, at, b"else") {
+    if is_next_word(tokens, at, PluscalWord::Else) {
         take_else(alloc, tokens, state, at)
-    } else if is_next_word(tokens, at, b"elsif") {
+    } else if is_next_word(tokens, at, PluscalWord::Elsif) {
         take_elsif(alloc, tokens, pool, state, at)
-    } else if is_next_word(tokens, at, b"or") {
+    } else if is_next_word(tokens, at, PluscalWord::Or) {
         take_or(alloc, tokens, state, at)
     } else {
         read_another(alloc, tokens, pool, state, at)
@@ -154,7 +154,7 @@ fn read_after(
     ensures inside { IfOk result (λ x. x.1 ≤ length tokens.now.items.items) }
     ensures further { IfOk result (PassesOn at) }
 {
-    if is_next_word(tokens, at, b"end") {
+    if is_next_word(tokens, at, PluscalWord::End) {
         take_end(alloc, tokens, state, at)
     } else {
         let (next, end) = read_on(alloc, tokens, pool, state, at)?;

@@ -1,6 +1,7 @@
 //! What P-syntax spells in its own way around lists of statements: bodies, which process it is, and `define`.
 
 ghost use Rattle.std.specs.Prelude.{ℕ, ◌<◌, ◌≤◌, IfOk, length};
+ghost use Rattle.tla_token.specs.ReservedWords.{pluscal_spelling};
 ghost use Rattle.tla_token.specs.declared.place.Place as placed;
 ghost use Rattle.tla_tree.specs.Pool.{Keeps};
 ghost use Rattle.expr_nodes.specs.Ahead.{ahead};
@@ -22,7 +23,7 @@ use expr_nodes::cursor::Halt;
 use pcal_tree::algorithm::{Definition, Stmt};
 use std::alloc::Global;
 use tla_pool::Pool;
-use tla_token::Tokens;
+use tla_token::{PluscalWord, Tokens};
 use tla_tree::{NodeId, PlacedName};
 
 /// `begin .. end macro;`, by the word behind `end`.
@@ -35,18 +36,18 @@ pub fn read_body(
     tokens: &Tokens,
     pool: &mut Pool,
     at: usize,
-    word: &[u8],
+    word: PluscalWord,
 ) -> Result<(Vec<Stmt>, usize), Halt>
     requires there { at ≤ length tokens.now.items.items }
     requires numbers { NumbersFit tokens.now }
-    ensures read { (n : ℕ) → Enough tokens.now at n → ReadsPart list_at past_list body_tree tokens.now pool.new result (body_reader (parts_in tokens.now) n word.now (ahead tokens.now at)) }
+    ensures read { (n : ℕ) → Enough tokens.now at n → ReadsPart list_at past_list body_tree tokens.now pool.new result (body_reader (parts_in tokens.now) n (pluscal_spelling word) (ahead tokens.now at)) }
     ensures kept { Keeps pool.old pool.new }
     ensures inside { IfOk result (λ x. x.1 ≤ length tokens.now.items.items) }
     ensures further { IfOk result (λ x. at < x.1) }
 {
-    let (_, from) = past_key(tokens, at, b"begin")?;
+    let (_, from) = past_key(tokens, at, PluscalWord::Begin)?;
     let (list, end) = read_sequence(alloc, tokens, pool, from)?;
-    let (_, word_at) = past_key(tokens, end, b"end")?;
+    let (_, word_at) = past_key(tokens, end, PluscalWord::End)?;
     let (_, last) = past_key(tokens, word_at, word)?;
     let (_, next) = past_semicolon(tokens, last);
     Ok((list, next))
@@ -95,8 +96,8 @@ pub fn read_define(
     ensures further { IfOk result (λ x. at < x.1) }
 {
     let (list, end) = read_definitions(alloc, tokens, pool, at)?;
-    let (_, word_at) = past_key(tokens, end, b"end")?;
-    let (_, last) = past_key(tokens, word_at, b"define")?;
+    let (_, word_at) = past_key(tokens, end, PluscalWord::End)?;
+    let (_, last) = past_key(tokens, word_at, PluscalWord::Define)?;
     let (_, next) = past_semicolon(tokens, last);
     Ok((list, next))
 }
@@ -112,7 +113,7 @@ impl Ways for PSyntax {
         tokens: &Tokens,
         pool: &mut Pool,
         at: usize,
-        word: &[u8],
+        word: PluscalWord,
     ) -> Result<(Vec<Stmt>, usize), Halt> {
         read_body(alloc, tokens, pool, at, word)
     }

@@ -3,7 +3,7 @@
 ghost use Rattle.std.specs.Prelude.{◌<◌, length};
 ghost use Rattle.tla_token.specs.Limits.{past_text};
 
-use expr_nodes::cursor::look;
+use expr_nodes::spot::{Spot, next_at};
 use expr_nodes::view::View;
 use std::alloc::{AllocError, Global};
 use tla_token::sign::spelling_len;
@@ -48,7 +48,10 @@ fn put_token(
     token: Token,
 ) -> Result<(), AllocError> {
     match token.kind {
-        Kind::Name(span, ..) => put_word(told, b"n", found.word(span)),
+        Kind::Name(span)
+        | Kind::PluscalWord(span, _)
+        | Kind::TlaWord(span, _)
+        | Kind::Fairness(span) => put_word(told, b"n", found.word(span)),
         Kind::BigNumber(span) => put_word(told, b"b", found.word(span)),
         Kind::Text(span) => put_word(told, b"t", found.word(span)),
         Kind::Other(span) => put_word(told, b"o", found.word(span)),
@@ -127,7 +130,7 @@ pub fn put_views(
     match tokens(alloc, text, 0, text.len()) {
         Ok(found) => {
             for i in 0..found.items.len() {
-                told.push(letter(look(&found, &found.items[i..], edge).view))?;
+                told.push(letter(next_at(&found, Spot { at: i, edge, left: 0 }).view))?;
             }
             Ok(())
         }

@@ -275,6 +275,9 @@ other_defines w = by (bytes_eq w (codes "'"))
 
 pub no_sign_defines : (bytes : List ℕ) (k : code_kind.Kind) → ((x : Sign) → k ≡ kind.Sign x → ⊥) → is_define (kind_of (kind_seen bytes k)) ≡ false
 no_sign_defines bytes (kind.Name s) h = word_defines (span_bytes bytes s)
+no_sign_defines bytes (kind.PluscalWord s w) h = word_defines (span_bytes bytes s)
+no_sign_defines bytes (kind.TlaWord s w) h = word_defines (span_bytes bytes s)
+no_sign_defines bytes (kind.Fairness s) h = word_defines (span_bytes bytes s)
 no_sign_defines bytes (kind.Number n) h = refl
 no_sign_defines bytes (kind.BigNumber s) h = refl
 no_sign_defines bytes (kind.Text s) h = refl

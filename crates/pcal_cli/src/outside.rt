@@ -62,7 +62,10 @@ fn look<'a>(tokens: &'a Tokens, token: &Token) -> Seen<'a>
     ensures { shown ((view_seen tokens.now.bytes.items token.now).kind) ≡ shown_as result }
 {
     match token.kind {
-        Kind::Name(span) => seen_word(tokens.word(span)),
+        Kind::Name(span)
+        | Kind::PluscalWord(span, _)
+        | Kind::TlaWord(span, _)
+        | Kind::Fairness(span) => seen_word(tokens.word(span)),
         Kind::Other(span) if tokens.word(span) != b"'".as_slice() => Seen::Keyword(tokens.word(
             span,
         )),

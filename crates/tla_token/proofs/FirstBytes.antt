@@ -1,8 +1,8 @@
 -- Signs are looked for among those that are spelled from the first byte on.
-use Rattle.std.proofs.Common.{◌≡◌, ℕ, Bool, true, false, nat_eq, get_or, take, drop, List, [], ◌∷◌, find, refl, sym, ap, ◌∙◌, inl, inr, arith}
+use Rattle.std.proofs.Common.{◌≡◌, ℕ, Bool, true, false, ◌&&◌, nat_eq, length, subst, get_or, take, drop, List, [], ◌∷◌, find, refl, sym, ap, ◌∙◌, inl, inr, arith}
 use Rattle.std.specs.List.{filter, list_any}
 use Rattle.std.specs.Str.{bytes_eq}
-use Rattle.std.proofs.lemmas.Bool.{and_parts, or_cases, or_parts, or_left, or_right, eqb-true, both_ways}
+use Rattle.std.proofs.lemmas.Bool.{and_parts, or_cases, or_parts, or_left, or_right, eqb-true, eq-eqb, both_ways}
 use Rattle.tla_token.specs.declared.sign.Sign.{Sign}
 use Rattle.tla_token.specs.declared.sign.Sign.TheVariants as sign
 use Rattle.tla_token.specs.Lexemes.{is_letter}
@@ -13,7 +13,7 @@ use Rattle.tla_token.proofs.Signed.{tells_apart}
 use Rattle.tla_token.proofs.Spelled.{begins, begins_from, stands_at, any_some, same_bytes, no_empty}
 
 -- what has a test is found among those that have another, where the first has it too
-find_among : {A : Type 0} (p q : A → Bool) (xs : List A) → ((x : A) → p x ≡ true → q x ≡ true) → find p (filter q xs) ≡ find p xs
+pub find_among : {A : Type 0} (p q : A → Bool) (xs : List A) → ((x : A) → p x ≡ true → q x ≡ true) → find p (filter q xs) ≡ find p xs
 find_among p q [] h = refl
 find_among p q (x ∷ xs) h = by (q x) (p x) refl refl (find_among p q xs h)
   where
@@ -53,6 +53,25 @@ sign_from (b ∷ bs) = find_among (stands_at (b ∷ bs)) (may_begin b) all_signs
 pub word_from : (w : List ℕ) → find (λ s. is_among (spellings s) w) (filter (may_begin (get_or w 0 0)) all_signs) ≡ sign_of w
 word_from [] = refl
 word_from (b ∷ v) = find_among (λ s. is_among (spellings s) (b ∷ v)) (may_begin b) all_signs (λ s i. spelled_from b v (spellings s) i)
+
+-- a word that begins with a backslash is looked for among those that are as long
+sized : (b : ℕ) (v : List ℕ) (ws : List (List ℕ)) → is_among ws (b ∷ v) ≡ true → list_any (λ w. begins_with b w && nat_eq (length w) (length (b ∷ v))) ws ≡ true
+sized b v [] i = absurd cc
+sized b v (w ∷ ws) i =
+    let test : List ℕ → Bool = λ u. begins_with b u && nat_eq (length u) (length (b ∷ v)) in
+    elim (or_cases (bytes_eq w (b ∷ v)) (is_among ws (b ∷ v)) i) [
+      | inl e ↦ or_left (test w) (list_any test ws) (ap test (same_bytes w (b ∷ v) e) ∙ (λ j. begins_from (b ∷ v) (b ∷ []) v refl j && same (length (b ∷ v)) j))
+      | inr j ↦ or_right (test w) (list_any test ws) (sized b v ws j)
+    ]
+  where
+    same : (n : ℕ) → nat_eq n n ≡ true
+    same n = eq-eqb n n refl
+
+pub backslash_from : (w : List ℕ) → get_or w 0 0 ≡ 92 → find (λ s. is_among (spellings s) w) (filter (λ s. list_any (λ u. begins_with 92 u && nat_eq (length u) (length w)) (spellings s)) all_signs) ≡ sign_of w
+backslash_from [] e = absurd cc
+backslash_from (b ∷ v) e =
+    subst (λ (c : ℕ). find (λ s. is_among (spellings s) (b ∷ v)) (filter (λ s. list_any (λ u. begins_with c u && nat_eq (length u) (length (b ∷ v))) (spellings s)) all_signs) ≡ sign_of (b ∷ v)) e
+    (find_among (λ s. is_among (spellings s) (b ∷ v)) (λ s. list_any (λ u. begins_with b u && nat_eq (length u) (length (b ∷ v))) (spellings s)) all_signs (λ s i. sized b v (spellings s) i))
 
 -- ---- behind a backslash is no word without a letter
 

@@ -1,9 +1,10 @@
 -- What is found of a stretch without an offence are its tokens, also where it is an algorithm's.
-use Rattle.std.proofs.Common.{◌≡◌, ℕ, ◌+◌, ◌-◌, ◌≤◌, Bool, true, false, not, nat_eq, List, [], ◌∷◌, ◌++◌, length, take, drop, map, codes, Option, Some, None, Result, Ok, Err, IfOk, refl, sym, ap, subst, ◌∙◌, arith, length-append, length-drop}
+use Rattle.std.proofs.Common.{◌≡◌, ℕ, zero, suc, ◌+◌, ◌-◌, ◌<◌, ◌≤◌, get_or, Bool, true, false, not, nat_eq, List, [], ◌∷◌, ◌++◌, length, take, drop, map, codes, Option, Some, None, Result, Ok, Err, IfOk, refl, sym, ap, subst, ◌∙◌, arith, length-append, length-drop}
 use Rattle.std.specs.Option.{option_map}
 use Rattle.std.specs.List.{list_all, flat_map, starts_with}
 use Rattle.std.proofs.Math.Seq.{take-append_seam}
 use Rattle.std.proofs.lemmas.List.{length-take-le}
+use Rattle.std.proofs.lemmas.List.Elements.{All-from_get_or}
 use Rattle.std.proofs.lemmas.Bool.{and_from}
 use Rattle.tla_token.specs.declared.place.Place.{Place}
 use Rattle.tla_token.specs.declared.fault.Reading.{Reading}
@@ -20,7 +21,9 @@ use Rattle.tla_token.specs.Tokens.{openings, Token, Piece, blank, block, line, l
 use Rattle.tla_token.specs.Offences.{Part, sound, part_bytes, PartsFit, Offence, kind_offences, part_offences, offences, or_earlier, least}
 use Rattle.tla_token.specs.Cut.{parts}
 use Rattle.tla_token.specs.Readings.{read_offences, number_offences, offences_in, joined, last_quote, line_offence, first_offence, IsRefused, names_algorithm, opening_of, IsCutAs, offence_as, AreTokens, given_offence, IsGivenRefused}
-use Rattle.tla_token.specs.TokensSeen.{token_seen, tokens_seen}
+use Rattle.tla_token.specs.Words.{is_reserved}
+use Rattle.tla_token.specs.KeptWords.{is_kept}
+use Rattle.tla_token.specs.TokensSeen.{token_seen, tokens_seen, IsCanonical, AllCanonical}
 use Rattle.tla_token.specs.Scanning.{lexemes_of}
 use Rattle.tla_token.proofs.Spelled.{begins_is}
 use Rattle.tla_token.proofs.Unique.{tok_offences}
@@ -113,6 +116,7 @@ record Begins (bytes : List ℕ) (n : ℕ) : Type 0 where
   pub len : n ≡ length word
   pub stands : starts_with nat_eq bytes word ≡ true
   pub opens : is_among openings word ≡ true
+  pub free : is_reserved word ≡ false
 
 begins : (bytes : List ℕ) (n : ℕ) → Some n ≡ option_map length (opening_of bytes) → Begins bytes n
 begins bytes n e = by (starts_with nat_eq bytes (codes "--algorithm")) refl (starts_with nat_eq bytes (codes "--fair")) refl (names_algorithm (drop 6 bytes)) refl
@@ -121,13 +125,38 @@ begins bytes n e = by (starts_with nat_eq bytes (codes "--algorithm")) refl (sta
     by true i j jj k kk =
         let is : opening_of bytes ≡ Some (codes "--algorithm") = rw i refl in
         let m : Some n ≡ Some 11 = e ∙ ap (option_map length) is in
-        record { word = codes "--algorithm"; is = is; len = cc; stands = i; opens = refl }
+        record { word = codes "--algorithm"; is = is; len = cc; stands = i; opens = refl; free = refl }
     by false i true j true k =
         let is : opening_of bytes ≡ Some (codes "--fair") = rw (i, j, k) refl in
         let m : Some n ≡ Some 6 = e ∙ ap (option_map length) is in
-        record { word = codes "--fair"; is = is; len = cc; stands = j; opens = refl }
+        record { word = codes "--fair"; is = is; len = cc; stands = j; opens = refl; free = refl }
     by false i true j false k = (let is : opening_of bytes ≡ None = rw (i, j, k) refl in let m : Some n ≡ None = e ∙ ap (option_map length) is in absurd cc)
     by false i false j k kk = (let is : opening_of bytes ≡ None = rw (i, j) refl in let m : Some n ≡ None = e ∙ ap (option_map length) is in absurd cc)
+
+begins_so : (bytes : List ℕ) (n : ℕ) (b : Begins bytes n) → stretch bytes 0 n ≡ b.word
+begins_so bytes n b =
+    let s : bytes ≡ b.word ++ drop (length b.word) bytes = begins_is bytes b.word b.stands in
+    let z : n - 0 ≡ length b.word = omega (arith, b.len) in
+    ap (λ (k : ℕ). take k bytes) z ∙ ap (take (length b.word)) s ∙ take-append_seam b.word (drop (length b.word) bytes)
+
+-- it is no reserved word
+opening_kept : (bytes : List ℕ) (n : ℕ) → Some n ≡ option_map length (opening_of bytes) → is_kept bytes (kinds.Name (record { from = 0; to = n })) ≡ true
+unfolding is_kept
+opening_kept bytes n e = (let b = begins bytes n e in ap (λ (w : List ℕ). not (is_reserved w)) (begins_so bytes n b) ∙ ap not b.free)
+
+pub opening_canonical : (bytes : List ℕ) (n at : ℕ) (p : Place) (items : List code.Token) → Some n ≡ option_map length (opening_of bytes)
+    → items ≡ record { kind = kinds.Name (record { from = 0; to = n }); at = at; place = p } ∷ [] → AllCanonical bytes items
+opening_canonical bytes n at p items e is = subst (AllCanonical bytes) (sym is) (All-from_get_or P (t ∷ []) t one)
+  where
+    t : code.Token
+    t = record { kind = kinds.Name (record { from = 0; to = n }); at = at; place = p }
+
+    P : code.Token → Type 0
+    P u = IsCanonical bytes u.kind
+
+    one : (i : ℕ) → i < 1 → P (get_or (t ∷ []) i t)
+    one zero l = opening_kept bytes n e
+    one (suc i) l = absurd (omega arith)
 
 begins_not : (bytes : List ℕ) → None ≡ option_map length (opening_of bytes) → opening_of bytes ≡ None
 begins_not bytes e = by (opening_of bytes) e
@@ -153,10 +182,7 @@ algorithm_by text from to n ts e none is =
     let more = lexemes_of (place_at text (from + n)) (from + n) (parts (stretch text (from + n) to)) in
     let tok : Tok text (from + n) to more = found_tok reading.Algorithm text (from + n) to none in
     let marks = sym (tok_offences true text (from + n) to more tok) ∙ nothing_wrong reading.Algorithm text (from + n) to none in
-    let w : stretch bytes 0 n ≡ b.word =
-    (let s : bytes ≡ b.word ++ drop (length b.word) bytes = begins_is bytes b.word b.stands in
-    let z : n - 0 ≡ length b.word = omega (arith, b.len) in
-    ap (λ (k : ℕ). take k bytes) z ∙ ap (take (length b.word)) s ∙ take-append_seam b.word (drop (length b.word) bytes)) in
+    let w : stretch bytes 0 n ≡ b.word = begins_so bytes n b in
     let F : ℕ → Type 0 = λ k. Tok text (from + k) to more in
     let P : Option (List ℕ) → Type 0 = λ o. IsCutAs o text from to ts in
     let t : TokAlgorithm text from to ts =

@@ -4,6 +4,7 @@ pub mod Places
 pub mod Limits
 pub mod Signs
 pub mod Words
+pub mod ReservedWords
 pub mod Lexemes
 pub mod Tokens
 pub mod Offences
@@ -11,6 +12,7 @@ pub mod AlgorithmOffences
 pub mod Cut
 pub mod Scan
 pub mod Readings
+pub mod KeptWords
 pub mod TokensSeen
 pub mod Scanning
 pub mod Feeding

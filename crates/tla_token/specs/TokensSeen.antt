@@ -9,6 +9,7 @@ use Rattle.tla_token.specs.Lexemes as lexemes
 use Rattle.tla_token.specs.Lexemes.{name, number, string, one, other, number_of, unquoted}
 use Rattle.tla_token.specs.Tokens.{Token, lexeme, stretch}
 use Rattle.tla_token.specs.Offences.{Part, sound}
+use Rattle.tla_token.specs.KeptWords.{is_kept}
 
 abbrev pub span_bytes : List ℕ → Span → List ℕ
 span_bytes bytes s = stretch bytes s.from s.to
@@ -16,6 +17,9 @@ span_bytes bytes s = stretch bytes s.from s.to
 -- a kind whose words are among these bytes
 abbrev pub kind_seen : List ℕ → Kind → lexemes.Kind
 kind_seen bytes (code.Name s) = name (span_bytes bytes s)
+kind_seen bytes (code.PluscalWord s w) = name (span_bytes bytes s)
+kind_seen bytes (code.TlaWord s w) = name (span_bytes bytes s)
+kind_seen bytes (code.Fairness s) = name (span_bytes bytes s)
 kind_seen bytes (code.Number n) = number n
 kind_seen bytes (code.BigNumber s) = number (number_of (span_bytes bytes s))
 kind_seen bytes (code.Text s) = string (unwrap_or (unquoted (span_bytes bytes s)) [])
@@ -30,8 +34,13 @@ tokens_seen v = map (token_seen v.bytes.items) v.items.items
 
 -- ---- one form for each token
 
--- a number is kept by its digits only where it doesn't fit in 128 bits, and what is between a string's quotes stands for a string
+-- which word is reserved is as its bytes say, a number is kept by its digits only where it doesn't fit in 128 bits, and what is
+-- between a string's quotes stands for a string
 abbrev pub IsCanonical : List ℕ → Kind → Type 0
+IsCanonical bytes (code.Name s) = is_kept bytes (code.Name s) ≡ true
+IsCanonical bytes (code.PluscalWord s w) = is_kept bytes (code.PluscalWord s w) ≡ true
+IsCanonical bytes (code.TlaWord s w) = is_kept bytes (code.TlaWord s w) ≡ true
+IsCanonical bytes (code.Fairness s) = is_kept bytes (code.Fairness s) ≡ true
 IsCanonical bytes (code.Number n) = n < 2 ^ 128
 IsCanonical bytes (code.BigNumber s) = 2 ^ 128 ≤ number_of (span_bytes bytes s)
 IsCanonical bytes (code.Text s) = is_some (unquoted (span_bytes bytes s)) ≡ true

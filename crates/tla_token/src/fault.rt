@@ -1,6 +1,6 @@
 //! What is wrong with a stretch of a text: the least rule that it offends, at its first place.
 
-ghost use Rattle.std.specs.Prelude.{◌≡◌, ◌+◌, ◌^◌, ◌<◌, ◌≤◌, nat_le, ◌||◌, ◌&&◌, [], ◌∷◌, length, is_some, true, Some};
+ghost use Rattle.std.specs.Prelude.{◌≡◌, ℕ, List, ◌+◌, ◌^◌, ◌<◌, ◌≤◌, nat_le, ◌||◌, ◌&&◌, [], ◌∷◌, length, is_some, true, Some};
 ghost use Rattle.tla_token.specs.declared.part.Class.TheVariants as class;
 ghost use Rattle.tla_token.specs.declared.fault.Reading as code;
 ghost use Rattle.tla_token.specs.Lexemes.{number_of, unquoted};
@@ -15,7 +15,7 @@ use crate::part::Class;
 use crate::rule::{Rule, number};
 
 /// How a stretch of a text is looked at.
-#[derive(Clone, Copy, PartialEq, Eq, Debug)]
+#[derive(Clone, Copy)]
 pub enum Reading {
     /// Outside algorithms, where it may be passed on unread.
     Unread,
@@ -46,6 +46,16 @@ fn earlier(a: (Rule, usize), b: (Rule, usize)) -> (Rule, usize)
     if n < m || (n == m && b.1 < a.1) { b } else { a }
 }
 
+/// Whether nothing is wrong with a part of this class, whatever its bytes are.
+pub fn is_sound(class: Class) -> bool
+    ensures { result ≡ true → (reading : code.Reading) (at : ℕ) (bytes : List ℕ) → part_offences_in reading at (part_of class bytes) ≡ [] }
+{
+    match class {
+        Class::Blank | Class::Block | Class::Line | Class::Name | Class::Sign(_) => true,
+        _ => false,
+    }
+}
+
 /// Takes what is wrong with one more part to the offence that counts.
 #[tactic(auto, using(crate::proofs::Faults::joined_none))]
 pub fn note(
@@ -61,6 +71,9 @@ pub fn note(
     requires text { class ≡ Class.Text → is_some (unquoted (inner bytes.now)) ≡ true }
     ensures { fault.new ≡ joined fault.old (least (part_offences_in reading at (part_of class bytes.now))) }
 {
+    if is_sound(class) {
+        return;
+    }
     if let Some(more) = part_fault(class, bytes, at, reading) {
         *fault = sooner(*fault, Some(more));
     }

@@ -4,6 +4,7 @@
 pub mod bytes;
 pub mod fault;
 pub mod feeding;
+pub mod kind;
 pub mod laws;
 pub mod part;
 pub mod place;
@@ -15,9 +16,11 @@ pub mod word;
 
 pub use fault::Reading;
 pub use feeding::{decided_at, decided_parts};
+pub use kind::kind_at;
 pub use part::{Class, Part, lexeme_at, outer_at, part_at};
 pub use place::{Place, place_of};
 pub use rule::{Refusal, Rule, Stop};
 pub use scan::{tokens, tokens_as};
 pub use sign::Sign;
 pub use token::{Kind, Span, Token, Tokens};
+pub use word::{PluscalWord, TlaWord};

@@ -1,6 +1,6 @@
 //! The part of a text that is in front: a blank, a comment, a lexeme, or a part that is wrong.
 
-ghost use Rattle.std.specs.Prelude.{◌≡◌, ℕ, ◌+◌, ◌-◌, ◌<◌, ◌≤◌, length, take, drop, slice_index, List, false, None, Some, IfSome, if◌then◌else◌, nat_eq, ◌&&◌};
+ghost use Rattle.std.specs.Prelude.{◌≡◌, ℕ, ◌+◌, ◌-◌, ◌<◌, ◌≤◌, ◌∷◌, length, take, drop, slice_index, List, false, None, Some, IfSome, if◌then◌else◌, nat_eq, ◌&&◌};
 ghost use Rattle.std.specs.List.{list_any};
 ghost use Rattle.tla_token.specs.Limits.{past_text};
 ghost use Rattle.tla_token.specs.Lexemes.{is_word, is_letter};
@@ -16,7 +16,7 @@ use crate::bytes::{
 use crate::sign::{Sign, sign_at, sign_of, spelling_len};
 
 /// What a part of a text is.
-#[derive(Clone, Copy, PartialEq, Eq, Debug)]
+#[derive(Clone, Copy)]
 pub enum Class {
     /// A space, a tab, LF or CR.
     Blank,
@@ -45,7 +45,7 @@ pub enum Class {
 }
 
 /// A part of a text.
-#[derive(Clone, Copy, PartialEq, Eq, Debug)]
+#[derive(Clone, Copy)]
 pub struct Part {
     /// What it is.
     pub class: Class,
@@ -223,9 +223,102 @@ fn worded(word: &[u8]) -> Part
     }
 }
 
+// The sign that a byte is in front of whatever text.
+#[tactic(auto, using(crate::proofs::LoneSigns::is_semicolon, crate::proofs::LoneSigns::is_comma, crate::proofs::LoneSigns::is_open_round, crate::proofs::LoneSigns::is_close_round, crate::proofs::LoneSigns::is_close_square, crate::proofs::LoneSigns::is_open_curly, crate::proofs::LoneSigns::is_close_curly, crate::proofs::LoneSigns::is_plus, crate::proofs::LoneSigns::is_times, crate::proofs::LoneSigns::is_percent, crate::proofs::LoneSigns::is_not, crate::proofs::LoneSigns::is_bang, crate::proofs::LoneSigns::is_not_equal))]
+fn lone_sign(first: u8) -> Option<Sign>
+    ensures { IfSome result (λ s. (rest : List ℕ) → mark_front (first ∷ rest) ≡ record { class = Class.Sign s; len = 1 }) }
+{
+    match first {
+        b';' => Some(Sign::Semicolon),
+        b',' => Some(Sign::Comma),
+        b'(' => Some(Sign::OpenRound),
+        b')' => Some(Sign::CloseRound),
+        b']' => Some(Sign::CloseSquare),
+        b'{' => Some(Sign::OpenCurly),
+        b'}' => Some(Sign::CloseCurly),
+        b'+' => Some(Sign::Plus),
+        b'*' => Some(Sign::Times),
+        b'%' => Some(Sign::Percent),
+        b'~' => Some(Sign::Not),
+        b'!' => Some(Sign::Bang),
+        b'#' => Some(Sign::NotEqual),
+        _ => None,
+    }
+}
+
+// A part that is a sign.
+fn sign_part(sign: Sign, len: usize) -> Part
+    ensures { result ≡ record { class = Class.Sign sign; len = len } }
+{
+    Part {
+        class: Class::Sign(sign),
+        len,
+    }
+}
+
+// The sign that is told by two bytes, whatever comes after them.
+#[tactic(auto, using(crate::proofs::LoneSigns::before_assign, crate::proofs::LoneSigns::before_colon, crate::proofs::LoneSigns::before_defined, crate::proofs::LoneSigns::before_implies, crate::proofs::LoneSigns::before_equal, crate::proofs::LoneSigns::before_range, crate::proofs::LoneSigns::before_dot, crate::proofs::LoneSigns::before_box, crate::proofs::LoneSigns::before_open_square, crate::proofs::LoneSigns::before_arrow, crate::proofs::LoneSigns::before_minus))]
+fn near_sign(first: u8, second: u8) -> Option<Part>
+    ensures { IfSome result (λ p. (rest : List ℕ) → mark_front (first ∷ second ∷ rest) ≡ p) }
+{
+    match first {
+        b':' => match second {
+            b'=' => Some(sign_part(Sign::Assign, 2)),
+            b'>' => None,
+            _ => Some(sign_part(Sign::Colon, 1)),
+        },
+        b'=' => match second {
+            b'=' => Some(sign_part(Sign::Defined, 2)),
+            b'>' => Some(sign_part(Sign::Implies, 2)),
+            b'<' => None,
+            _ => Some(sign_part(Sign::Equal, 1)),
+        },
+        b'.' => match second {
+            b'.' => Some(sign_part(Sign::Range, 2)),
+            _ => Some(sign_part(Sign::Dot, 1)),
+        },
+        b'[' => match second {
+            b']' => Some(sign_part(Sign::Box, 2)),
+            _ => Some(sign_part(Sign::OpenSquare, 1)),
+        },
+        b'-' => match second {
+            b'>' => Some(sign_part(Sign::Arrow, 2)),
+            _ => Some(sign_part(Sign::Minus, 1)),
+        },
+        _ => None,
+    }
+}
+
 // The sign in front that is no word, or one byte.
-#[tactic(auto, using(crate::proofs::Fronts::mark_sign, crate::proofs::Fronts::mark_other, crate::proofs::Fronts::mark_stray))]
+#[tactic(auto, using(crate::proofs::LoneSigns::lone))]
 fn mark_at(text: &[u8]) -> Part
+    requires { 0 < length text.now }
+    ensures { result ≡ mark_front text.now }
+{
+    match lone_sign(text[0]) {
+        Some(sign) => sign_part(sign, 1),
+        None => further_mark(text),
+    }
+}
+
+// The same where one byte doesn't tell it.
+#[tactic(auto, using(crate::proofs::LoneSigns::near))]
+fn further_mark(text: &[u8]) -> Part
+    requires { 0 < length text.now }
+    ensures { result ≡ mark_front text.now }
+{
+    if text.len() < 2 {
+        return longest_mark(text);
+    }
+    match near_sign(text[0], text[1]) {
+        Some(part) => part,
+        None => longest_mark(text),
+    }
+}
+
+// The longest sign in front that is no word, or one byte.
+#[tactic(auto, using(crate::proofs::Fronts::mark_sign, crate::proofs::Fronts::mark_other, crate::proofs::Fronts::mark_stray))]
+fn longest_mark(text: &[u8]) -> Part
     requires { 0 < length text.now }
     ensures { result ≡ mark_front text.now }
 {

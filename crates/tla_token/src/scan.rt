@@ -14,14 +14,15 @@ ghost use Rattle.tla_token.specs.Scanning.{token_at, lexemes_of, Stands, GoesOn}
 
 use crate::bytes::blank_len;
 use crate::fault::{Reading, note, part_fault, sooner};
+use crate::kind::kind_at;
 use crate::part::{Class, Part, part_at};
 use crate::place::{Place, place_after, place_of};
 use crate::rule::{Refusal, Rule, Stop};
-use crate::token::{Kind, Span, Token, Tokens, kind_at};
+use crate::token::{Kind, Span, Token, Tokens};
 use std::alloc::{AllocError, Global};
 
 /// Where a scanner is in a stretch, and what it knows.
-#[derive(Clone, Copy, PartialEq, Eq, Debug)]
+#[derive(Clone, Copy)]
 pub struct Scan {
     /// How many bytes of the stretch are behind it.
     pub at: usize,

@@ -1,6 +1,6 @@
 //! Signs: what the grammar sees of operators and punctuation, whichever way they are spelled.
 
-ghost use Rattle.std.specs.Prelude.{◌≡◌, ◌<◌, length, take, drop, find, map, option_map, nat_eq, slice_index, false};
+ghost use Rattle.std.specs.Prelude.{◌≡◌, ◌&&◌, ◌<◌, length, take, drop, find, map, option_map, nat_eq, slice_index, false};
 ghost use Rattle.std.specs.List.{filter, list_any, starts_with};
 ghost use Rattle.tla_token.specs.Signs.{spellings, all_signs, is_among as is_among_of};
 ghost use Rattle.tla_token.specs.Lexemes.{is_letter};
@@ -11,7 +11,7 @@ use crate::bytes::{begins_pair, is_letter};
 use crate::word::is_among;
 
 /// A sign of TLA+ or PlusCal. The first spelling is the one that is written.
-#[derive(Clone, Copy, PartialEq, Eq, Debug)]
+#[derive(Clone, Copy)]
 pub enum Sign {
     /// `|->`
     MapsTo,
@@ -129,6 +129,43 @@ static BACKSLASH_SIGNS: [Sign; 16] = [
     Sign::Exists,
 ];
 
+// The signs that are spelled by a backslash and so many bytes in all.
+fn backslash_signs(len: usize) -> &'static [Sign]
+    ensures { result.now ≡ filter (λ s. list_any (λ w. begins_with 92 w && nat_eq (length w) len) (spellings s)) all_signs }
+{
+    match len {
+        1 => &[Sign::Without],
+        2 => &[Sign::Or, Sign::Concat, Sign::ForAll, Sign::Exists],
+        3 => &[Sign::In],
+        4 => &[
+            Sign::Or,
+            Sign::AtMost,
+            Sign::AtLeast,
+            Sign::Not,
+            Sign::Cup,
+            Sign::Cap,
+            Sign::Divide,
+        ],
+        5 => &[Sign::And, Sign::Not, Sign::Concat],
+        6 => &[Sign::Equivalent, Sign::NotIn, Sign::Cup],
+        9 => &[Sign::SubsetEq],
+        10 => &[Sign::Cap],
+        _ => &[],
+    }
+}
+
+// The signs that may be spelled so.
+fn signs_like(word: &[u8]) -> &'static [Sign]
+    requires { 0 < length word.now }
+    ensures { find (λ s. is_among_of (spellings s) word.now) result.now ≡ sign_of word.now }
+{
+    if word[0] == b'\\' {
+        backslash_signs(word.len())
+    } else {
+        signs_from(word[0])
+    }
+}
+
 // The signs that are spelled from this byte on in some way. Of those that are no words and begin alike, the longest is first.
 fn signs_from(first: u8) -> &'static [Sign]
     ensures { result.now ≡ filter (λ s. list_any (begins_with first) (spellings s)) all_signs }
@@ -217,12 +254,23 @@ fn spellings(sign: Sign) -> &'static [&'static str]
     }
 }
 
+// Whether these bytes are in front.
+fn is_front(word: &[u8], text: &[u8]) -> bool
+    ensures { result ≡ starts_with nat_eq text.now word.now }
+{
+    match word {
+        [a] => !text.is_empty() && text[0] == *a,
+        [a, b] => begins_pair(text, *a, *b),
+        _ => text.starts_with(word),
+    }
+}
+
 /// How long the first spelling of a sign is that is in front.
 pub fn spelling_len(sign: Sign, text: &[u8]) -> Option<usize>
     ensures { result ≡ option_map length (spelling_at (spellings sign) text.now) }
 {
     for word in spellings(sign) {
-        if text.starts_with(word.as_bytes()) {
+        if is_front(word.as_bytes(), text) {
             return Some(word.len());
         }
     }
@@ -307,6 +355,6 @@ pub fn sign_of(word: &[u8]) -> Option<Sign>
     if word.is_empty() {
         None
     } else {
-        first_spelled(signs_from(word[0]), word)
+        first_spelled(signs_like(word), word)
     }
 }

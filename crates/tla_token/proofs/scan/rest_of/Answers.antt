@@ -1,12 +1,14 @@
-use Rattle.std.proofs.Common.{◌≡◌, ℕ, List, ◌-◌, ◌++◌, map, refl, sym, ap, subst, ◌∙◌, None, Ok}
+use Rattle.std.proofs.Common.{◌≡◌, ℕ, List, ◌-◌, ◌++◌, map, refl, sym, ap, subst, ◌∙◌, None, Ok, true}
 use Rattle.tla_token.specs.declared.rule.Refusal.{Refusal}
 use Rattle.tla_token.specs.Places.{place_at}
 use Rattle.tla_token.specs.Tokens.{stretch}
 use Rattle.tla_token.specs.Cut.{parts}
 use Rattle.tla_token.specs.Readings.{first_offence}
+use Rattle.tla_token.specs.KeptWords.{are_kept}
 use Rattle.tla_token.specs.TokensSeen.{token_seen}
 use Rattle.tla_token.specs.Scanning.{lexemes_of}
 use Rattle.tla_token.proofs.Scans.{begins_there, rest_ended, refused_so, same_refused}
+use Rattle.tla_token.proofs.KeptLemmas.{all_kept}
 use Rattle.tla_token.proofs.scan.rest_of.Goals as goal
 
 pub parts-init : goal.parts-init
@@ -55,3 +57,9 @@ returns-clause-end c =
     (map (token_seen bytes) c.parts.items.items) (map (token_seen bytes) c.next.new.items.items) (map (token_seen bytes) c.args.items.items) c.in_ok-next.field-0
     c.requires.begins c.requires.starts refl refl c.place_of.ensures.value refl c.parts.invariant.so_far c.in_ok-next.ensures.goes c.if-branch.false (c.in_ok-next.ensures.end (ap Ok c.if-branch.false)) in
     x.2
+
+pub invariant_of-result : goal.invariant_of-result
+invariant_of-result c =
+    let bytes = stretch c.args.text.now c.args.from c.args.to in
+    let items = c.next.new.items.items in
+    record { kept = subst (λ (bs : List ℕ). are_kept bs items ≡ true) (sym c.in_ok-from_slice.ensures.items) (all_kept bytes items c.in_ok-next.ensures.canonical) }

@@ -1,0 +1,176 @@
+-- Which reserved word of PlusCal is next, by the word that its token keeps.
+use Rattle.std.proofs.Common.{◌≡◌, ℕ, Bool, true, false, List, codes, Some, if◌then◌else◌, Decides, refl, sym, ap, ◌∙◌}
+use Rattle.std.specs.Str.{bytes_eq}
+use Rattle.std.proofs.lemmas.Bool.{false_from_ne_true}
+use Rattle.std.proofs.lemmas.Option.{same_Some}
+use Rattle.std.proofs.lemmas.Slice.Eq.{bytes_eq-Decides}
+use Rattle.tla_token.specs.declared.word.PluscalWord.{PluscalWord}
+use Rattle.tla_token.specs.declared.word.PluscalWord.TheVariants as pluscal
+use Rattle.tla_token.specs.declared.word.TlaWord.{TlaWord}
+use Rattle.tla_token.specs.declared.word.TlaWord.TheVariants as tla
+use Rattle.tla_token.specs.declared.sign.Sign.{Sign}
+use Rattle.tla_token.specs.declared.sign.Sign.TheVariants as sign
+use Rattle.tla_token.specs.declared.token.Kind.{Kind}
+use Rattle.tla_token.specs.declared.token.Kind.TheVariants as code
+use Rattle.tla_token.specs.declared.token.Span.{Span}
+use Rattle.tla_token.specs.Lexemes as lexeme
+use Rattle.tla_token.specs.ReservedWords.{pluscal_spelling, tla_spelling, pluscal_word_of}
+use Rattle.tla_token.specs.KeptWords.{is_kept}
+use Rattle.tla_token.specs.TokensSeen.{kind_seen, span_bytes}
+use Rattle.tla_token.proofs.KeptLemmas.{kept_pluscal, kept_tla}
+use Rattle.tla_tree.specs.Tree.{Word}
+use Rattle.tla_tree.specs.TokenViews.{kind_of, sign_kind, word_kind}
+use Rattle.tla_tree.specs.Lexical as tk
+use Rattle.expr_nodes.proofs.ViewLemmas.{name_view, reserved_view, fairness_view}
+use Rattle.syntax_reading.specs.TokenReaders.{is_reserved}
+
+-- ---- words with one spelling are one
+
+spells : (r : PluscalWord) → pluscal_word_of (pluscal_spelling r) ≡ Some r
+spells pluscal.Algorithm = refl
+spells pluscal.Assert = refl
+spells pluscal.Await = refl
+spells pluscal.Begin = refl
+spells pluscal.Call = refl
+spells pluscal.Define = refl
+spells pluscal.Do = refl
+spells pluscal.Either = refl
+spells pluscal.Else = refl
+spells pluscal.Elsif = refl
+spells pluscal.End = refl
+spells pluscal.Fair = refl
+spells pluscal.Goto = refl
+spells pluscal.If = refl
+spells pluscal.Macro = refl
+spells pluscal.Or = refl
+spells pluscal.Print = refl
+spells pluscal.Procedure = refl
+spells pluscal.Process = refl
+spells pluscal.Return = refl
+spells pluscal.Skip = refl
+spells pluscal.Then = refl
+spells pluscal.Variable = refl
+spells pluscal.Variables = refl
+spells pluscal.When = refl
+spells pluscal.While = refl
+spells pluscal.With = refl
+
+same_word : (r s : PluscalWord) → pluscal_spelling r ≡ pluscal_spelling s → r ≡ s
+same_word r s e = same_Some r s (sym (spells r) ∙ ap pluscal_word_of e ∙ spells s)
+
+compared : (k : Bool) (r s : PluscalWord) → Decides k (s ≡ r) → k ≡ bytes_eq (pluscal_spelling r) (pluscal_spelling s)
+compared true r s d = sym ((bytes_eq-Decides (pluscal_spelling r) (pluscal_spelling s)).1 (ap pluscal_spelling (sym (d.0 refl))))
+compared false r s d = sym (false_from_ne_true (bytes_eq (pluscal_spelling r) (pluscal_spelling s)) (λ t. absurd (no (d.1 (sym (same_word r s ((bytes_eq-Decides (pluscal_spelling r) (pluscal_spelling s)).0 t)))))))
+  where
+    no : false ≡ true → ⊥
+    no e = cc
+
+-- ---- a token
+
+pub reserved_next : (bytes : List ℕ) (s : Span) (r t : PluscalWord) (k : Bool) → is_kept bytes (code.PluscalWord s t) ≡ true → Decides k (t ≡ r) → k ≡ is_reserved (pluscal_spelling r) (kind_of (kind_seen bytes (code.PluscalWord s t)))
+reserved_next bytes s r t k h d =
+    compared k r t d
+    ∙ ap (bytes_eq (pluscal_spelling r)) (sym (kept_pluscal bytes s t h))
+    ∙ ap (is_reserved (pluscal_spelling r)) (reserved_view bytes s t h)
+
+sign_next : (w : Word) (s : Sign) → false ≡ is_reserved w (sign_kind s)
+sign_next w sign.MapsTo = refl
+sign_next w sign.Equivalent = refl
+sign_next w sign.Assign = refl
+sign_next w sign.Parallel = refl
+sign_next w sign.Pair = refl
+sign_next w sign.Override = refl
+sign_next w sign.Range = refl
+sign_next w sign.And = refl
+sign_next w sign.Or = refl
+sign_next w sign.Implies = refl
+sign_next w sign.Arrow = refl
+sign_next w sign.Defined = refl
+sign_next w sign.OpenTuple = refl
+sign_next w sign.CloseTuple = refl
+sign_next w sign.AtMost = refl
+sign_next w sign.AtLeast = refl
+sign_next w sign.NotEqual = refl
+sign_next w sign.Box = refl
+sign_next w sign.Colon = refl
+sign_next w sign.Semicolon = refl
+sign_next w sign.Comma = refl
+sign_next w sign.Dot = refl
+sign_next w sign.OpenRound = refl
+sign_next w sign.CloseRound = refl
+sign_next w sign.OpenSquare = refl
+sign_next w sign.CloseSquare = refl
+sign_next w sign.OpenCurly = refl
+sign_next w sign.CloseCurly = refl
+sign_next w sign.Equal = refl
+sign_next w sign.Less = refl
+sign_next w sign.Greater = refl
+sign_next w sign.Plus = refl
+sign_next w sign.Minus = refl
+sign_next w sign.Times = refl
+sign_next w sign.Percent = refl
+sign_next w sign.Not = refl
+sign_next w sign.Bang = refl
+sign_next w sign.Without = refl
+sign_next w sign.In = refl
+sign_next w sign.NotIn = refl
+sign_next w sign.SubsetEq = refl
+sign_next w sign.Cup = refl
+sign_next w sign.Cap = refl
+sign_next w sign.Divide = refl
+sign_next w sign.Concat = refl
+sign_next w sign.ForAll = refl
+sign_next w sign.Exists = refl
+
+tla_next : (w : Word) (r : TlaWord) → false ≡ is_reserved w (word_kind (tla_spelling r))
+tla_next w tla.Assume = refl
+tla_next w tla.Assumption = refl
+tla_next w tla.Axiom = refl
+tla_next w tla.Boolean = refl
+tla_next w tla.Case = refl
+tla_next w tla.Choose = refl
+tla_next w tla.Constant = refl
+tla_next w tla.Constants = refl
+tla_next w tla.Domain = refl
+tla_next w tla.Else = refl
+tla_next w tla.Enabled = refl
+tla_next w tla.Except = refl
+tla_next w tla.Extends = refl
+tla_next w tla.False = refl
+tla_next w tla.If = refl
+tla_next w tla.In = refl
+tla_next w tla.Instance = refl
+tla_next w tla.Lambda = refl
+tla_next w tla.Let = refl
+tla_next w tla.Local = refl
+tla_next w tla.Module = refl
+tla_next w tla.Other = refl
+tla_next w tla.Recursive = refl
+tla_next w tla.String = refl
+tla_next w tla.Subset = refl
+tla_next w tla.Then = refl
+tla_next w tla.Theorem = refl
+tla_next w tla.True = refl
+tla_next w tla.Unchanged = refl
+tla_next w tla.Union = refl
+tla_next w tla.Variable = refl
+tla_next w tla.Variables = refl
+tla_next w tla.With = refl
+
+other_next : (w v : Word) → false ≡ is_reserved w (kind_of (lexeme.other v))
+other_next w v = by (bytes_eq v (codes "'"))
+  where
+    by : (b : Bool) → false ≡ is_reserved w (if b then tk.mark tk.prime else tk.other v)
+    by true = refl
+    by false = refl
+
+pub unreserved_next : (bytes : List ℕ) (k : Kind) (r : PluscalWord) → ((s : Span) (t : PluscalWord) → k ≡ code.PluscalWord s t → ⊥) → is_kept bytes k ≡ true → false ≡ is_reserved (pluscal_spelling r) (kind_of (kind_seen bytes k))
+unreserved_next bytes (code.PluscalWord s t) r n h = absurd (n s t refl)
+unreserved_next bytes (code.Name s) r n h = ap (is_reserved (pluscal_spelling r)) (name_view bytes s h)
+unreserved_next bytes (code.TlaWord s t) r n h = tla_next (pluscal_spelling r) t ∙ ap (λ (w : Word). is_reserved (pluscal_spelling r) (word_kind w)) (sym (kept_tla bytes s t h))
+unreserved_next bytes (code.Fairness s) r n h = ap (is_reserved (pluscal_spelling r)) (fairness_view bytes s h)
+unreserved_next bytes (code.Number m) r n h = refl
+unreserved_next bytes (code.BigNumber s) r n h = refl
+unreserved_next bytes (code.Text s) r n h = refl
+unreserved_next bytes (code.Sign s) r n h = sign_next (pluscal_spelling r) s
+unreserved_next bytes (code.Other s) r n h = other_next (pluscal_spelling r) (span_bytes bytes s)
