@@ -1,5 +1,6 @@
 //! What a part asks, by its words: the call that is made on its text.
 
+use crate::algorithms::put_algorithm;
 use crate::expressions::{Told, put_expression, put_unquoted};
 use crate::made::put_made;
 use crate::modules::{put_parts, put_translated};
@@ -30,6 +31,7 @@ pub fn put_answer(
         "expression" => put_expression(alloc, told, text, number(rest), Told::Written),
         "length" => put_expression(alloc, told, text, number(rest), Told::Length),
         "operand" => put_expression(alloc, told, text, number(rest), Told::Operand),
+        "algorithm" => put_algorithm(alloc, told, text, rest == "c"),
         "words" => put_command(alloc, told, text),
         "parts" => put_parts(alloc, told, text),
         "translated" => put_translated(alloc, told, text, rest),

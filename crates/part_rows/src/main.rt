@@ -1,6 +1,7 @@
 //! `part_rows`: reads rows of texts from `rows.txt`, and prints what the calls that no command reaches answer to each.
 #![tactic(auto)]
 
+mod algorithms;
 mod answers;
 mod expressions;
 mod formulas;
