@@ -79,7 +79,6 @@ fn is_left_out_sign(tokens: &Tokens, sign: Sign, next: usize) -> bool
 }
 
 // Whether a token is left out, before the token of this number.
-#[tactic(auto, using(crate::proofs::LeftOutWords::name_stands, crate::proofs::LeftOutWords::pluscal_stands, crate::proofs::LeftOutWords::tla_stands, crate::proofs::LeftOutWords::fairness_left_out))]
 fn is_left_out(tokens: &Tokens, token: Token, next: usize) -> bool
     requires { is_kept tokens.now.bytes.items token.kind ≡ true }
     ensures { result ≡ is_left_out (kind_seen tokens.now.bytes.items token.kind) (map (token_seen tokens.now.bytes.items) (drop next tokens.now.items.items)) }

@@ -1,7 +1,9 @@
 -- Which reserved word of PlusCal is next, by the word that its token keeps.
-use Rattle.std.proofs.Common.{◌≡◌, ℕ, Bool, true, false, List, codes, Some, if◌then◌else◌, Decides, refl, sym, ap, ◌∙◌}
+use Rattle.std.proofs.Common.{◌≡◌, ℕ, ◌<◌, ◌≤◌, Bool, true, false, List, codes, get_or, length, Some, if◌then◌else◌, refl, sym, ap, ◌∙◌}
+use Rattle.std.specs.Bool.{Decides}
 use Rattle.std.specs.Str.{bytes_eq}
 use Rattle.std.proofs.lemmas.Bool.{false_from_ne_true}
+use Rattle.std.proofs.lemmas.List.{drop_more, drop_all}
 use Rattle.std.proofs.lemmas.Option.{same_Some}
 use Rattle.std.proofs.lemmas.Slice.Eq.{bytes_eq-Decides}
 use Rattle.tla_token.specs.declared.word.PluscalWord.{PluscalWord}
@@ -13,6 +15,8 @@ use Rattle.tla_token.specs.declared.sign.Sign.TheVariants as sign
 use Rattle.tla_token.specs.declared.token.Kind.{Kind}
 use Rattle.tla_token.specs.declared.token.Kind.TheVariants as code
 use Rattle.tla_token.specs.declared.token.Span.{Span}
+use Rattle.tla_token.specs.declared.token.Token as code_token
+use Rattle.tla_token.specs.declared.token.Tokens.{Tokens}
 use Rattle.tla_token.specs.Lexemes as lexeme
 use Rattle.tla_token.specs.ReservedWords.{pluscal_spelling, tla_spelling, pluscal_word_of}
 use Rattle.tla_token.specs.KeptWords.{is_kept}
@@ -21,8 +25,10 @@ use Rattle.tla_token.proofs.KeptLemmas.{kept_pluscal, kept_tla}
 use Rattle.tla_tree.specs.Tree.{Word}
 use Rattle.tla_tree.specs.TokenViews.{kind_of, sign_kind, word_kind}
 use Rattle.tla_tree.specs.Lexical as tk
+use Rattle.expr_nodes.specs.ReadIn.{seen}
+use Rattle.expr_nodes.specs.Ahead.{ahead}
 use Rattle.expr_nodes.proofs.ViewLemmas.{name_view, reserved_view, fairness_view}
-use Rattle.syntax_reading.specs.TokenReaders.{is_reserved}
+use Rattle.syntax_reading.specs.TokenReaders.{first, is_reserved}
 
 -- ---- words with one spelling are one
 
@@ -174,3 +180,15 @@ unreserved_next bytes (code.BigNumber s) r n h = refl
 unreserved_next bytes (code.Text s) r n h = refl
 unreserved_next bytes (code.Sign s) r n h = sign_next (pluscal_spelling r) s
 unreserved_next bytes (code.Other s) r n h = other_next (pluscal_spelling r) (span_bytes bytes s)
+
+-- ---- the next token
+
+pub word_there : (v : Tokens) (at : ℕ) (t : code_token.Token) (w : Word) (k : Bool) → t ≡ get_or v.items.items at t → at < length v.items.items → k ≡ is_reserved w (kind_of (kind_seen v.bytes.items t.kind))
+    → k ≡ is_reserved w (first (ahead v at)).kind
+word_there v at t w k e l h =
+    h
+    ∙ ap (λ (u : code_token.Token). is_reserved w (kind_of (kind_seen v.bytes.items u.kind))) e
+    ∙ ap (λ (us : List code_token.Token). is_reserved w (first (seen v.bytes.items us)).kind) (sym (drop_more v.items.items at t l))
+
+pub no_word_there : (v : Tokens) (at : ℕ) (w : Word) → length v.items.items ≤ at → false ≡ is_reserved w (first (ahead v at)).kind
+no_word_there v at w l = ap (λ (us : List code_token.Token). is_reserved w (first (seen v.bytes.items us)).kind) (sym (drop_all at v.items.items l))

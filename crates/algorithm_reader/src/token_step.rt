@@ -90,7 +90,7 @@ pub fn past_mark(tokens: &Tokens, at: usize, mark: Mark) -> Result<(Place, usize
 }
 
 /// Whether this reserved word of PlusCal is next.
-#[tactic(auto, using(tla_token::proofs::KeptLemmas::kept_there))]
+#[tactic(auto, using(tla_token::proofs::KeptLemmas::kept_there, crate::proofs::WordsNext::word_there, crate::proofs::WordsNext::no_word_there))]
 pub fn is_next_word(tokens: &Tokens, at: usize, word: PluscalWord) -> bool
     requires { at ≤ length tokens.now.items.items }
     ensures { result ≡ is_reserved (pluscal_spelling word) (first (ahead tokens.now at)).kind }

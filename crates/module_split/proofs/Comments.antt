@@ -1,17 +1,12 @@
 -- What is within the comments of a file in memory.
-use Rattle.std.proofs.Common.{◌≡◌, ℕ, zero, suc, ◌+◌, ◌-◌, ◌<◌, ◌≤◌, Bool, true, false, List, [], ◌∷◌, ◌++◌, length, get_or, take, drop, Option, Some, None, refl, sym, ap, ◌∙◌, arith, append_assoc, length-drop, map, ◌&&◌}
-use Rattle.std.specs.Option.{option_map}
+use Rattle.std.proofs.Common.{◌≡◌, ℕ, zero, suc, ◌+◌, ◌-◌, ◌<◌, ◌≤◌, Bool, true, false, List, [], ◌∷◌, ◌++◌, length, get_or, take, drop, Option, Some, None, refl, sym, ap, ◌∙◌, arith, length-drop}
 use Rattle.std.specs.Prelude.{is_some, slice_get, find}
 use Rattle.std.specs.List.{position_or_len}
 use Rattle.std.proofs.lemmas.Option.{same_Some}
-use Rattle.std.proofs.lemmas.List.{map-append, length-take-le, drop-take, drop_all}
-use Rattle.std.proofs.lemmas.List.Folds.{find_at, list_all-append}
+use Rattle.std.proofs.lemmas.List.{length-take-le, drop-take, drop_all}
+use Rattle.std.proofs.lemmas.List.Folds.{find_at}
 use Rattle.tla_token.specs.declared.part.Class.TheVariants as class
 use Rattle.tla_token.specs.declared.token.Span.{Span}
-use Rattle.tla_token.specs.declared.token.Token as code
-use Rattle.tla_token.specs.KeptWords.{is_kept, are_kept}
-use Rattle.tla_token.specs.TokensSeen.{token_seen}
-use Rattle.tla_token.specs.Tokens as text
 use Rattle.tla_token.specs.Tokens.{stretch}
 use Rattle.tla_token.proofs.Scans.{drop_more}
 use Rattle.module_split.specs.declared.stand.Shape.{Shape}
@@ -22,9 +17,8 @@ use Rattle.module_tree.specs.Walk.{Located}
 use Rattle.module_tree.specs.AlgorithmText.{AlgorithmText, algorithm_at, algorithm_of}
 use Rattle.module_tree.specs.Beginnings.{begins_algorithm, all_at}
 use Rattle.module_tree.specs.FileParts.{within, first_of, holds_algorithm, beginnings_in, beginnings}
-use Rattle.module_tree.specs.FileUnits.{with_token}
 use Rattle.module_split.specs.StandsSeen.{segment_of, segment_seen, located_seen, stands_seen, IsSolid}
-use Rattle.module_split.specs.SplitSeen.{IsInnerSpan, IsInner, plain_token, plain_tokens}
+use Rattle.module_split.specs.SplitSeen.{IsInnerSpan, IsInner}
 use Rattle.module_split.proofs.StandSteps.{cons_at}
 
 block_within : (x : Text) (d : Stand) → d.shape ≡ shape.Part class.Block → within (segment_seen x d) ≡ take (length (drop 2 (stretch x d.at (d.at + d.len))) - 2) (drop 2 (stretch x d.at (d.at + d.len)))
@@ -101,30 +95,6 @@ begun_more x ds i e l = ap (λ (u : List Stand). beginnings (stands_seen x u)) (
 
 pub begun_done : (x : Text) (ds : List Stand) (i : ℕ) → length ds ≤ i → beginnings (stands_seen x (drop i ds)) ≡ []
 begun_done x ds i l = ap (λ (u : List Stand). beginnings (stands_seen x u)) (drop_all i ds l)
-
--- ---- tokens
-
-pub plain_more : (x : Text) (ds : List Stand) (i : ℕ) (e : Stand) → i < length ds → with_token (plain_token (located_seen x (get_or ds i e))) (plain_tokens (stands_seen x (drop (i + 1) ds))) ≡ plain_tokens (stands_seen x (drop i ds))
-plain_more x ds i e l = ap (λ (u : List Stand). plain_tokens (stands_seen x u)) (sym (cons_at ds i e l))
-
-pub plain_done : (x : Text) (ds : List Stand) (i : ℕ) → length ds ≤ i → plain_tokens (stands_seen x (drop i ds)) ≡ []
-plain_done x ds i l = ap (λ (u : List Stand). plain_tokens (stands_seen x u)) (drop_all i ds l)
-
-pub plain_pushed : (x : Text) (items after : List code.Token) (t : code.Token) (more : List text.Token) (o : Option text.Token) → after ≡ items ++ t ∷ [] → option_map (token_seen x) (Some t) ≡ o
-    → map (token_seen x) after ++ more ≡ map (token_seen x) items ++ with_token o more
-plain_pushed x items after t more o e h =
-    ap (λ (ts : List code.Token). map (token_seen x) ts ++ more) e
-    ∙ ap (λ (ts : List text.Token). ts ++ more) (map-append (token_seen x) items (t ∷ []))
-    ∙ append_assoc (map (token_seen x) items) (token_seen x t ∷ []) more
-    ∙ ap (λ (o : Option text.Token). map (token_seen x) items ++ with_token o more) h
-
-pub plain_left : (x : Text) (items : List text.Token) (r : Option code.Token) (more : List text.Token) (o : Option text.Token) → r ≡ None → option_map (token_seen x) r ≡ o → items ++ more ≡ items ++ with_token o more
-plain_left x items r more o e h = ap (λ (o : Option text.Token). items ++ with_token o more) (ap (option_map (token_seen x)) (sym e) ∙ h)
-
--- words are kept as their bytes say with one token more
-pub kept_pushed : (x : Text) (items after : List code.Token) (t : code.Token) → after ≡ items ++ t ∷ [] → is_kept x t.kind ≡ true → are_kept x items ≡ true → are_kept x after ≡ true
-kept_pushed x items after t e h k =
-    ap (are_kept x) e ∙ list_all-append (λ (u : code.Token). is_kept x u.kind) items (t ∷ []) ∙ (λ i. k i && (h i && true))
 
 -- what stands past the end of a list of segments, as code sees it
 abbrev pub no_stand : Stand

@@ -212,7 +212,8 @@ fn inner_fault(class: Class, bytes: &[u8], at: usize) -> Option<(Rule, usize)>
     ensures { result ≡ least (filter is_splitting (part_offences true at (part_of class bytes.now))) }
 {
     match class {
-        Class::Blank | Class::Block | Class::Line | Class::Name | Class::Sign(_) | Class::Number => None,
+        Class::Blank | Class::Block | Class::Line | Class::Name | Class::Sign(_) | Class::Number =>
+            None,
         _ => part_fault(class, bytes, at, Reading::Algorithm),
     }
 }

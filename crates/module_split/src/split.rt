@@ -32,8 +32,7 @@ use crate::walk::walk;
 use module_tree::Parts;
 use std::alloc::{AllocError, Global};
 use tla_token::fault::sooner;
-use tla_token::kind_at;
-use tla_token::{Part, Place, Refusal, Rule, Span, Stop, Token, Tokens, place_of};
+use tla_token::{Part, Place, Refusal, Rule, Span, Stop, Token, Tokens, kind_at, place_of};
 
 // ---- the place of a translation
 
