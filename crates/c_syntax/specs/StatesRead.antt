@@ -10,7 +10,7 @@ use Rattle.tla_tree.specs.Spelling.{tree_of}
 use Rattle.pcal_tree.specs.declared.algorithm.Stmt.{Stmt}
 use Rattle.pcal_tree.specs.Algorithm.{Statements, Branches}
 use Rattle.pcal_tree.specs.Algorithm as tree
-use Rattle.pcal_tree.specs.InMemory.{stmt_at, statements_at, binds_at, past_statements, past_binds, past_branches}
+use Rattle.pcal_tree.specs.InMemory.{statements_at, binds_at, past_statements, past_binds, past_branches}
 use Rattle.pcal_tree.specs.GrammarParts.{last_place, Labels, with_labels, binds_of}
 use Rattle.pcal_tree.specs.GrammarC.{Labelled, labelled_tokens, labelled_ends_in_block, flat, statements}
 use Rattle.expr_nodes.specs.declared.cursor.Halt.{Halt}

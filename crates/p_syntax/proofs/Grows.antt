@@ -5,10 +5,9 @@ use Rattle.tla_tree.specs.Tree.{Tree}
 use Rattle.tla_tree.specs.Pool.{Keeps}
 use Rattle.tla_tree.specs.Nesting.{greatest}
 use Rattle.pcal_tree.specs.declared.algorithm.Stmt.{Stmt}
-use Rattle.pcal_tree.specs.Algorithm.{Statements, Branches}
+use Rattle.pcal_tree.specs.Algorithm.{Statements}
 use Rattle.pcal_tree.specs.Algorithm as tree
-use Rattle.pcal_tree.specs.InMemory.{past_statements, past_branches}
-use Rattle.pcal_tree.proofs.InMemoryGrown.{stmt_at-kept, statements_at-kept, binds_at-kept}
+use Rattle.pcal_tree.proofs.InMemoryGrown.{statements_at-kept, binds_at-kept}
 use Rattle.pcal_tree.specs.GrammarP.{Sequence, statements}
 use Rattle.algorithm_reader.specs.PartsRead.{StandsFor}
 use Rattle.algorithm_reader.proofs.InLists.{list_kept, in_branches-kept}
@@ -19,7 +18,6 @@ use Rattle.p_syntax.specs.declared.open.Frame.{Frame}
 use Rattle.p_syntax.specs.declared.open.Frame.TheVariants as frame
 use Rattle.p_syntax.specs.declared.open.Open.{Open}
 use Rattle.p_syntax.specs.declared.open.State.{State}
-use Rattle.algorithm_reader.specs.ListsRead.{in_list, in_branches, ListStands}
 use Rattle.p_syntax.specs.StatesRead.{nested, past_test, FrameStands, StackStands, Stands, list_at, past_list}
 
 module _ (ts us : List Tree) (k : Keeps ts us) where

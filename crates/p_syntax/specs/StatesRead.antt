@@ -9,7 +9,7 @@ use Rattle.tla_tree.specs.Nesting.{greatest}
 use Rattle.pcal_tree.specs.declared.algorithm.Stmt.{Stmt}
 use Rattle.pcal_tree.specs.Algorithm.{Statement, Statements, Branches}
 use Rattle.pcal_tree.specs.Algorithm as tree
-use Rattle.pcal_tree.specs.InMemory.{stmt_at, statements_at, binds_at, past_statements, past_binds, past_branches}
+use Rattle.pcal_tree.specs.InMemory.{statements_at, binds_at, past_statements, past_binds, past_branches}
 use Rattle.pcal_tree.specs.GrammarParts.{span, Labels, with_labels, binds_of}
 use Rattle.pcal_tree.specs.GrammarP as p
 use Rattle.pcal_tree.specs.Tests.{is_empty}
