@@ -5,10 +5,11 @@ ghost use Rattle.tla_tree.specs.Tree.{Word};
 ghost use Rattle.tla_value.specs.Outside.{Outside};
 ghost use Rattle.module_tree.specs.Module.{test, item, Module};
 ghost use Rattle.module_tree.specs.Reading.{Reads};
-ghost use Rattle.pcal_tree.specs.Algorithm.{Statements, Routine, locals, routines, Definition, Algorithm};
+ghost use Rattle.pcal_tree.specs.Algorithm.{Statements, Routine, locals, procedure_routines, routines, Definition, Algorithm};
 ghost use Rattle.pcal_tree.specs.OffencesNames.{repeated_names};
 ghost use Rattle.pcal_tree.specs.OffencesReserved.{reserved_declared};
 ghost use Rattle.pcal_tree.specs.OffencesLabels.{label_words, label_offences};
+ghost use Rattle.pcal_tree.specs.OffencesSteps.{call_effect, effects_in};
 ghost use Rattle.pcal_tree.specs.laws.Apart.{FewNames, AreNames};
 ghost use Rattle.pcal_tree.specs.Processes.{OneOf};
 ghost use Rattle.std.specs.Bool.{IsTrue};
@@ -50,7 +51,7 @@ ghost use Rattle.pcal_tree.specs.OffencesOfNames.{name_offences};
 ghost use Rattle.pcal_tree.specs.Expand.{expanded};
 ghost use Rattle.action_builder.specs.Assigned.{Names};
 ghost use Rattle.action_builder.specs.laws.Ready.{Once};
-ghost use Rattle.translation.specs.laws.StepsOnce.{none_set, SetsOnce};
+ghost use Rattle.translation.specs.laws.StepsOnce.{none_set, SetsOnce, JumpsOnce};
 ghost use Rattle.translation.specs.laws.JumpsEnd.{JumpsEnd};
 ghost use Rattle.translation.specs.laws.TypedAlgorithm.{IsTypedAlgorithm};
 ghost use Rattle.translation.specs.laws.AcceptedAlgorithm.{IsAccepted, EachAssignsOnce};
@@ -143,8 +144,10 @@ pub fn jumps_end_their_lists()
 
 /// Where no rule on labels is broken, no variable is assigned again before the next label, with macro calls written out: from each label on, and in each loop from its
 /// beginning on. It is asked that an algorithm has what its text gives, so that no `either` is empty. Of statements that can be written this is what the laws of
-/// written actions ask of a step's statements.
+/// written actions ask of a step's statements. Nor was a variable of a procedure assigned before where its `return`, or a call of itself, assigns it.
 pub fn steps_assign_once()
     ensures once { (a : Algorithm) → IsTypedAlgorithm a → label_offences a ≡ [] → (u : Routine) → OneOf u (routines a) → SetsOnce none_set (expanded (reverse a.macros) u.body) }
+    ensures jumps { (a : Algorithm) → IsTypedAlgorithm a → label_offences a ≡ [] → (u : Routine) → OneOf u (procedure_routines a)
+        → JumpsOnce (effects_in (call_effect (reverse a.macros)) (Some u.name) (declared (locals u))) none_set (expanded (reverse a.macros) u.body) }
     ensures ready { (C V : Word → Bool) (A : Names) (b : Statements) → AreWritableStatements C V b → SetsOnce A b → Once A b }
 {}
