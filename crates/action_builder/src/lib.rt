@@ -1,6 +1,7 @@
 //! The actions that are written for the steps of an algorithm.
 #![tactic(auto)]
 
+pub mod label_laws;
 pub mod laws;
 
 ghost use Rattle.std.specs.Prelude.{◌≡◌, ◌<◌, nat_lt};

@@ -71,3 +71,7 @@ pub mod PlacesAlike
 pub mod OptionsSwapped
 pub mod PartsSound
 pub mod FineFiles
+pub mod OutcomesAlike
+pub mod ItemPlaces
+pub mod ModulePlaces
+pub mod ActionFound
