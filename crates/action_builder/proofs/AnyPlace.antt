@@ -13,7 +13,7 @@ use Rattle.pcal_tree.specs.Program.{Program, Actor, index, local_index, read_at,
 use Rattle.pcal_tree.specs.Variables.{written_all, pc, stack}
 use Rattle.pcal_tree.specs.Calls.{setting, all_read, on_stack, initial_value, initial_place, variables_started, argument_settings, entered_keeping, entered, fields_read, part_settings, restored, returned, replaced, returned_and_entered}
 use Rattle.tla_value.specs.laws.Places.{SameKind, AgreeButPlaces}
-use Rattle.action_builder.proofs.Alike.{same_refl, then_same}
+use Rattle.module_tree.proofs.OutcomesAlike.{same_refl, then_same}
 
 pub kinds_moved : (p q : Place) (k j : Trouble) → SameKind k j → SameKind (trouble_at p k) (trouble_at q j)
 kinds_moved p q (fault k a) (fault j b) h = h

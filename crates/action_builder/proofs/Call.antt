@@ -23,7 +23,7 @@ use Rattle.action_builder.specs.laws.Scopes.{StandsAtPath}
 use Rattle.action_builder.specs.laws.Jumps.{RoutineStands, Initials, as_many}
 use Rattle.action_builder.proofs.Denotations.{on_both}
 use Rattle.tla_value.specs.laws.Places.{AgreeButPlaces}
-use Rattle.action_builder.proofs.Alike.{same_refl, then_same}
+use Rattle.module_tree.proofs.OutcomesAlike.{same_refl, then_same}
 use Rattle.action_builder.proofs.AnyPlace.{set_same}
 use Rattle.action_builder.proofs.Settle.{close_refl}
 use Rattle.action_builder.proofs.Jumps.{one_assigned, pc_law}

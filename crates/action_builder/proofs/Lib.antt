@@ -23,8 +23,6 @@ pub mod Prepared
 pub mod Rules
 pub mod Steps
 pub mod Label
-pub mod Alike
-pub mod ItemPlaces
 pub mod AnyPlace
 pub mod SetAgain
 pub mod Pairs
@@ -46,3 +44,14 @@ pub mod FitSettled
 pub mod FitJumps
 pub mod FitCalls
 pub mod FitOwned
+pub mod WrittenScope
+pub mod StepsOfLabels
+pub mod ActionsOfLabels
+pub mod RoutinesStand
+pub mod SpreadStarts
+pub mod WrittenStarts
+pub mod ProcSetIs
+pub mod WaysOfNext
+pub mod SampleNames
+pub mod SampleStep
+pub mod SampleAlone

@@ -24,7 +24,7 @@ use Rattle.tla_value.proofs.CanonicalForms.{set_proper}
 use Rattle.tla_value.proofs.CanonicalEval.{eval_canonical}
 use Rattle.tla_value.proofs.CanonicalTests.{EnvsMeanAlike, bind_alike, then_equal, eval_steady}
 use Rattle.action_builder.specs.laws.Grafts.{ClearItem, ClearItems, ClearBranches, StrictListed, IsListed}
-use Rattle.action_builder.proofs.Alike.{same_refl, then_same, and_same, or_same, cond_same, truth_same, members_same, each_same}
+use Rattle.module_tree.proofs.OutcomesAlike.{same_refl, then_same, and_same, or_same, cond_same, truth_same, members_same, each_same}
 use Rattle.tla_value.specs.laws.FreeNames.{Any}
 
 -- an expression with trees put in, and what goes on with its value

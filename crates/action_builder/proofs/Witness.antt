@@ -2,7 +2,6 @@
 use Rattle.std.proofs.Common.{◌≡◌, List, [], ◌∷◌, Bool, true, false, cond, ◌||◌, bytes_eq, codes, Option, Some, None, refl, sym, subst}
 use Rattle.tla_token.specs.Signs.{is_among}
 use Rattle.tla_token.specs.declared.place.Place.{Place}
-use Rattle.tla_token.proofs.Spelled.{same_bytes}
 use Rattle.tla_tree.specs.Tree.{Word, Each}
 use Rattle.tla_value.specs.Stops.{plain}
 use Rattle.tla_value.specs.Meaning.{Env, just}
@@ -20,8 +19,8 @@ use Rattle.action_builder.specs.Assigned.{Names, more}
 use Rattle.tla_value.specs.laws.Grafting.{Apart}
 use Rattle.tla_value.proofs.Graft.{apart_clear}
 use Rattle.tla_value.proofs.Owned.{owned_apart}
-use Rattle.action_builder.proofs.Equal.{eq-name}
-use Rattle.std.proofs.lemmas.Bool.{both_ways, or_right}
+use Rattle.action_builder.proofs.Equal.{other-name}
+use Rattle.std.proofs.lemmas.Bool.{or_parts, or_right}
 use Rattle.action_builder.specs.laws.Ready as Ready
 use Rattle.action_builder.specs.laws.Ready.{Settled, Paired, Scoped}
 use Rattle.action_builder.specs.laws.Scopes.{StandsAtPath, Inner, own_scope, own_path, Whole}
@@ -80,7 +79,7 @@ machine p h = record {
   origin = origins;
 }
 
-some_is : (b : Bool) (r p : Routine) → ◌≡◌ {A = Option Routine} (cond b (Some r) None) (Some p) → r ≡ p
+pub some_is : (b : Bool) (r p : Routine) → ◌≡◌ {A = Option Routine} (cond b (Some r) None) (Some p) → r ≡ p
 some_is true r p e = cc
 some_is false r p e = cc
 
@@ -100,18 +99,10 @@ within inner k = subst (RoutinesStand program actor routine initials) (sym (only
 abbrev avoided : Word → Bool
 avoided w = is_among (self ∷ variables) w
 
-neither : (a b : Bool) → (a || b) ≡ false → (a ≡ false) × (b ≡ false)
-neither true b h = cc
-neither false b h = (refl, h)
-
 own_apart : (x : Word) → avoided x ≡ false → Apart (owned self own) x
 own_apart x h =
-    let p = neither (bytes_eq self x) (is_among variables x) h in
-    owned_apart self own x (neither (bytes_eq (codes "x") x) (own x) p.1).1 (turned (bytes_eq x self) refl p.0)
-  where
-    turned : (b : Bool) → bytes_eq x self ≡ b → bytes_eq self x ≡ false → bytes_eq x self ≡ false
-    turned true q o = absurd (both_ways (bytes_eq self x) o (eq-name self x (sym (same_bytes x self q))))
-    turned false q o = q
+    let p = or_parts (bytes_eq self x) (is_among variables x) h in
+    owned_apart self own x (or_parts (bytes_eq (codes "x") x) (own x) p.1).1 (other-name self x p.0)
 
 pub prepared : IsPrepared step
 prepared = record {
@@ -121,7 +112,7 @@ prepared = record {
   clean = clear_list avoided plain (owned self own) (λ x h. apart_clear plain (owned self own) x (own_apart x h)) (settled step.jumps step.here step.exit step.statements) refl;
 }
 
-apart : (A : Names) (xs : List Word) → Each (λ w. A w ≡ false) xs → Ready.Apart A xs
+pub apart : (A : Names) (xs : List Word) → Each (λ w. A w ≡ false) xs → Ready.Apart A xs
 apart A xs h = each_name (λ w. A w ≡ false) xs h
 
 -- Max reads its arguments alone
@@ -146,19 +137,19 @@ paired = record {
     by true s t y = refl
     by false s t y = refl
 
-abbrev after_x : Names
+abbrev pub after_x : Names
 after_x = more none (codes "x" ∷ [])
 
-abbrev after_y : Names
+abbrev pub after_y : Names
 after_y = more after_x (codes "y" ∷ [])
 
-abbrev after_await : Names
+abbrev pub after_await : Names
 after_await = more after_y []
 
-abbrev after_call : Names
+abbrev pub after_call : Names
 after_call = more after_await (stack ∷ codes "a" ∷ [])
 
-abbrev after_b : Names
+abbrev pub after_b : Names
 after_b = more after_call (codes "b" ∷ [])
 
 settled_step : Settled (is_among variables) (prepared_of step)

@@ -6,5 +6,6 @@ pub mod Jumps
 pub mod Ready
 pub mod LabelSteps
 pub mod Grafts
-pub mod Places
 pub mod Sample
+pub mod WrittenScope
+pub mod StepsOfLabels

@@ -39,7 +39,7 @@ ghost use Rattle.action_builder.specs.Written.{except_of, old_stack};
 ghost use Rattle.action_builder.specs.SingleProcess.{in_place_of, graft_items};
 ghost use Rattle.action_builder.specs.laws.Grafts.{ClearItems, IsListed};
 ghost use Rattle.tla_value.specs.laws.Places.{AgreeButPlaces, ChecksButPlaces, EnvsButPlaces};
-ghost use Rattle.action_builder.specs.laws.Places.{ItemsButPlaces};
+ghost use Rattle.module_tree.specs.laws.ItemPlaces.{ItemsButPlaces};
 ghost use Rattle.action_builder.specs.laws.Sample as sample;
 
 /// The items that are written for a step where the variables of A are assigned already, on a pair of states. Where no

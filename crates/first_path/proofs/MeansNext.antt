@@ -33,12 +33,14 @@ use Rattle.promise.specs.NextAndInit.{NextIs}
 use Rattle.first_path.proofs.Names.{all_more, word_same}
 use Rattle.first_path.proofs.Fit.{Fit, fit_of, not_own}
 use Rattle.first_path.proofs.OutsideApart.{other, others, none_other, Apart}
-use Rattle.first_path.proofs.Untitled.{Untitled, looked_through, untitled_append, found_untitled}
+use Rattle.first_path.proofs.Untitled.{found_untitled}
 use Rattle.first_path.proofs.Means.{true_tells, last_tells, label_free, StandsFor, result, tells_same, label_tells, value_tells, right_tells}
 use Rattle.first_path.proofs.MeansStep.{program_of, actor, stand, Kept, is_actor, actor_is, stand_is, stands_there, there_stands, course_for, course_is, ended}
 use Rattle.pcal_tree.specs.Variables.{pc, vars, Agree, on_variables}
 use Rattle.pcal_tree.specs.Processes.{IsActor}
 use Rattle.pcal_tree.specs.Faults.{Sound}
+use Rattle.tla_value.specs.laws.Untitled.{Untitled}
+use Rattle.tla_value.proofs.Untitled.{looked_through, untitled_append}
 
 -- ---- the variables in a state
 
@@ -60,7 +62,7 @@ pub reads_first : (o : Outside) (q : Places) (f : Parts) (values : Valuation) (s
     → S x ≡ Some (s x) → StandsFor x (s x) (scope plain (module_at o q f) values S T)
 reads_first o q f values s S T x u e at =
     looked_through plain (definitions_in (module_at o q f)) (in_states S T (base plain values)) x at
-    (untitled_append x (found o.definitions ++ []) [] (untitled_append x (found o.definitions) [] u refl) refl)
+    (untitled_append x (found o.definitions ++ []) [] (untitled_append x (found o.definitions) [] u tt) tt)
     ∙ ap (λ o. or_sense o (or_sense (values x) (standard_name x at))) e
 
 -- ---- the step

@@ -22,10 +22,11 @@ use Rattle.first_path.specs.Form.{Parts}
 use Rattle.first_path.specs.Placed.{Places, word_at, right_at, statement_span, assignment_at, algorithm_at}
 use Rattle.first_path.proofs.Names.{word_same}
 use Rattle.first_path.proofs.Fit.{Fit, not_own}
-use Rattle.first_path.proofs.Untitled.{Untitled, looked_through, untitled_append}
 use Rattle.first_path.proofs.Means.{StandsFor, result, outcome, right_evaluates}
 use Rattle.pcal_tree.specs.Variables.{pc}
 use Rattle.pcal_tree.specs.Processes.{OneOf, IsActor}
+use Rattle.tla_value.specs.laws.Untitled.{Untitled}
+use Rattle.tla_value.proofs.Untitled.{looked_through, untitled_append}
 
 -- with any definitions outside, and any written names
 abbrev pub program_of : List Definition → Places → Parts → Naming → Valuation → Program
@@ -130,7 +131,7 @@ module _ (ds : List Definition) (p : Places) (f : Parts) (names : Naming) (value
       ap (λ b. cond b (or_sense None ((global_env program s).now f.variable at)) ((global_env program s).now f.variable at))
       (not_own f.variable h.variable (codes "self") refl)
       ∙ looked_through plain (ds ++ []) (in_states (globals_on s (algorithm_at p f).globals) no_state (base plain values)) f.variable at
-      (untitled_append f.variable ds [] u refl)
+      (untitled_append f.variable ds [] u tt)
       ∙ rw (word_same f.variable) refl
 
   steps_are : (s : State) (o : Option Value)

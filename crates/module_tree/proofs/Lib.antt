@@ -73,3 +73,7 @@ pub mod PartsSound
 pub mod FineFiles
 pub mod LineLengths
 pub mod SplitWhole
+pub mod OutcomesAlike
+pub mod ItemPlaces
+pub mod ModulePlaces
+pub mod ActionFound

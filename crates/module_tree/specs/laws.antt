@@ -5,3 +5,4 @@ pub mod Outsides
 pub mod Swaps
 pub mod WritableRegion
 pub mod PlacelessRegion
+pub mod ItemPlaces

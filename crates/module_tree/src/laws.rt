@@ -22,7 +22,11 @@ ghost use Rattle.module_tree.specs.laws.Swaps.{is_paired, segments, AddsNoOption
 ghost use Rattle.module_tree.specs.laws.WritableRegion.{IsRegion, IsReadBack, IsWritten};
 ghost use Rattle.module_tree.specs.Layout.{layout};
 ghost use Rattle.module_tree.specs.laws.PlacelessRegion.{region_placeless};
-ghost use Rattle.module_tree.specs.laws.Outsides.{HasOutside, AllAlike, IsModuleOf};
+ghost use Rattle.module_tree.specs.laws.Outsides.{HasOutside, AllAlike, IsModuleOf, SameOutside};
+ghost use Rattle.module_tree.specs.ModuleTruth.{next_holds, init_holds};
+ghost use Rattle.tla_value.specs.Stops.{plain};
+ghost use Rattle.tla_value.specs.Definitions.{Valuation};
+ghost use Rattle.tla_value.specs.laws.Places.{AgreeButPlaces};
 ghost use Rattle.module_tree.specs.AlgorithmText.{past_p, past_c, AlgorithmText, algorithm_in, algorithm_tokens};
 ghost use Rattle.module_tree.specs.laws.AlgorithmEnd.{from_name, EndsWithWords, behind_name, EndsWithBrace};
 ghost use Rattle.tla_token.specs.AlgorithmOffences.{algorithm_offences as token_offences};
@@ -183,4 +187,11 @@ pub fn layouts_rest_on_no_place()
 /// file, and has that translation, but for the places of its trees, the file's title, and outside what the file has.
 pub fn written_files_are_modules()
     ensures { (x w : Text) (o : Outside) (r : Region) → IsRegion r → IsFine x → HasOutside (walk x) o → WithTranslation x (layout r) w → IsWritten x w o r }
+{}
+
+/// Places of a translation, and of what is passed on outside it, matter to nothing but where a trouble is: modules that are the same but for these have
+/// on every pair of states the same truth of Next, and on every state that of Init, or troubles of one kind.
+pub fn places_in_modules_matter_to_troubles_alone()
+    ensures { (m n : Module) → region_placeless m.region ≡ region_placeless n.region → SameOutside m.outside n.outside → (values s t : Valuation)
+        → AgreeButPlaces (next_holds plain m values s t) (next_holds plain n values s t) × AgreeButPlaces (init_holds plain m values s) (init_holds plain n values s) }
 {}

@@ -19,11 +19,12 @@ use Rattle.pcal_tree.specs.Expand.{expand, written_out}
 use Rattle.pcal_tree.specs.laws.Expansion.{ThroughoutAssignments, ThroughoutBinds, ThroughoutOne, Throughout, ThroughoutSome, Calls, CallsOne, CallsSome, FineCall, Chosen, BeginsUnlabelled, Stays}
 use Rattle.pcal_tree.proofs.Uncaptured.{throughout_weaker}
 use Rattle.pcal_tree.proofs.RebindNames.{scope_of_both}
-use Rattle.pcal_tree.proofs.NothingCaptured.{none_both, Free, BindsFree, written_bare, putting_scope}
+use Rattle.pcal_tree.proofs.NothingCaptured.{Free, BindsFree, written_bare, putting_scope}
 use Rattle.tla_token.specs.declared.rule.Rule.{Rule}
 use Rattle.tla_value.specs.StandardModules.{is_member, is_last}
 use Rattle.std.specs.Prelude.{nat_eq, length}
 use Rattle.tla_token.specs.declared.rule.Rule.TheVariants.{Arity}
+use Rattle.pcal_tree.proofs.ClearLabels.{both_none}
 
 -- ---- two facts throughout
 
@@ -115,8 +116,8 @@ usable_is : (u : Option Use) (n : ℕ) (right : Bool) (at : Place) → applied_o
 usable_is None n right at e = cc
 usable_is (Some unread) n right at e = cc
 usable_is (Some (standard d extended)) n right at e =
-    let j = none_both (use_offences (Some (standard d extended)) n at) (module_offences (Some (standard d extended)) at ++ infinite_offences (Some (standard d extended)) right at) e in
-    let k = none_both (module_offences (Some (standard d extended)) at) (infinite_offences (Some (standard d extended)) right at) j.1 in
+    let j = both_none (use_offences (Some (standard d extended)) n at) (module_offences (Some (standard d extended)) at ++ infinite_offences (Some (standard d extended)) right at) e in
+    let k = both_none (module_offences (Some (standard d extended)) at) (infinite_offences (Some (standard d extended)) right at) j.1 in
     not_if extended _ at k.0
 usable_is (Some (takes k)) n right at e = tt
 usable_is (Some variable) n right at e = tt
@@ -164,16 +165,16 @@ mutual
   -- where no use offends, all free names are known
   pub tree_seen : (t : Tree) (right : Bool) (s : Sight) (N : Word → Type 0) → Sees s N → in_tree t right s ≡ [] → FreeNames N Any t
   tree_seen (node m at ts) right s N h e =
-      let k = none_both (form_offences s right m (count ts) at) (in_parts (seen_names m) (is_member m) ts s) e in
+      let k = both_none (form_offences s right m (count ts) at) (in_parts (seen_names m) (is_member m) ts s) e in
       (form_seen s N h right m (count ts) at k.0, parts_seen (seen_names m) (is_member m) ts s N h k.1)
 
   pub parts_seen : (names : List (List Word)) (right : Bool) (ts : Trees) (s : Sight) (N : Word → Type 0) → Sees s N → in_parts names right ts s ≡ [] → FreeInParts N Any names ts
   parts_seen names right no_trees s N h e = tt
   parts_seen [] right (tree t ts) s N h e =
-      let k = none_both (in_tree t (right && is_last ts) s) (in_parts [] right ts s) e in
+      let k = both_none (in_tree t (right && is_last ts) s) (in_parts [] right ts s) e in
       (tree_seen t (right && is_last ts) s N h k.0, parts_seen [] right ts s N h k.1)
   parts_seen (xs ∷ names) right (tree t ts) s N h e =
-      let k = none_both (in_tree t (right && is_last ts) (seeing_plain xs s)) (in_parts names right ts s) e in
+      let k = both_none (in_tree t (right && is_last ts) (seeing_plain xs s)) (in_parts names right ts s) e in
       (tree_seen t (right && is_last ts) (seeing_plain xs s) (Also xs N) (sees_besides xs s N h) k.0, parts_seen names right ts s N h k.1)
 
 -- ---- where calls stand
@@ -374,26 +375,26 @@ module _ (ext : List Word) (ps : List Procedure) where
     mutual
       one_fine : (at : Place) (st : Statement) (s : Sight) (a : Around) → in_one (macro_offences ms ps) ps at st s ≡ [] → Each_of (λ r. one_rebinds ext ps (macro_rebinds ext ps ms) st r ≡ []) a → Sees s (Kept a) → CallsOne (FineCall ms) st
       one_fine at (branch e x y) s a u w h =
-          let j = none_both (in_whole e s) (in_body (macro_offences ms ps) ps x s ++ in_body (macro_offences ms ps) ps y s) u in
-          let k = none_both (in_body (macro_offences ms ps) ps x s) (in_body (macro_offences ms ps) ps y s) j.1 in
+          let j = both_none (in_whole e s) (in_body (macro_offences ms ps) ps x s ++ in_body (macro_offences ms ps) ps y s) u in
+          let k = both_none (in_body (macro_offences ms ps) ps x s) (in_body (macro_offences ms ps) ps y s) j.1 in
           let parts : (r : Standings) → one_rebinds ext ps (macro_rebinds ext ps ms) (branch e x y) r ≡ [] → (B x r) × (B y r) = λ r q.
-          none_both (body_rebinds ext ps (macro_rebinds ext ps ms) x r) (body_rebinds ext ps (macro_rebinds ext ps ms) y r) ((none_both (whole_rebinds ext e r) (body_rebinds ext ps (macro_rebinds ext ps ms) x r ++ body_rebinds ext ps (macro_rebinds ext ps ms) y r) q).1) in
+          both_none (body_rebinds ext ps (macro_rebinds ext ps ms) x r) (body_rebinds ext ps (macro_rebinds ext ps ms) y r) ((both_none (whole_rebinds ext e r) (body_rebinds ext ps (macro_rebinds ext ps ms) x r ++ body_rebinds ext ps (macro_rebinds ext ps ms) y r) q).1) in
           (body_fine x s a k.0 (each_same _ _ (λ r q. (parts r q).0) a w) h, body_fine y s a k.1 (each_same _ _ (λ r q. (parts r q).1) a w) h)
       one_fine at (either bs) s a u w h = some_fine bs s a u w h
       one_fine at (with bs b) s a u w h =
           let xs = words (names_of_binds bs) in
-          let k = none_both (in_binds bs s) (in_body (macro_offences ms ps) ps b (after_binds bs s)) u in
+          let k = both_none (in_binds bs s) (in_body (macro_offences ms ps) ps b (after_binds bs s)) u in
           body_fine b (after_binds bs s) (around_all (naming xs) a) k.1
           (each_mapped (λ r. one_rebinds ext ps (macro_rebinds ext ps ms) (with bs b) r ≡ []) (B b) (naming xs) (λ r q.
-          (none_both (binds_rebind ext bs r) (body_rebinds ext ps (macro_rebinds ext ps ms) b (naming xs r))
-          ((none_both (rebound_all ext r (names_of_binds bs)) (binds_rebind ext bs r ++ body_rebinds ext ps (macro_rebinds ext ps ms) b (naming xs r)) q).1)).1) a w)
+          (both_none (binds_rebind ext bs r) (body_rebinds ext ps (macro_rebinds ext ps ms) b (naming xs r))
+          ((both_none (rebound_all ext r (names_of_binds bs)) (binds_rebind ext bs r ++ body_rebinds ext ps (macro_rebinds ext ps ms) b (naming xs r)) q).1)).1) a w)
           (λ y n. kept_bound xs a y (sees_after bs s (Kept a) h y n))
       one_fine at (while e b) s a u w h =
-          let k = none_both (in_whole e s) (in_body (macro_offences ms ps) ps b s) u in
-          body_fine b s a k.1 (each_same _ _ (λ r q. (none_both (whole_rebinds ext e r) (body_rebinds ext ps (macro_rebinds ext ps ms) b r) q).1) a w) h
+          let k = both_none (in_whole e s) (in_body (macro_offences ms ps) ps b s) u in
+          body_fine b s a k.1 (each_same _ _ (λ r q. (both_none (whole_rebinds ext e r) (body_rebinds ext ps (macro_rebinds ext ps ms) b r) q).1) a w) h
       one_fine at (macro m ts) s a u w h =
-          let k = none_both (macro_offences ms ps s at m ts) (in_each ts s) u in
-          c s a at m ts k.0 (each_same _ _ (λ r q. (none_both (macro_rebinds ext ps ms r m ts) (each_rebinds ext ts r) q).0) a w) h (parts_seen [] false ts s (Kept a) h k.1)
+          let k = both_none (macro_offences ms ps s at m ts) (in_each ts s) u in
+          c s a at m ts k.0 (each_same _ _ (λ r q. (both_none (macro_rebinds ext ps ms r m ts) (each_rebinds ext ts r) q).0) a w) h (parts_seen [] false ts s (Kept a) h k.1)
       one_fine at (assign ms) s a u w h = tt
       one_fine at (await e) s a u w h = tt
       one_fine at (print e) s a u w h = tt
@@ -406,16 +407,16 @@ module _ (ext : List Word) (ps : List Procedure) where
       pub body_fine : (b : Statements) (s : Sight) (a : Around) → in_body (macro_offences ms ps) ps b s ≡ [] → Each_of (B b) a → Sees s (Kept a) → Calls (FineCall ms) b
       body_fine done s a u w h = tt
       body_fine (then at st rest) s a u w h =
-          let k = none_both (in_one (macro_offences ms ps) ps at.first st s) (in_body (macro_offences ms ps) ps rest s) u in
-          let parts : (r : Standings) → B (then at st rest) r → (one_rebinds ext ps (macro_rebinds ext ps ms) st r ≡ []) × (B rest r) = λ r q. none_both (one_rebinds ext ps (macro_rebinds ext ps ms) st r) (body_rebinds ext ps (macro_rebinds ext ps ms) rest r) q in
+          let k = both_none (in_one (macro_offences ms ps) ps at.first st s) (in_body (macro_offences ms ps) ps rest s) u in
+          let parts : (r : Standings) → B (then at st rest) r → (one_rebinds ext ps (macro_rebinds ext ps ms) st r ≡ []) × (B rest r) = λ r q. both_none (one_rebinds ext ps (macro_rebinds ext ps ms) st r) (body_rebinds ext ps (macro_rebinds ext ps ms) rest r) q in
           (one_fine at.first st s a k.0 (each_same _ _ (λ r q. (parts r q).0) a w) h, body_fine rest s a k.1 (each_same _ _ (λ r q. (parts r q).1) a w) h)
       body_fine (mark l k rest) s a u w h = body_fine rest s a u w h
 
       some_fine : (bs : Branches) (s : Sight) (a : Around) → in_branches (macro_offences ms ps) ps bs s ≡ [] → Each_of (λ r. branches_rebind ext ps (macro_rebinds ext ps ms) bs r ≡ []) a → Sees s (Kept a) → CallsSome (FineCall ms) bs
       some_fine no_branches s a u w h = tt
       some_fine (or b bs) s a u w h =
-          let k = none_both (in_body (macro_offences ms ps) ps b s) (in_branches (macro_offences ms ps) ps bs s) u in
-          let parts : (r : Standings) → branches_rebind ext ps (macro_rebinds ext ps ms) (or b bs) r ≡ [] → (B b r) × (branches_rebind ext ps (macro_rebinds ext ps ms) bs r ≡ []) = λ r q. none_both (body_rebinds ext ps (macro_rebinds ext ps ms) b r) (branches_rebind ext ps (macro_rebinds ext ps ms) bs r) q in
+          let k = both_none (in_body (macro_offences ms ps) ps b s) (in_branches (macro_offences ms ps) ps bs s) u in
+          let parts : (r : Standings) → branches_rebind ext ps (macro_rebinds ext ps ms) (or b bs) r ≡ [] → (B b r) × (branches_rebind ext ps (macro_rebinds ext ps ms) bs r ≡ []) = λ r q. both_none (body_rebinds ext ps (macro_rebinds ext ps ms) b r) (branches_rebind ext ps (macro_rebinds ext ps ms) bs r) q in
           (body_fine b s a k.0 (each_same _ _ (λ r q. (parts r q).0) a w) h, some_fine bs s a k.1 (each_same _ _ (λ r q. (parts r q).1) a w) h)
 
   -- in the body of a macro that is called: its own text, and where it is called
@@ -474,7 +475,7 @@ module _ (ext : List Word) (ps : List Procedure) where
       by true c u w =
           let a' = called_around t d ts a in
           let walked : Each_of (λ r. body_rebinds ext ps (macro_rebinds ext ps older) d.body r ≡ []) a' = (g.0, all_mapped (λ r. body_rebinds ext ps (macro_rebinds ext ps older) d.body (putting_in d.params ts r r) ≡ []) (λ r. body_rebinds ext ps (macro_rebinds ext ps older) d.body r ≡ []) (λ r. putting_in d.params ts r r) (λ r q. q) (a.base ∷ a.others) w) in
-          let used = (none_both (offence_if (not (nat_eq (length d.params) (count ts))) Arity at) (in_body (macro_offences older ps) ps d.body (seeing_parameters d.params ts s s)) u).1 in
+          let used = (both_none (offence_if (not (nat_eq (length d.params) (count ts))) Arity at) (in_body (macro_offences older ps) ps d.body (seeing_parameters d.params ts s s)) u).1 in
           let bare = free_through (a'.base ∷ a'.others) (expand (written_out older) d.body) (λ m at. Each R (binders m)) R g.1
           (written_bare ext ps older d.body a'.base walked.0, all_same _ _ (λ r q. written_bare ext ps older d.body r q) a'.others walked.1) in (
             throughout_weaker _ _ _ _

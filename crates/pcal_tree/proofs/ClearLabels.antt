@@ -13,13 +13,15 @@ use Rattle.pcal_tree.specs.laws.Apart.{NoEndLabels}
 use Rattle.pcal_tree.proofs.OneStand.{every_both}
 
 -- two lists without items
+pub both_none : {X : Type 0} (xs ys : List X) → xs ++ ys ≡ [] → (xs ≡ []) × (ys ≡ [])
+both_none [] ys e = (refl, e)
+both_none (x ∷ xs) ys e = cc
+
 pub nothing_left : {X : Type 0} (xs ys : List X) → xs ++ ys ≡ [] → xs ≡ []
-nothing_left [] ys e = refl
-nothing_left (x ∷ xs) ys e = cc
+nothing_left xs ys e = (both_none xs ys e).0
 
 pub nothing_right : {X : Type 0} (xs ys : List X) → xs ++ ys ≡ [] → ys ≡ []
-nothing_right [] ys e = e
-nothing_right (x ∷ xs) ys e = cc
+nothing_right xs ys e = (both_none xs ys e).1
 
 abbrev pub is_clear : Word → Type 0
 is_clear w = is_among (codes "Done" ∷ codes "Error" ∷ []) w ≡ false

@@ -11,10 +11,7 @@ use Rattle.pcal_tree.specs.Names.{Role, variable, label, wants, wanted, wanted_b
 use Rattle.pcal_tree.specs.OffencesNames.{names_of, process_names}
 use Rattle.pcal_tree.specs.OffencesLabels.{Label, labels, label_words, labels_of_main, all_labels}
 use Rattle.pcal_tree.specs.OffencesCounts.{variable_names, procedure_names, all_label_names, at_first_name, first_past, count_offences}
-
-nothing_in : {X : Type 0} (xs ys : List X) → xs ++ ys ≡ [] → (xs ≡ []) × (ys ≡ [])
-nothing_in [] ys h = (refl, h)
-nothing_in (x ∷ xs) ys h = absurd cc
+use Rattle.pcal_tree.proofs.ClearLabels.{both_none}
 
 none_first : (xs : List Name) → at_first_name xs ≡ [] → xs ≡ []
 none_first [] h = refl
@@ -27,10 +24,10 @@ none_past n xs h =
 
 parts : (a : Algorithm) → count_offences a ≡ [] → (first_past most_variables (variable_names a) ≡ []) × (first_past most_processes (process_names a.main) ≡ []) × (first_past most_procedures (procedure_names a) ≡ []) × (first_past most_labels (all_label_names a) ≡ [])
 parts a h =
-    let v = nothing_in (first_past most_variables (variable_names a)) _ h in
-    let p = nothing_in (first_past most_processes (process_names a.main)) _ v.1 in
-    let q = nothing_in (first_past most_procedures (procedure_names a)) _ p.1 in
-    let l = nothing_in (first_past most_labels (all_label_names a)) _ q.1 in
+    let v = both_none (first_past most_variables (variable_names a)) _ h in
+    let p = both_none (first_past most_processes (process_names a.main)) _ v.1 in
+    let q = both_none (first_past most_procedures (procedure_names a)) _ p.1 in
+    let l = both_none (first_past most_labels (all_label_names a)) _ q.1 in
     (v.0, p.0, q.0, l.0)
 
 pub few_variables : (a : Algorithm) → count_offences a ≡ [] → length (variable_names a) ≤ most_variables

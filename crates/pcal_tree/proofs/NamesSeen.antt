@@ -14,10 +14,10 @@ use Rattle.pcal_tree.specs.Run.{arguments, unlabelled, label_of}
 use Rattle.pcal_tree.specs.StepStart.{Begin, begin, begin_in, begin_some}
 use Rattle.pcal_tree.specs.Expand.{placed_at, graft_left, graft_assignments, graft_binds, graft_one, graft_all, graft_some, followed_by, expand_one, expand, expand_some, written_out}
 use Rattle.pcal_tree.specs.laws.ReadNames.{Names, Reads, ReadsAll, ReadsAssignments, ReadsBinds, ReadsOneAlways, ReadsAlways, ReadsSomeAlways, BindsIn, WithsInOne, WithsIn, WithsInSome, WithsInMacros}
-use Rattle.pcal_tree.proofs.NothingCaptured.{none_both}
 use Rattle.pcal_tree.specs.Paths.{root}
 use Rattle.std.proofs.lemmas.Slice.Eq.{bytes_eq-Decides}
 use Rattle.pcal_tree.proofs.CallsFine.{Usable, Sees, free_weaker, in_also, tree_seen, parts_seen}
+use Rattle.pcal_tree.proofs.ClearLabels.{both_none}
 
 -- ---- trees put in
 
@@ -143,20 +143,20 @@ parts_more N (xs ∷ names) (tree t ts) h = (free_weaker N (Also xs N) (in_also 
 mutual
   left_seen : (l : Tree) (s : Sight) (N : Names) → Sees s N → in_left l s ≡ [] → Reads N l
   left_seen (node m at ts) s N h e =
-      let k = none_both (root_offences s m at) (in_left_parts ts s) e in
+      let k = both_none (root_offences s m at) (in_left_parts ts s) e in
       (root_seen s N h m at k.0, parts_more N (seen_names m) ts (left_parts_seen ts s N h k.1))
 
   left_parts_seen : (ts : Trees) (s : Sight) (N : Names) → Sees s N → in_left_parts ts s ≡ [] → ReadsAll N ts
   left_parts_seen no_trees s N h e = tt
   left_parts_seen (tree t ts) s N h e =
-      let k = none_both (in_left t s) (in_each ts s) e in
+      let k = both_none (in_left t s) (in_each ts s) e in
       (left_seen t s N h k.0, parts_seen [] false ts s N h k.1)
 
 assignments_seen : (ms : Assignments) (s : Sight) (N : Names) → Sees s N → in_assignments ms s ≡ [] → ReadsAssignments N ms
 assignments_seen no_assignments s N h e = tt
 assignments_seen (assignment l r ms) s N h e =
-    let j = none_both (in_left l s) (in_whole r s ++ in_assignments ms s) e in
-    let k = none_both (in_whole r s) (in_assignments ms s) j.1 in
+    let j = both_none (in_left l s) (in_whole r s ++ in_assignments ms s) e in
+    let k = both_none (in_whole r s) (in_assignments ms s) j.1 in
     (left_seen l s N h j.0, tree_seen r false s N h k.0, assignments_seen ms s N h k.1)
 
 -- a name more that is of N
@@ -170,11 +170,11 @@ sees_one x s N n h y u = by (bytes_eq x y) refl u
 binds_seen : (bs : Binds) (s : Sight) (N : Names) → BindsIn N bs → Sees s N → in_binds bs s ≡ [] → ReadsBinds N bs × Sees (after_binds bs s) N
 binds_seen no_binds s N w h e = (tt, h)
 binds_seen (one_of x r bs) s N w h e =
-    let j = none_both (in_whole r s) (in_binds bs (seeing_plain (x.word ∷ []) s)) e in
+    let j = both_none (in_whole r s) (in_binds bs (seeing_plain (x.word ∷ []) s)) e in
     let k = binds_seen bs (seeing_plain (x.word ∷ []) s) N w.1 (sees_one x.word s N w.0 h) j.1 in
     ((tree_seen r false s N h j.0, k.0), k.1)
 binds_seen (is x r bs) s N w h e =
-    let j = none_both (in_whole r s) (in_binds bs (seeing_plain (x.word ∷ []) s)) e in
+    let j = both_none (in_whole r s) (in_binds bs (seeing_plain (x.word ∷ []) s)) e in
     let k = binds_seen bs (seeing_plain (x.word ∷ []) s) N w.1 (sees_one x.word s N w.0 h) j.1 in
     ((tree_seen r false s N h j.0, k.0), k.1)
 
@@ -298,37 +298,37 @@ module _ (ps : List Procedure) where
       one_reads at (assert t) rest s v h e r = (tree_seen t false s N h e, r)
       one_reads at skip rest s v h e r = (tt, r)
       one_reads at (branch t a b) rest s v h e r =
-          let j = none_both (in_whole t s) (in_body (macro_offences ms ps) ps a s ++ in_body (macro_offences ms ps) ps b s) e in
-          let k = none_both (in_body (macro_offences ms ps) ps a s) (in_body (macro_offences ms ps) ps b s) j.1 in
+          let j = both_none (in_whole t s) (in_body (macro_offences ms ps) ps a s ++ in_body (macro_offences ms ps) ps b s) e in
+          let k = both_none (in_body (macro_offences ms ps) ps a s) (in_body (macro_offences ms ps) ps b s) j.1 in
           ((tree_seen t false s N h j.0, body_reads a s v.0 h k.0, body_reads b s v.1 h k.1), r)
       one_reads at (either bs) rest s v h e r = (some_read bs s v h e, r)
       one_reads at (with bs b) rest s v h e r =
-          let j = none_both (in_binds bs s) (in_body (macro_offences ms ps) ps b (after_binds bs s)) e in
+          let j = both_none (in_binds bs s) (in_body (macro_offences ms ps) ps b (after_binds bs s)) e in
           let k = binds_seen bs s N v.0 h j.0 in
           ((k.0, body_reads b (after_binds bs s) v.1 k.1 j.1), r)
       one_reads at (while t b) rest s v h e r =
-          let k = none_both (in_whole t s) (in_body (macro_offences ms ps) ps b s) e in
+          let k = both_none (in_whole t s) (in_body (macro_offences ms ps) ps b s) e in
           ((tree_seen t false s N h k.0, body_reads b s v h k.1), r)
       one_reads at (goto l) rest s v h e r = (tt, r)
       one_reads at (macro m ts) rest s v h e r =
-          let k = none_both (macro_offences ms ps s at.first m ts) (in_each ts s) e in
+          let k = both_none (macro_offences ms ps s at.first m ts) (in_each ts s) e in
           followed_free N (written_out ms at m ts) rest (c N w s at.first at m ts k.0 h (parts_seen [] false ts s N h k.1)) r
       one_reads at (call p ts) rest s v h e r =
-          let k = none_both (call_offences ps at.first p (count ts)) (in_each ts s) e in
+          let k = both_none (call_offences ps at.first p (count ts)) (in_each ts s) e in
           (parts_seen [] false ts s N h k.1, r)
       one_reads at return rest s v h e r = (tt, r)
 
       pub body_reads : (b : Statements) (s : Sight) → WithsIn N b → Sees s N → in_body (macro_offences ms ps) ps b s ≡ [] → ReadsAlways N (expand (written_out ms) b)
       body_reads done s v h e = tt
       body_reads (then at st rest) s v h e =
-          let k = none_both (in_one (macro_offences ms ps) ps at.first st s) (in_body (macro_offences ms ps) ps rest s) e in
+          let k = both_none (in_one (macro_offences ms ps) ps at.first st s) (in_body (macro_offences ms ps) ps rest s) e in
           one_reads at st (expand (written_out ms) rest) s v.0 h k.0 (body_reads rest s v.1 h k.1)
       body_reads (mark l k rest) s v h e = body_reads rest s v h e
 
       some_read : (bs : Branches) (s : Sight) → WithsInSome N bs → Sees s N → in_branches (macro_offences ms ps) ps bs s ≡ [] → ReadsSomeAlways N (expand_some (written_out ms) bs)
       some_read no_branches s v h e = tt
       some_read (or b bs) s v h e =
-          let k = none_both (in_body (macro_offences ms ps) ps b s) (in_branches (macro_offences ms ps) ps bs s) e in
+          let k = both_none (in_body (macro_offences ms ps) ps b s) (in_branches (macro_offences ms ps) ps bs s) e in
           (body_reads b s v.0 h k.0, some_read bs s v.1 h k.1)
 
   pub calls_read : (ms : List Macro) → CallsRead ms
@@ -339,7 +339,7 @@ module _ (ps : List Procedure) where
           → cond b (offence_if (not (nat_eq (length d.params) (count ts))) Arity p ++ in_body (macro_offences older ps) ps d.body (seeing_parameters d.params ts s s)) (macro_offences older ps s p m ts) ≡ []
           → ReadsAlways N (cond b (graft_all (arguments d.params ts) (expand (written_out older) d.body)) (written_out older at m ts))
       by true c e =
-          let k = none_both (offence_if (not (nat_eq (length d.params) (count ts))) Arity p) (in_body (macro_offences older ps) ps d.body (seeing_parameters d.params ts s s)) e in
+          let k = both_none (offence_if (not (nat_eq (length d.params) (count ts))) Arity p) (in_body (macro_offences older ps) ps d.body (seeing_parameters d.params ts s s)) e in
           let M = OneOf (words d.params) N in
           body_free (arguments d.params ts) M N (puts_arguments N d.params ts (eqb-true (length d.params) (count ts) (no_offence (nat_eq (length d.params) (count ts)) p k.0)) r) (expand (written_out older) d.body)
           (body_reads older c M (macros_weaker N M (λ y n. inr n) older w.1) d.body (seeing_parameters d.params ts s s) (withs_weaker N M (λ y n. inr n) d.body w.0)

@@ -47,3 +47,4 @@ pub mod CanonicalForms
 pub mod CanonicalEval
 pub mod CanonicalTests
 pub mod NeverOver
+pub mod Untitled

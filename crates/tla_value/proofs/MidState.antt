@@ -22,20 +22,18 @@ mixed_agree A U e f r = record {
 }
 
 -- environments that agree so, or none
-OptionAgree : (N M : Word → Type 0) → Option Env → Option Env → Type 0
+abbrev pub OptionAgree : (N M : Word → Type 0) → Option Env → Option Env → Type 0
 OptionAgree N M (Some e) (Some f) = AgreeOn N M e f
 OptionAgree N M None None = Unit {0}
 OptionAgree N M _ _ = ⊥
 
-arguments_agree : (M : Word → Type 0) (xs : List Word) (vs : List Value) (N : Word → Type 0) (e f : Env) → AgreeOn N M e f → OptionAgree (Also xs N) M (with_arguments xs vs e) (with_arguments xs vs f)
-unfolding OptionAgree
+pub arguments_agree : (M : Word → Type 0) (xs : List Word) (vs : List Value) (N : Word → Type 0) (e f : Env) → AgreeOn N M e f → OptionAgree (Also xs N) M (with_arguments xs vs e) (with_arguments xs vs f)
 arguments_agree M [] [] N e f r = r
 arguments_agree M [] (v ∷ vs) N e f r = tt
 arguments_agree M (x ∷ xs) [] N e f r = tt
 arguments_agree M (x ∷ xs) (v ∷ vs) N e f r = arguments_agree M xs vs (Or x N) _ _ (bind_agree N M x v e f r)
 
-body_agrees : (c : Check) (N M : Word → Type 0) (d : Definition) → FreeNames N M d.body → (e f : Option Env) → OptionAgree N M e f → (at : Place) → body_sense c d e at ≡ body_sense c d f at
-unfolding OptionAgree
+pub body_agrees : (c : Check) (N M : Word → Type 0) (d : Definition) → FreeNames N M d.body → (e f : Option Env) → OptionAgree N M e f → (at : Place) → body_sense c d e at ≡ body_sense c d f at
 body_agrees c N M d h (Some e) (Some f) r at = λ i. sense_of (at_use d.outside at (free_names c N M d.body h e f r i).value)
 body_agrees c N M d h (Some e) None r at = absurd r
 body_agrees c N M d h None (Some f) r at = absurd r
@@ -47,7 +45,6 @@ SettledOver A U d ps = (A d.title ≡ false) × FreeNames (Also ps (OutOf A U)) 
 
 defined_name : (c : Check) (A : Word → Bool) (U : Word → Type 0) (d : Definition) → (U d.title → SettledOver A U d []) → (e f : Env) → Mixed A U e f → (y : Word) → U y → (at : Place) (b : Bool) → bytes_eq d.title y ≡ b →
     cond b (body_sense c d (Some f) at) (f.now y at) ≡ cond (A y) (e.primed y at) (cond b (body_sense c d (Some e) at) (e.now y at))
-unfolding OptionAgree
 defined_name c A U d h e f r y u at true q =
     let titled : d.title ≡ y = (bytes_eq-Decides d.title y).0 q in
     let settled : SettledOver A U d [] = h (subst U (sym titled) u) in

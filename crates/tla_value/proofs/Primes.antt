@@ -46,18 +46,18 @@ pub record Between (A : Word → Bool) (U : Word → Type 0) (e f : Env) : Type 
   pub defs : (x : Word) → U x → e.defs x ≡ f.defs x
 
 -- environments that agree but for primed names
-record AgreeNow (e f : Env) : Type 0 where
-  now : (x : Word) (at : Place) → e.now x at ≡ f.now x at
-  defs : (x : Word) → e.defs x ≡ f.defs x
+pub record AgreeNow (e f : Env) : Type 0 where
+  pub now : (x : Word) (at : Place) → e.now x at ≡ f.now x at
+  pub defs : (x : Word) → e.defs x ≡ f.defs x
 
-bound_now : (x : Word) → Bound AgreeNow x
+pub bound_now : (x : Word) → Bound AgreeNow x
 bound_now x e f v r = record { now = λ y at i. cond (bytes_eq x y) (just v) (r.now y at i); defs = r.defs }
 
 all_bound : (xs : List Word) → Each (Bound AgreeNow) xs
 all_bound [] = tt
 all_bound (x ∷ xs) = (bound_now x, all_bound xs)
 
-form_unprimed : (m : Form) (at : Place) → IsUnprimed m at → KeptBy AgreeNow m at
+pub form_unprimed : (m : Form) (at : Place) → IsUnprimed m at → KeptBy AgreeNow m at
 form_unprimed (name x) at h = (tt, λ p e f r. r.now x p)
 form_unprimed (next x) at h = absurd h
 form_unprimed (operator_call g) at h = (tt, λ e f r. r.defs g)

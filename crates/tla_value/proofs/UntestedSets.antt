@@ -83,7 +83,7 @@ same_by ws ts Greater q = none_in (is_eq (nat_cmp (count ws) (count ts)))
 same_by ws ts Equal q =
     ap (λ x. is_eq (nat_cmp (count ws) (count x)) && true) (sym (orders_equal ws ts q)) ∙ ap (λ r. is_eq r && true) (nat_self (count ws))
 
-sets_same : (ws ts : Values) → same (set ws) (set ts) ≡ is_eq (orders ws ts)
+pub sets_same : (ws ts : Values) → same (set ws) (set ts) ≡ is_eq (orders ws ts)
 sets_same ws ts = then_eq (nat_cmp (count ws) (count ts)) (orders ws ts) ∙ same_by ws ts (orders ws ts) refl
 
 sets_among : (ws : Values) (ts : List Values) → holds (set ws) (values_in (map set ts)) ≡ is_among ws ts

@@ -7,3 +7,4 @@ pub mod Grafting
 pub mod UnderLimits
 pub mod WrittenStrings
 pub mod CanonicalNames
+pub mod Untitled

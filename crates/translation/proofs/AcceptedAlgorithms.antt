@@ -20,13 +20,14 @@ use Rattle.pcal_tree.proofs.RoutineNames.{one_either}
 use Rattle.translation.specs.laws.WritableAlgorithm.{IsWritableDeclaration, IsWritableDefinition, IsStarted, IsWritableMain, IsWritableAlgorithm}
 use Rattle.translation.specs.laws.AcceptedAlgorithm.{IsAccepted}
 use Rattle.translation.specs.laws.TypedAlgorithm.{IsTypedDefinition, IsTypedProcedure, IsTypedProcess, IsTypedMain, IsTypedAlgorithm}
-use Rattle.translation.proofs.AcceptedNames.{both_none, names_once, definitions_free, bodies_labelled}
+use Rattle.translation.proofs.AcceptedNames.{names_once, definitions_free, bodies_labelled}
 use Rattle.translation.proofs.OnceThrough.{accepted_once}
 use Rattle.translation.proofs.FewNames.{few_names, tokens_within}
 use Rattle.translation.proofs.KnownRoutines.{routine_written}
 use Rattle.translation.proofs.RegionActions.{every_both}
 use Rattle.translation.proofs.TypedLabels.{labelled_typed}
 use Rattle.translation.proofs.TypedTexts.{text_typed}
+use Rattle.pcal_tree.proofs.ClearLabels.{both_none}
 
 -- its name, its variables and a body that isn't empty
 abbrev IsTypedRoutine : Routine → Type 0

@@ -24,12 +24,9 @@ use Rattle.pcal_tree.specs.Variables.{declared}
 use Rattle.pcal_tree.proofs.RoutineNames.{one_either}
 use Rattle.action_builder.specs.laws.Jumps.{Unlike, AllUnlike}
 use Rattle.translation.specs.laws.WritableAlgorithm.{IsLabelled, IsStarted}
+use Rattle.pcal_tree.proofs.ClearLabels.{both_none}
 
 -- ---- lists without an offence
-
-pub both_none : {X : Type 0} (xs ys : List X) → xs ++ ys ≡ [] → (xs ≡ []) × (ys ≡ [])
-both_none [] ys e = (refl, e)
-both_none (x ∷ xs) ys e = cc
 
 pub each_none : {X Y : Type 0} (f : X → List Y) (xs : List X) → flat_map f xs ≡ [] → (x : X) → OneOf x xs → f x ≡ []
 each_none f [] e x k = absurd k

@@ -23,8 +23,8 @@ use Rattle.pcal_tree.specs.Names.{taken_outside, kept, wanted}
 use Rattle.pcal_tree.specs.laws.Apart.{FewNames}
 use Rattle.pcal_tree.proofs.LabelsWeighed.{names_of_labelled}
 use Rattle.translation.specs.laws.AcceptedAlgorithm.{IsAccepted}
-use Rattle.translation.proofs.AcceptedNames.{both_none}
 use Rattle.translation.proofs.OutsideNames.{few_outside}
+use Rattle.pcal_tree.proofs.ClearLabels.{both_none}
 
 -- ---- what the rules on tokens say
 

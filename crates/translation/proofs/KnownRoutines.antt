@@ -17,9 +17,9 @@ use Rattle.pcal_tree.proofs.RoutineNames.{one_either}
 use Rattle.translation.specs.laws.WritableAlgorithm.{AreWritableStatements, is_procedure, is_variable}
 use Rattle.translation.specs.laws.TypedAlgorithm.{AreTypedStatements, IsTypedMacro, IsTypedProcedure, IsTypedProcess, IsTypedMain, IsTypedAlgorithm}
 use Rattle.translation.specs.laws.AssignedOnce.{AssignOnce}
-use Rattle.translation.proofs.AcceptedNames.{both_none}
 use Rattle.translation.proofs.KnownStatements.{AreKnown, is_variable_use, assignable, all_more, all_once, statements_known}
 use Rattle.translation.proofs.RegionActions.{every_both}
+use Rattle.pcal_tree.proofs.ClearLabels.{both_none}
 
 -- ---- what is in scope
 

@@ -22,7 +22,8 @@ use Rattle.action_builder.proofs.FitTrees.{Puts, IsPut, fit_writable, writable_f
 use Rattle.translation.specs.laws.WritableAlgorithm.{IsLeftSide, AreWritableAssignments, AreWritableBinds, IsWritableStatement, AreWritableStatements, AreWritableBranches}
 use Rattle.translation.specs.laws.TypedAlgorithm.{AreTypedAssignments, IsTypedStatement, AreTypedStatements, AreTypedBranches, IsTypedMacro}
 use Rattle.translation.specs.laws.AssignedOnce.{AssignsOnce, AssignOnce, AllAssignOnce}
-use Rattle.translation.proofs.AcceptedNames.{both_none, no_offence}
+use Rattle.translation.proofs.AcceptedNames.{no_offence}
+use Rattle.pcal_tree.proofs.ClearLabels.{both_none}
 
 -- ---- statements that can be written, but that they may assign a variable twice
 

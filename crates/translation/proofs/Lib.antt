@@ -41,3 +41,6 @@ pub mod TypedTexts
 pub mod TypedNames
 pub mod AcceptedAlgorithms
 pub mod TypedLabels
+pub mod SameProgram
+pub mod PromiseKept
+pub mod LeftOfMacros

@@ -15,7 +15,8 @@ use Rattle.pcal_tree.specs.Run.{partner_of}
 use Rattle.pcal_tree.proofs.RoutineNames.{one_either}
 use Rattle.translation.specs.laws.AcceptedAlgorithm.{EachAssignsOnce}
 use Rattle.translation.specs.laws.AssignedOnce.{AssignOnce, AllAssignOnce}
-use Rattle.translation.proofs.AcceptedNames.{both_none, no_offence}
+use Rattle.translation.proofs.AcceptedNames.{no_offence}
+use Rattle.pcal_tree.proofs.ClearLabels.{both_none}
 
 -- ---- statements of which none assigns twice by itself, where macro calls have the effects of E
 

@@ -28,7 +28,6 @@ use Rattle.translation.proofs.WrittenIdentifiers.{IsFree, given_identifiers, wan
 use Rattle.translation.proofs.WritableBodies.{all_labels}
 use Rattle.translation.proofs.NamedBodies.{VariablesNamed}
 use Rattle.pcal_tree.proofs.OneStand.{every_both}
-use Rattle.pcal_tree.proofs.SameVariables.{each_of}
 
 true_false : true ≡ false → ⊥
 true_false e = cc

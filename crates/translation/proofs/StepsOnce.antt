@@ -49,7 +49,7 @@ met_none xs (y ∷ ys) h x m = by (bytes_eq y x) refl m (met_none xs ys (or_part
     by true e k rest = subst (λ (z : Word). is_among xs z ≡ false) (same_bytes y x e) (or_parts (is_among xs y) (meets xs ys) h).0
     by false e k rest = rest k
 
-more_both : (A : Names) (xs ys : List Word) → more (more A xs) ys ≡ more A (xs ++ ys)
+pub more_both : (A : Names) (xs ys : List Word) → more (more A xs) ys ≡ more A (xs ++ ys)
 more_both A xs ys = λ i x. (or_assoc (A x) (is_among xs x) (is_among ys x) ∙ ap (λ (b : Bool). A x || b) (sym (list_any-append (λ v. bytes_eq v x) xs ys))) i
 
 -- ---- a list before another
@@ -150,7 +150,7 @@ has_more A xs p q h r k s = (r, λ x m. by x (A x) refl m)
     by x false e m = s x m
 
 -- what a path has not assigned is apart
-apart_of : (A : Names) (p : Path) (ys : List Word) → Has A p → has_assigned p ys ≡ false → Apart A ys
+pub apart_of : (A : Names) (p : Path) (ys : List Word) → Has A p → has_assigned p ys ≡ false → Apart A ys
 apart_of A None ys h e x m = absurd h.0
 apart_of A (Some xs) ys h e x m = by (A x) refl
   where

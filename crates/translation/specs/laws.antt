@@ -7,3 +7,4 @@ pub mod TypedAlgorithm
 pub mod AcceptedAlgorithm
 pub mod JumpsEnd
 pub mod StepsOnce
+pub mod LeftToProve

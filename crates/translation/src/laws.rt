@@ -5,10 +5,11 @@ ghost use Rattle.tla_tree.specs.Tree.{Word};
 ghost use Rattle.tla_value.specs.Outside.{Outside};
 ghost use Rattle.module_tree.specs.Module.{test, item, Module};
 ghost use Rattle.module_tree.specs.Reading.{Reads};
-ghost use Rattle.pcal_tree.specs.Algorithm.{Statements, Routine, locals, routines, Definition, Algorithm};
+ghost use Rattle.pcal_tree.specs.Algorithm.{Statements, Routine, locals, procedure_routines, routines, Definition, Algorithm};
 ghost use Rattle.pcal_tree.specs.OffencesNames.{repeated_names};
 ghost use Rattle.pcal_tree.specs.OffencesReserved.{reserved_declared};
 ghost use Rattle.pcal_tree.specs.OffencesLabels.{label_words, label_offences};
+ghost use Rattle.pcal_tree.specs.OffencesSteps.{call_effect, effects_in};
 ghost use Rattle.pcal_tree.specs.laws.Apart.{FewNames, AreNames};
 ghost use Rattle.pcal_tree.specs.Processes.{OneOf};
 ghost use Rattle.std.specs.Bool.{IsTrue};
@@ -21,6 +22,11 @@ ghost use Rattle.pcal_tree.specs.StepStart.{Begin};
 ghost use Rattle.pcal_tree.specs.Program.{Program};
 ghost use Rattle.pcal_tree.specs.Placeless.{placeless};
 ghost use Rattle.pcal_tree.specs.Names.{naming};
+ghost use Rattle.pcal_tree.specs.Programs.{program_in};
+ghost use Rattle.tla_value.specs.Stops.{plain};
+ghost use Rattle.tla_value.specs.Definitions.{Valuation};
+ghost use Rattle.promise.specs.ConstantsAndStates.{program};
+ghost use Rattle.translation.specs.laws.LeftToProve.{NextOfRegionLaw, InitOfRegionLaw, RegionPlaced, PromiseKept};
 ghost use Rattle.pcal_tree.specs.Variables.{declared, vars};
 ghost use Rattle.pcal_tree.specs.Labelled.{labelled};
 ghost use Rattle.module_tree.specs.Around.{Around};
@@ -35,7 +41,7 @@ ghost use Rattle.action_builder.specs.laws.LabelSteps.{action_of};
 ghost use Rattle.translation.specs.laws.ActionNames.{action_names};
 ghost use Rattle.translation.specs.laws.Steps.{written_step};
 ghost use Rattle.module_tree.specs.laws.Kept.{IsFine};
-ghost use Rattle.module_tree.specs.laws.Outsides.{HasOutside};
+ghost use Rattle.module_tree.specs.laws.Outsides.{HasOutside, SameOutside};
 ghost use Rattle.module_tree.specs.laws.WritableRegion.{IsRegion, IsWritten};
 ghost use Rattle.module_tree.specs.Layout.{layout};
 ghost use Rattle.module_tree.specs.TextFront.{Text};
@@ -50,10 +56,10 @@ ghost use Rattle.pcal_tree.specs.OffencesOfNames.{name_offences};
 ghost use Rattle.pcal_tree.specs.Expand.{expanded};
 ghost use Rattle.action_builder.specs.Assigned.{Names};
 ghost use Rattle.action_builder.specs.laws.Ready.{Once};
-ghost use Rattle.translation.specs.laws.StepsOnce.{none_set, SetsOnce};
+ghost use Rattle.translation.specs.laws.StepsOnce.{none_set, SetsOnce, JumpsOnce};
 ghost use Rattle.translation.specs.laws.JumpsEnd.{JumpsEnd};
 ghost use Rattle.translation.specs.laws.TypedAlgorithm.{IsTypedAlgorithm};
-ghost use Rattle.translation.specs.laws.AcceptedAlgorithm.{IsAccepted, EachAssignsOnce};
+ghost use Rattle.translation.specs.laws.AcceptedAlgorithm.{IsAccepted, IsAcceptedInFile, EachAssignsOnce};
 ghost use Rattle.translation.specs.laws.WritableAlgorithm.{IsStarted, IsLabelled, AreWritableStatements, IsWritableAlgorithm};
 ghost use Rattle.translation.specs.Region.{written_region, written_module};
 
@@ -143,8 +149,23 @@ pub fn jumps_end_their_lists()
 
 /// Where no rule on labels is broken, no variable is assigned again before the next label, with macro calls written out: from each label on, and in each loop from its
 /// beginning on. It is asked that an algorithm has what its text gives, so that no `either` is empty. Of statements that can be written this is what the laws of
-/// written actions ask of a step's statements.
+/// written actions ask of a step's statements. Nor was a variable of a procedure assigned before where its `return`, or a call of itself, assigns it.
 pub fn steps_assign_once()
     ensures once { (a : Algorithm) → IsTypedAlgorithm a → label_offences a ≡ [] → (u : Routine) → OneOf u (routines a) → SetsOnce none_set (expanded (reverse a.macros) u.body) }
+    ensures jumps { (a : Algorithm) → IsTypedAlgorithm a → label_offences a ≡ [] → (u : Routine) → OneOf u (procedure_routines a)
+        → JumpsOnce (effects_in (call_effect (reverse a.macros)) (Some u.name) (declared (locals u))) none_set (expanded (reverse a.macros) u.body) }
     ensures ready { (C V : Word → Bool) (A : Names) (b : Statements) → AreWritableStatements C V b → SetsOnce A b → Once A b }
+{}
+
+/// A module that is read back has the outside that the file has, in other lines; so the algorithm has the same written names beside both, and the promise speaks
+/// of one program.
+pub fn other_lines_outside_change_no_program()
+    ensures names { (o q : Outside) (g : Algorithm) → SameOutside o q → naming g o ≡ naming g q }
+    ensures program { (o : Outside) (g : Algorithm) (m : Module) → SameOutside o m.outside → (values : Valuation) → program_in plain o g values ≡ program g m values }
+{}
+
+/// Where Next and Init of the region of each accepted algorithm, with its own places, say just what the algorithm does, and forgetting places before gives that region
+/// without places, each module with the written region, in which the file's outside is in other lines, has a Next and an Init that say so too.
+pub fn the_promise_rests_on_regions()
+    ensures { NextOfRegionLaw IsAcceptedInFile → InitOfRegionLaw IsAcceptedInFile → RegionPlaced → PromiseKept IsAcceptedInFile }
 {}

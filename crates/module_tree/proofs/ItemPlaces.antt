@@ -9,8 +9,8 @@ use Rattle.tla_value.specs.laws.Places.{AgreeButPlaces, EnvsButPlaces, ChecksBut
 use Rattle.tla_value.proofs.Places.{eval_places, bind_places}
 use Rattle.module_tree.specs.ActionTruth.{is_value, are_unchanged, truth_in, members_in, item_holds, items_hold, some_branch}
 use Rattle.module_tree.specs.Module.{Item, test, setting, unchanged, exists, local, if_then_else, either, Items, no_items, item, Branches, no_branches, branch}
-use Rattle.action_builder.specs.laws.Places.{ItemButPlaces, ItemsButPlaces, BranchesButPlaces}
-use Rattle.action_builder.proofs.Alike.{then_same, and_same, or_same, cond_same, truth_same, members_same, each_same}
+use Rattle.module_tree.specs.laws.ItemPlaces.{ItemButPlaces, ItemsButPlaces, BranchesButPlaces}
+use Rattle.module_tree.proofs.OutcomesAlike.{then_same, and_same, or_same, cond_same, truth_same, members_same, each_same}
 
 value_same : {X : Type 0} (c k : Check) → ChecksButPlaces c k → (t u : Tree) → TreesButPlaces t u → (e f : Env) → EnvsButPlaces e f → (g h : Value → Outcome X) → ((v : Value) → AgreeButPlaces (g v) (h v)) → AgreeButPlaces ((eval c t e).value >>= g) ((eval k u f).value >>= h)
 value_same c k l t u p e f r g h q = then_same _ _ g h (eval_places c k l t u p e f r).value q

@@ -1,0 +1,160 @@
+-- Initial values with written names: for each process they are what the routine's scope gives, so the conjunct of Init for a variable of many processes is true
+-- just where the walk allows the variable's value; and the CASE of pc gives each process its first label.
+use Rattle.std.proofs.Common.{◌≡◌, List, [], ◌∷◌, ◌++◌, Bool, true, false, cond, Some, map, refl, sym, ◌∙◌, ap, Ok, Err, ◌⊎◌, inl, inr}
+use Rattle.tla_token.specs.declared.place.Place.{Place}
+use Rattle.tla_token.specs.Places.{nowhere}
+use Rattle.tla_tree.specs.Tree.{Word, Tree, Trees, node, tree, no_trees, cases, Every, graft, root_place}
+use Rattle.tla_tree.specs.TreeOf.{trees_from}
+use Rattle.tla_value.specs.Value.{Value, Values, truth, text, set, Outcome, ◌>>=◌, in_order, and_then, int, model, fun}
+use Rattle.tla_value.specs.Order.{same, IsAscending, IsCanonical}
+use Rattle.tla_value.specs.Stops.{plain, members_at, truth_at}
+use Rattle.tla_value.specs.Meaning.{Env, just, bind, eval, evals, test, first_arm}
+use Rattle.tla_value.specs.Grafts.{owned, through as through_env}
+use Rattle.tla_value.specs.Definitions.{Valuation, Definition, no_state, scope_of}
+use Rattle.tla_value.specs.laws.Grafting.{BindsClear}
+use Rattle.tla_value.proofs.Graft.{grafted_law}
+use Rattle.tla_value.proofs.Graft.{free_law}
+use Rattle.module_tree.specs.Formulas.{self, unset_value, function_of_self}
+use Rattle.module_tree.specs.ActionTruth.{Verdict, truth_in}
+use Rattle.module_tree.specs.ModuleTruth.{all_hold}
+use Rattle.pcal_tree.specs.Algorithm.{Start, unset, equals, among, Routine, Naming, Algorithm}
+use Rattle.pcal_tree.specs.Scope.{State, value_of}
+use Rattle.pcal_tree.specs.Program.{Program, Actor, routine_scope, global_scope}
+use Rattle.pcal_tree.specs.Calls.{defaultInitValue}
+use Rattle.pcal_tree.specs.InitialStates.{function_on, has_members, spread_allowed, values_for}
+use Rattle.pcal_tree.specs.Takers.{Taken, Takers, each_of, single, lone}
+use Rattle.pcal_tree.specs.Variables.{vars}
+use Rattle.action_builder.specs.WrittenNames.{renames, renamed}
+use Rattle.action_builder.specs.OwnVariables.{is_own_variable}
+use Rattle.action_builder.specs.InitialFormulas.{spread_start, written_in, is_taker, first_pc, arms, pc_value}
+use Rattle.action_builder.specs.laws.Ready.{values_of}
+use Rattle.pcal_tree.specs.laws.ReadNames.{Reads}
+use Rattle.action_builder.specs.laws.WrittenScope.{Seen, Common, self_bound, written_scope, definitions_of, NamesApart}
+use Rattle.action_builder.proofs.WrittenScope.{routine_meets, common_agree}
+use Rattle.pcal_tree.proofs.ProcessesInOrder.{id, ids}
+use Rattle.action_builder.proofs.SpreadStarts.{at_each_self, function_is, equal_is, functions_are}
+use Rattle.tla_value.specs.laws.FreeNames.{FreeNames, Any}
+use Rattle.tla_value.proofs.FreeNames.{free_names}
+
+-- ---- an expression with written names
+
+-- what is asked of it in a routine
+pub record IsNamed (P : Program) (extra : List Definition) (u : Routine) (e : Tree) : Type 0 where
+  pub names : Every (BindsClear P.check (renames P u)) e
+  pub own : Every (BindsClear P.check (owned self (is_own_variable P))) (renamed P u e)
+  pub reads : Reads (Seen P extra u) e
+
+pub written_expression : (P : Program) (extra : List Definition) (v : Actor) (u : Routine) → NamesApart P extra v u → (e : Tree) → IsNamed P extra u e → (s : State)
+    → eval P.check (written_in P u e) ((written_scope P extra v).env s) ≡ eval P.check e ((routine_scope P v u).env s)
+written_expression P extra v u k e n s =
+    let W = (written_scope P extra v).env s in
+    grafted_law P.check (owned self (is_own_variable P)) (renamed P u e) n.own W (through_env P.check (owned self (is_own_variable P)) W) (record { now = λ x a at. refl; primed = λ x at. refl; defs = λ x a. refl })
+    ∙ free_law P.check (renames P u) (Seen P extra u) Any e n.names n.reads _ _ ((routine_meets P extra v u k).env s)
+
+-- ---- a variable of many processes, without limits
+
+module _ (constants : Valuation) (outside : List Definition) (a : Algorithm) (names : Naming) (extra : List Definition) (u : Routine) where
+  abbrev P : Program
+  P = record { check = plain; constants = constants; outside = outside; algorithm = a; naming = names }
+
+  abbrev E : State → Env
+  E s = scope_of plain constants (definitions_of P ++ extra) (values_of (vars P) s) no_state
+
+  -- each has an identifier
+  abbrev AllNamed : List Actor → Type 0
+  AllNamed [] = Unit {0}
+  AllNamed (v ∷ vs) = (v.self ≡ Some (id v)) × NamesApart P extra v u × AllNamed vs
+
+  pub each_value : (e : Tree) → IsNamed P extra u e → (s : State) (vs : List Actor) → AllNamed vs → at_each_self (written_in P u e) (E s) vs ≡ values_for P u e s vs
+  each_value e n s [] h = refl
+  each_value e n s (v ∷ vs) h =
+      λ i. ((λ j. (eval plain (written_in P u e) (self_bound (sym h.0 j) (E s))).value) ∙ (λ j. (written_expression P extra v u h.1 e n s j).value)) i
+      >>= (λ w. each_value e n s vs h.2 i >>= (λ ws. Ok (w ∷ ws)))
+
+  same_always : (e : Tree) (w : Value) (s : State) (vs : List Actor) → ((v : Actor) → (eval plain e (bind self (id v) (E s))).value ≡ Ok w) → at_each_self e (E s) vs ≡ Ok (map (λ v. w) vs)
+  same_always e w s [] h = refl
+  same_always e w s (v ∷ vs) h = λ i. h v i >>= (λ y. same_always e w s vs h i >>= (λ ys. Ok (y ∷ ys)))
+
+  then_parts : {X Y : Type 0} (o : Outcome X) (go : X → Outcome Y) (y : Y) → (o >>= go) ≡ Ok y → (x : X) × (o ≡ Ok x) × (go x ≡ Ok y)
+  then_parts (Ok x) go y e = (x, refl, e)
+  then_parts (Err k) go y e = cc
+
+  -- what is asked of a variable's initial value: its names; and a set for all processes is an expression of none of them
+  abbrev pub StartNamed : State → Start → Type 0
+  StartNamed s unset = (v : Actor) → (eval plain unset_value (bind self (id v) (E s))).value ≡ Ok defaultInitValue
+  StartNamed s (equals e) = IsNamed P extra u e
+  StartNamed s (among e) = FreeNames (Common P extra) Any e
+
+  -- S has just these processes' identifiers, of which there is one at least where a set for all of them is asked for
+  pub spread_is : (w : Actor) → NamesApart P extra w u → (S : Tree) (s : State) (vs : List Actor) → AllNamed vs → (eval plain S (E s)).value ≡ Ok (set (ids vs)) → IsAscending (ids vs)
+      → (x : Word) (f : Value) → IsCanonical f → (E s).now x nowhere ≡ just f → (d : Start) → StartNamed s d → (at : Place) (b : Bool)
+      → spread_allowed P u vs at d s f ≡ Ok b → truth_in plain (E s) (spread_start (written_in P u) S x d) ≡ Ok b
+  spread_is w0 k0 S s vs h q up x f c r unset n at b e =
+      equal_is x (function_of_self S unset_value) (E s) f (function_on vs (map (λ v. defaultInitValue) vs)) r
+      (function_is S unset_value (E s) vs (map (λ v. defaultInitValue) vs) q up (same_always unset_value defaultInitValue s vs n)) ∙ e
+  spread_is w0 k0 S s vs h q up x f c r (equals t) n at b e =
+      let (ws, d, g) = then_parts (values_for P u t s vs) (λ ws. Ok (same f (function_on vs ws))) b e in
+      equal_is x (function_of_self S (written_in P u t)) (E s) f (function_on vs ws) r (function_is S (written_in P u t) (E s) vs ws q up (each_value t n s vs h ∙ d)) ∙ g
+  spread_is w0 k0 S s vs h q up x f c r (among t) n at b e =
+      let (w, d, g) = then_parts (value_of plain t (global_scope P) s) (λ w. members_at at w >>= (λ ws. Ok (has_members (ids vs) ws f))) b e in
+      let (ws, j, k) = then_parts (members_at at w) (λ ws. Ok (has_members (ids vs) ws f)) b g in
+      functions_are x S t (E s) f f (ids vs) ws c r q (sym (global_value s t n) ∙ d ∙ ap (λ z. Ok z) (is_set at w ws j)) ∙ k
+    where
+      global_value : (s : State) (t : Tree) → FreeNames (Common P extra) Any t → value_of plain t (global_scope P) s ≡ (eval plain t (E s)).value
+      global_value s t n = λ i. (free_names plain (Common P extra) Any t n _ _ (common_agree P extra w0 u k0 s) i).value
+
+      is_set : (at : Place) (w : Value) (ws : Values) → members_at at w ≡ Ok ws → w ≡ set ws
+      is_set at (set vs) ws e = ap (λ (o : Outcome Values). elim o [ Ok x ↦ set x | Err k ↦ set ws ]) e
+      is_set at (truth b) ws e = cc
+      is_set at (int z) ws e = cc
+      is_set at (text w) ws e = cc
+      is_set at (model w) ws e = cc
+      is_set at (fun ds us) ws e = cc
+
+-- ---- pc
+
+-- the first arm of the CASE whose test is true is that of t; those before it are false
+abbrev pub Takes : Program → Env → List Taken → Taken → Type 0
+Takes P env [] t = ⊥
+Takes P env (r ∷ rs) t = ((truth_in plain env (is_taker r.takers) ≡ Ok true) × (r ≡ t)) ⊎ ((truth_in plain env (is_taker r.takers) ≡ Ok false) × Takes P env rs t)
+
+-- the tests stand nowhere
+test_is : (e : Tree) (env : Env) (b : Bool) → root_place e ≡ nowhere → truth_in plain env e ≡ Ok b → test nowhere (eval plain e) env ≡ Ok b
+test_is e env b p q = (λ i. (eval plain e env).value >>= (truth_at (sym p i))) ∙ q
+
+taker_nowhere : (t : Takers) → root_place (is_taker t) ≡ nowhere
+taker_nowhere (each_of s) = refl
+taker_nowhere (single e) = refl
+taker_nowhere lone = refl
+
+arm_is : (P : Program) (env : Env) (ts : List Taken) (t : Taken) → Takes P env ts t → first_arm false nowhere (evals plain (trees_from (arms P ts))) env ≡ (eval plain (first_pc P t) env).value
+arm_is P env [] t h = absurd h
+arm_is P env (r ∷ rs) t (inl h) = (λ i. test_is (is_taker r.takers) env true (taker_nowhere r.takers) h.0 i >>= (λ b. cond b (eval plain (first_pc P r) env).value (first_arm false nowhere (evals plain (trees_from (arms P rs))) env))) ∙ ap (λ z. (eval plain (first_pc P z) env).value) h.1
+arm_is P env (r ∷ rs) t (inr h) = (λ i. test_is (is_taker r.takers) env false (taker_nowhere r.takers) h.0 i >>= (λ b. cond b (eval plain (first_pc P r) env).value (first_arm false nowhere (evals plain (trees_from (arms P rs))) env))) ∙ arm_is P env rs t h.1
+
+-- with one process or many
+pub pc_is : (P : Program) (env : Env) (ts : List Taken) (t : Taken) → Takes P env ts t → (eval plain (pc_value P ts) env).value ≡ (eval plain (first_pc P t) env).value
+pc_is P env [] t h = absurd h
+pc_is P env (r ∷ []) t (inl h) = ap (λ z. (eval plain (first_pc P z) env).value) h.1
+pc_is P env (r ∷ []) t (inr h) = absurd h.1
+pc_is P env (r ∷ q ∷ rs) t h = arm_is P env (r ∷ q ∷ rs) t h
+
+-- ---- all conjuncts
+
+-- where the first is a truth value, so is the second, and the same
+abbrev pub Follows : Outcome Bool → Verdict → Type 0
+Follows o v = (b : Bool) → o ≡ Ok b → v ≡ Ok b
+
+pub follows_and : (o q : Outcome Bool) (v w : Verdict) → Follows o v → Follows q w → Follows (and_then o q) (and_then v w)
+follows_and (Ok true) q v w h k b e = (λ i. and_then (h true refl i) w) ∙ k b e
+follows_and (Ok false) q v w h k b e = (λ i. and_then (h false refl i) w) ∙ e
+follows_and (Err z) q v w h k b e = cc
+
+pub hold_both : (env : Env) (xs ys : List Tree) → all_hold plain env (xs ++ ys) ≡ and_then (all_hold plain env xs) (all_hold plain env ys)
+hold_both env [] ys = refl
+hold_both env (x ∷ xs) ys = ap (and_then (truth_in plain env x)) (hold_both env xs ys) ∙ and_assoc (truth_in plain env x) (all_hold plain env xs) (all_hold plain env ys)
+  where
+    and_assoc : (a b c : Verdict) → and_then a (and_then b c) ≡ and_then (and_then a b) c
+    and_assoc (Ok true) b c = refl
+    and_assoc (Ok false) b c = refl
+    and_assoc (Err k) b c = refl
