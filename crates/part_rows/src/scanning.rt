@@ -130,17 +130,12 @@ pub fn put_views(
     match tokens(alloc, text, 0, text.len()) {
         Ok(found) => {
             for i in 0..found.items.len() {
-                told.push(letter(
-                    next_at(
-                        &found,
-                        Spot {
-                            at: i,
-                            edge,
-                            left: 0,
-                        },
-                    )
-                    .view,
-                ))?;
+                let spot = Spot {
+                    at: i,
+                    edge,
+                    left: 0,
+                };
+                told.push(letter(next_at(&found, spot).view))?;
             }
             Ok(())
         }
