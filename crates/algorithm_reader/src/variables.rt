@@ -126,7 +126,9 @@ pub fn read_section(
     ensures inside { IfOk result (λ x. x.1 ≤ length tokens.now.items.items) }
     ensures further { IfOk result (λ x. at ≤ x.1) }
 {
-    if is_next_word(tokens, at, PluscalWord::Variable) || is_next_word(tokens, at, PluscalWord::Variables) {
+    if is_next_word(tokens, at, PluscalWord::Variable)
+        || is_next_word(tokens, at, PluscalWord::Variables)
+    {
         let next = behind(tokens, at);
         read_variables(alloc, tokens, pool, next, among)
     } else {
