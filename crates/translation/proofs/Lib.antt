@@ -44,3 +44,6 @@ pub mod TypedLabels
 pub mod SameProgram
 pub mod PromiseKept
 pub mod LeftOfMacros
+pub mod VariableNames
+pub mod NamesOfRules
+pub mod NamesInSight
