@@ -47,3 +47,5 @@ pub mod LeftOfMacros
 pub mod VariableNames
 pub mod NamesOfRules
 pub mod NamesInSight
+pub mod PlacedStatements
+pub mod ReadiedSteps
