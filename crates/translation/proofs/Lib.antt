@@ -44,3 +44,5 @@ pub mod TypedLabels
 pub mod SameProgram
 pub mod PromiseKept
 pub mod LeftOfMacros
+pub mod UsedNames
+pub mod PairsApart
