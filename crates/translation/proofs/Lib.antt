@@ -49,3 +49,5 @@ pub mod NamesOfRules
 pub mod NamesInSight
 pub mod PlacedStatements
 pub mod ReadiedSteps
+pub mod UsedNames
+pub mod PairsApart
