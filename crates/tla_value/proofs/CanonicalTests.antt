@@ -204,7 +204,7 @@ strict_means : (o : Strict) (at : Place) (v : Value) (vs : List Value) → AreAl
     → MeansAlike (record { value = strict_value plain o at vs; test = λ p w. strict_test plain o at p w vs }) (just v)
 strict_means o at v vs c q = record { value = q; test = λ p w k. strict_tested o at p w vs k c ∙ ap (tested p w) q }
 
-made_means : (o : Outcome Value) (v : Value) → o ≡ Ok v → MeansAlike (sense_of o) (just v)
+pub made_means : (o : Outcome Value) (v : Value) → o ≡ Ok v → MeansAlike (sense_of o) (just v)
 made_means o v q = sense_alike o (Ok v) q
 
 -- without limits, where its names and operators do and are canonical
