@@ -4,7 +4,7 @@ use Rattle.tla_token.specs.Lexemes.{is_blank}
 use Rattle.tla_token.specs.Cut.{run}
 use Rattle.module_tree.specs.TextFront.{on_some, past_word, past_all}
 use Rattle.module_split.proofs.BeginningSteps.{options_yes}
-use Rattle.module_split.proofs.beginning.is_options.Goals as goal
+use Rattle.module_split.proofs.beginning.has_options.Goals as goal
 
 pub returns-then-blanks-gt0 : goal.returns-then-blanks-gt0
 returns-then-blanks-gt0 c =
