@@ -47,3 +47,4 @@ pub mod LeftOfMacros
 pub mod VariableNames
 pub mod NamesOfRules
 pub mod NamesInSight
+pub mod NamesApart
