@@ -48,3 +48,5 @@ pub mod VariableNames
 pub mod NamesOfRules
 pub mod NamesInSight
 pub mod NamesApart
+pub mod BoundOf
+pub mod MacrosSound

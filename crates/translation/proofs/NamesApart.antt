@@ -143,7 +143,7 @@ among_differs ws w x h k = by (bytes_eq w x) refl
     by true q = absurd (both_ways (is_among ws x) k (ap (is_among ws) (sym ((bytes_eq-Decides w x).0 q)) ∙ h))
     by false q = refl
 
-mapped_among : {X : Type 0} (f : X → Word) (xs : List X) (x : X) → OneOf x xs → is_among (map f xs) (f x) ≡ true
+pub mapped_among : {X : Type 0} (f : X → Word) (xs : List X) (x : X) → OneOf x xs → is_among (map f xs) (f x) ≡ true
 mapped_among f [] x h = absurd h
 mapped_among f (y ∷ ys) x (inl e) = or_left (bytes_eq (f y) (f x)) (is_among (map f ys) (f x)) ((bytes_eq-Decides (f y) (f x)).1 (ap f (sym e)))
 mapped_among f (y ∷ ys) x (inr k) = or_right (bytes_eq (f y) (f x)) (is_among (map f ys) (f x)) (mapped_among f ys x k)
