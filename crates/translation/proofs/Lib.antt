@@ -50,3 +50,5 @@ pub mod NamesInSight
 pub mod NamesApart
 pub mod BoundOf
 pub mod MacrosSound
+pub mod FromLabels
+pub mod NamesGiven

@@ -93,10 +93,10 @@ module _ (o : Outside) (a : Algorithm) (h : IsAcceptedInFile o a) where
 
 -- ---- what may be used is in scope
 
-in_named : (xs : List Word) (s : Standings) (y : Word) → is_among xs y ≡ true → in_scope (naming xs s) y ≡ true
+pub in_named : (xs : List Word) (s : Standings) (y : Word) → is_among xs y ≡ true → in_scope (naming xs s) y ≡ true
 in_named xs s y e = scope_of_both xs s y ∙ or_left (is_among xs y) (in_scope s y) e
 
-in_rest : (xs : List Word) (s : Standings) (y : Word) → in_scope s y ≡ true → in_scope (naming xs s) y ≡ true
+pub in_rest : (xs : List Word) (s : Standings) (y : Word) → in_scope s y ≡ true → in_scope (naming xs s) y ≡ true
 in_rest xs s y e = scope_of_both xs s y ∙ or_right (is_among xs y) (in_scope s y) e
 
 module _ (o : Outside) (a : Algorithm) where

@@ -129,7 +129,7 @@ self_none P v ss e h = by h.0 (ok_is (sym (ap (actors_in P) e) ∙ h.1)) h.2
 
 -- ---- words
 
-own_differs : (w x : Word) → is_own w ≡ true → is_own x ≡ false → bytes_eq w x ≡ false
+pub own_differs : (w x : Word) → is_own w ≡ true → is_own x ≡ false → bytes_eq w x ≡ false
 own_differs w x h k = by (bytes_eq w x) refl
   where
     by : (b : Bool) → bytes_eq w x ≡ b → b ≡ false
@@ -149,7 +149,7 @@ mapped_among f (y ∷ ys) x (inl e) = or_left (bytes_eq (f y) (f x)) (is_among (
 mapped_among f (y ∷ ys) x (inr k) = or_right (bytes_eq (f y) (f x)) (is_among (map f ys) (f x)) (mapped_among f ys x k)
 
 -- of the names that the extra definition may have
-extra_own : (m : Main) (x : Word) → is_among (titles (process_set_defined (process_set_of m))) x ≡ true → is_own x ≡ true
+pub extra_own : (m : Main) (x : Word) → is_among (titles (process_set_defined (process_set_of m))) x ≡ true → is_own x ≡ true
 extra_own (alone ss) x e = cc
 extra_own (processes ps) x e = by (bytes_eq (codes "ProcSet") x) refl e
   where
@@ -185,11 +185,11 @@ untitled_mapped : {X : Type 0} (x : Word) (f : X → Definition) (xs : List X) �
 untitled_mapped x f [] h = tt
 untitled_mapped x f (y ∷ ys) h = (h y (inl refl), untitled_mapped x f ys (λ z k. h z (inr k)))
 
-false_among : (b : Bool) → (b ≡ true → ⊥) → b ≡ false
+pub false_among : (b : Bool) → (b ≡ true → ⊥) → b ≡ false
 false_among true h = absurd (h refl)
 false_among false h = refl
 
-never : true ≡ false → ⊥
+pub never : true ≡ false → ⊥
 never e = cc
 
 -- ---- an algorithm in a module
