@@ -43,7 +43,6 @@ pub mod AcceptedAlgorithms
 pub mod TypedLabels
 pub mod SameProgram
 pub mod PromiseKept
-pub mod LeftOfMacros
 pub mod VariableNames
 pub mod NamesOfRules
 pub mod NamesInSight
