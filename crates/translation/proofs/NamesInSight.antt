@@ -196,3 +196,79 @@ found_one (d ∷ ds) x n e = by (read.arity ds x) refl (bytes_eq d.title x) refl
       where
         never : false ≡ true → ⊥
         never k = cc
+
+standard_found : (v : read.Sight) (inf : Bool) (n : ℕ) (ds : List StandardName) (x : Word) → ((d : StandardName) → OneOf d ds → is_among standard_names d.title ≡ true) → read.standard_reads v inf (standard_in ds x) n ≡ true → is_among standard_names x ≡ true
+standard_found v inf n [] x h e = cc
+standard_found v inf n (d ∷ ds) x h e = by (bytes_eq d.title x) refl e (standard_found v inf n ds x (λ c k. h c (inr k)))
+  where
+    by : (b : Bool) → bytes_eq d.title x ≡ b → read.standard_reads v inf (cond b (Some d) (standard_in ds x)) n ≡ true → (read.standard_reads v inf (standard_in ds x) n ≡ true → is_among standard_names x ≡ true) → is_among standard_names x ≡ true
+    by true q k f = subst (λ y. is_among standard_names y ≡ true) ((bytes_eq-Decides d.title x).0 q) (h d (inl refl))
+    by false q k f = f k
+
+readable : (v : read.Sight) (N : Word → Type 0) → ((x : Word) → is_among v.constants x ≡ true → N x) → ((d : Definition) → OneOf d v.earlier → N d.title) → ((x : Word) → is_among standard_names x ≡ true → N x) → Readable v N
+readable v N c d s inf x e = by (is_among v.constants x) refl e
+  where
+    by_arity : (b : Bool) → read.is_arity (read.arity v.earlier x) 0 ≡ b → (b || read.has_standard v inf x 0) ≡ true → N x
+    by_arity true q k = (let f = found_one v.earlier x 0 q in subst N f.2 (d f.0 f.1))
+    by_arity false q k = s x (standard_found v inf 0 standard_table x table_standard k)
+
+    by : (b : Bool) → is_among v.constants x ≡ b → (b || (read.is_arity (read.arity v.earlier x) 0 || read.has_standard v inf x 0)) ≡ true → N x
+    by true q k = c x q
+    by false q k = by_arity (read.is_arity (read.arity v.earlier x) 0) refl k
+
+more_none : (N : Word → Type 0) (ds : List Definition) → ((d : Definition) → OneOf d ds → N d.title) → (d : Definition) → OneOf d (ds ++ []) → N d.title
+more_none N ds e d k = by (one_either d ds [] k)
+  where
+    by : OneOf d ds ⊎ OneOf d [] → N d.title
+    by (inl m) = e d m
+    by (inr m) = absurd m
+
+-- each definition reads what is before it
+units_read : (N : Word → Type 0) → ((x : Word) → is_among standard_names x ≡ true → N x) → (b : Bool) (v : read.Sight) (tss : List (List Token)) (us : List OutsideUnit) → AllOutside b v tss us
+    → ((x : Word) → is_among v.constants x ≡ true → N x) → ((d : Definition) → OneOf d v.earlier → N d.title) → ((d : ReadDefinition) → OneOf d (flat_map definitions_of us) → N d.definition.title)
+    → AllRead N (found (flat_map definitions_of us))
+units_read N s b v [] [] h c e t = tt
+units_read N s b v [] (u ∷ us) h c e t = absurd h
+units_read N s b v (ts ∷ tss) [] h c e t = absurd h
+units_read N s b v (ts ∷ tss) (extends ms ∷ us) h c e t = units_read N s b (record v { earlier = v.earlier ++ [] }) tss us h.1 c (more_none N v.earlier e) t
+units_read N s b v (ts ∷ tss) (constants xs ∷ us) h c e t = units_read N s b (record v { earlier = v.earlier ++ [] }) tss us h.1 c (more_none N v.earlier e) t
+units_read N s b v (ts ∷ tss) (opaque q ∷ us) h c e t = units_read N s b (record v { earlier = v.earlier ++ [] }) tss us h.1 c (more_none N v.earlier e) t
+units_read N s b v (ts ∷ tss) (defines d ∷ us) h c e t = (
+  definition_free v N (readable v N c e s) d.definition h.0.1.reads,
+  units_read N s b (record v { earlier = v.earlier ++ (d.definition ∷ []) }) tss us h.1 c (λ x k. by x (one_either x v.earlier (d.definition ∷ []) k)) (λ x k. t x (inr k)),
+)
+  where
+    by : (x : Definition) → OneOf x v.earlier ⊎ OneOf x (d.definition ∷ []) → N x.title
+    by x (inl k) = e x k
+    by x (inr (inl q)) = subst (λ (y : Definition). N y.title) (sym q) (t d (inl refl))
+    by x (inr (inr k)) = absurd k
+
+pub read_joined : (N : Word → Type 0) (ds es : List Definition) → AllRead N ds → AllRead N es → AllRead N (ds ++ es)
+read_joined N [] es h k = k
+read_joined N (d ∷ ds) es h k = (h.0, read_joined N ds es h.1 k)
+
+found_joined : (N : Word → Type 0) (us ys : List OutsideUnit) → AllRead N (found (flat_map definitions_of us)) → AllRead N (found (flat_map definitions_of ys)) → AllRead N (found (flat_map definitions_of (us ++ ys)))
+found_joined N [] ys h k = k
+found_joined N (extends ms ∷ us) ys h k = found_joined N us ys h k
+found_joined N (constants xs ∷ us) ys h k = found_joined N us ys h k
+found_joined N (opaque q ∷ us) ys h k = found_joined N us ys h k
+found_joined N (defines d ∷ us) ys h k = (h.0, found_joined N us ys h.1 k)
+
+one_before : (d : ReadDefinition) (us ys : List OutsideUnit) → OneOf d (flat_map definitions_of us) ⊎ OneOf d (flat_map definitions_of ys) → OneOf d (flat_map definitions_of (us ++ ys))
+one_before d [] ys (inl k) = absurd k
+one_before d [] ys (inr k) = k
+one_before d (extends ms ∷ us) ys h = one_before d us ys h
+one_before d (constants xs ∷ us) ys h = one_before d us ys h
+one_before d (opaque q ∷ us) ys h = one_before d us ys h
+one_before d (defines c ∷ us) ys (inl (inl e)) = inl e
+one_before d (defines c ∷ us) ys (inl (inr k)) = inr (one_before d us ys (inl k))
+one_before d (defines c ∷ us) ys (inr k) = inr (one_before d us ys (inr k))
+
+-- definitions outside read only names that may be used there
+pub outside_read : (ds : List Located) (o : Outside) (N : Word → Type 0) → HasOutside ds o → UsedOutside o N → AllRead N (found o.definitions)
+outside_read ds o N h u =
+    let titles : (d : ReadDefinition) → OneOf d (flat_map definitions_of (h.before ++ h.after)) → N d.definition.title = λ d k. u.definitions d (subst (λ (q : Outside). OneOf d q.definitions) (sym h.is) k) in
+    subst (λ (q : Outside). AllRead N (found q.definitions)) (sym h.is)
+    (found_joined N h.before h.after
+    (units_read N u.standard true (sight_in o) (units_in (before_spot ds)).units h.before h.are_before u.constants (λ d k. absurd k) (λ d k. titles d (one_before d h.before h.after (inl k))))
+    (units_read N u.standard false (sight_in o) (units_in (after_spot ds)).units h.after h.are_after u.constants (λ d k. absurd k) (λ d k. titles d (one_before d h.before h.after (inr k)))))

@@ -14,7 +14,9 @@ use Rattle.tla_value.specs.Outside.{Outside, Opaque, ReadDefinition}
 use Rattle.pcal_tree.specs.Algorithm.{Declaration, locals, Definition, Macro, Procedure, Process, Main, alone, processes, Routine, procedure_routine, process_routine, numbered, first_procedure, first_process, procedure_routines, main_routines, routines, Algorithm}
 use Rattle.pcal_tree.specs.BoundNames.{all_of, bound_lists}
 use Rattle.pcal_tree.specs.Offences.{offence_if}
-use Rattle.pcal_tree.specs.OffencesNames.{repeated, names_of, kept_names, repeated_names}
+use Rattle.pcal_tree.specs.OffencesNames.{use_offences_of, repeated, names_of, kept_names, repeated_names}
+use Rattle.pcal_tree.specs.OffencesOfNames.{offences_of_uses, offences_of_declarations, offences_of_reads, through_each_call, name_offences}
+use Rattle.pcal_tree.specs.OffencesRebind.{rebind_offences_of}
 use Rattle.pcal_tree.specs.OffencesReserved.{names_of_definition, names_of_macro, names_of_procedure, names_of_process, names_of_main, declared_names, reserved_name, reserved_read, reserved_opaque, reserved_outside, reserved_declared}
 use Rattle.pcal_tree.specs.Outside.{unit_names}
 use Rattle.pcal_tree.specs.Processes.{OneOf}
@@ -180,3 +182,15 @@ kept_once o a e =
           (each_to (λ x. Each (λ y. bytes_eq y x ≡ false) (words ds)) (λ x. bytes_eq d.name.word x ≡ false) (λ x q. of_map (λ y. bytes_eq y x ≡ false) (λ (c : Definition). c.name) a.definitions q d h) (words ns)
           (apart_lists (unit_names o) ns ds k));
     }
+
+-- ---- all rules on names
+
+-- uses, names declared twice, names bound again, reserved names
+pub rules_of_names : (a : Algorithm) (o : Outside) → name_offences a o ≡ [] → (use_offences_of a o ≡ []) × (repeated_names a o ≡ []) × (rebind_offences_of a o ≡ []) × (reserved_declared a o ≡ [])
+rules_of_names a o h =
+    let F = through_each_call a o in
+    let p = both_none (offences_of_uses F a o) _ h in
+    let q = both_none (offences_of_declarations F a o) (offences_of_reads F a) p.1 in
+    let r = both_none (repeated_names a o) _ q.0 in
+    let s = both_none F.rebound (reserved_declared a o) r.1 in
+    ((both_none F.uses _ p.0).0, r.0, s.0, s.1)

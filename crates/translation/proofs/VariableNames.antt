@@ -26,6 +26,10 @@ pub each_to : (Q R : Word → Type 0) → ((x : Word) → Q x → R x) → (xs :
 each_to Q R f [] h = tt
 each_to Q R f (x ∷ xs) h = (f x h.0, each_to Q R f xs h.1)
 
+pub each_from : (Q : Word → Type 0) (xs : List Word) → ((x : Word) → OneOf x xs → Q x) → Each Q xs
+each_from Q [] h = tt
+each_from Q (x ∷ xs) h = (h x (inl refl), each_from Q xs (λ y k. h y (inr k)))
+
 -- what no member is isn't among them
 pub none_among : (xs : List Word) (x : Word) → Each (λ y. bytes_eq y x ≡ false) xs → is_among xs x ≡ false
 none_among [] x h = refl
@@ -45,7 +49,7 @@ module _ (P : Program) (Q : Word → Type 0) where
       each_joined Q (written_all P u (locals u)) (written_by_all P us) (each_map Q (written P u) (declared (locals u)) (h u (inl refl)))
       (written_each us (λ w k. h w (inr k)))
 
-  stack_each : (us : List Routine) → Q stack → Each Q (stack_for us)
+  pub stack_each : (us : List Routine) → Q stack → Each Q (stack_for us)
   stack_each [] h = tt
   stack_each (u ∷ us) h = (h, tt)
 
@@ -75,7 +79,7 @@ module _ (P : Program) (Q : Word → Type 0) where
   numbered_spread n (p ∷ ps) u (inr k) = numbered_spread (suc n) ps u k
 
   -- those that are functions of identifiers
-  pub own_each : Q pc → Q stack → ((u : Routine) → OneOf u (routines P.algorithm) → u.spread ≡ true → (x : Word) → OneOf x (declared (locals u)) → Q (written P u x)) → Each Q (own_variables P)
+  pub own_each : Q pc → Each Q (stack_for (procedure_routines P.algorithm)) → ((u : Routine) → OneOf u (routines P.algorithm) → u.spread ≡ true → (x : Word) → OneOf x (declared (locals u)) → Q (written P u x)) → Each Q (own_variables P)
   own_each p s h = by P.algorithm.main refl
     where
       us : List Routine
@@ -88,7 +92,11 @@ module _ (P : Program) (Q : Word → Type 0) where
           let there : (u : Routine) → OneOf u ms → OneOf u (main_routines P.algorithm P.algorithm.main) = λ u k. subst (λ m. OneOf u (main_routines P.algorithm m)) (sym e) k in (
             p,
             each_joined Q (stack_for us ++ written_by_all P us) (written_by_all P (filter (λ u. u.spread) ms))
+<<<<<<< HEAD
                 (each_joined Q (stack_for us) (written_by_all P us) (stack_each us s)
+=======
+                (each_joined Q (stack_for us) (written_by_all P us) s
+>>>>>>> ddb3c53161cf9e5810ac9def17361b2962599e76
                 (written_each us (λ u k. h u (one_left u us (main_routines P.algorithm P.algorithm.main) k) (numbered_spread (first_procedure P.algorithm) P.algorithm.procedures u k))))
                 (written_each (filter (λ u. u.spread) ms) (λ u k. let r = filtered (λ u. u.spread) u ms k in h u (one_right u us (main_routines P.algorithm P.algorithm.main) (there u r.0)) r.1)),
           )
@@ -96,7 +104,7 @@ module _ (P : Program) (Q : Word → Type 0) where
 -- ---- a routine's own variables are among these
 
 module _ (P : Program) where
-  map_among : (f : Word → Word) (xs : List Word) (x : Word) → OneOf x xs → is_among (map f xs) (f x) ≡ true
+  pub map_among : (f : Word → Word) (xs : List Word) (x : Word) → OneOf x xs → is_among (map f xs) (f x) ≡ true
   map_among f [] x h = absurd h
   map_among f (y ∷ ys) x (inl e) = or_left (bytes_eq (f y) (f x)) (is_among (map f ys) (f x)) ((bytes_eq-Decides (f y) (f x)).1 (ap f (sym e)))
   map_among f (y ∷ ys) x (inr k) = or_right (bytes_eq (f y) (f x)) (is_among (map f ys) (f x)) (map_among f ys x k)
