@@ -92,11 +92,7 @@ module _ (P : Program) (Q : Word → Type 0) where
           let there : (u : Routine) → OneOf u ms → OneOf u (main_routines P.algorithm P.algorithm.main) = λ u k. subst (λ m. OneOf u (main_routines P.algorithm m)) (sym e) k in (
             p,
             each_joined Q (stack_for us ++ written_by_all P us) (written_by_all P (filter (λ u. u.spread) ms))
-<<<<<<< HEAD
-                (each_joined Q (stack_for us) (written_by_all P us) (stack_each us s)
-=======
                 (each_joined Q (stack_for us) (written_by_all P us) s
->>>>>>> ddb3c53161cf9e5810ac9def17361b2962599e76
                 (written_each us (λ u k. h u (one_left u us (main_routines P.algorithm P.algorithm.main) k) (numbered_spread (first_procedure P.algorithm) P.algorithm.procedures u k))))
                 (written_each (filter (λ u. u.spread) ms) (λ u k. let r = filtered (λ u. u.spread) u ms k in h u (one_right u us (main_routines P.algorithm P.algorithm.main) (there u r.0)) r.1)),
           )
