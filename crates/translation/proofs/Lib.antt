@@ -52,3 +52,5 @@ pub mod BoundOf
 pub mod MacrosSound
 pub mod FromLabels
 pub mod NamesGiven
+pub mod UsedNames
+pub mod PairsApart
