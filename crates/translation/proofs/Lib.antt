@@ -54,3 +54,4 @@ pub mod FromLabels
 pub mod NamesGiven
 pub mod UsedNames
 pub mod PairsApart
+pub mod PlacelessItems
