@@ -55,3 +55,4 @@ pub mod NamesGiven
 pub mod UsedNames
 pub mod PairsApart
 pub mod PlacelessItems
+pub mod PlacelessJumps
