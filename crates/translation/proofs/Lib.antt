@@ -56,3 +56,5 @@ pub mod UsedNames
 pub mod PairsApart
 pub mod PlacelessItems
 pub mod PlacelessJumps
+pub mod PlacesTwice
+pub mod PlacelessUnits
