@@ -58,3 +58,4 @@ pub mod PlacelessItems
 pub mod PlacelessJumps
 pub mod PlacesTwice
 pub mod PlacelessUnits
+pub mod RegionPlaced

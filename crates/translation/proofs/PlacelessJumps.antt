@@ -17,7 +17,7 @@ use Rattle.pcal_tree.specs.Program.{Program, written}
 use Rattle.pcal_tree.specs.Run.{Partner, no_partner, goto_partner, return_partner}
 use Rattle.pcal_tree.specs.Takers.{Takers, each_of, single, lone, takers_of, Taken, taken_process, taken_main}
 use Rattle.pcal_tree.specs.Variables.{declared, written_all, written_by_all, stack_for, pc, stack, vars}
-use Rattle.action_builder.specs.Jumps.{name_at, text_at, one_assignment, jump_written, kept_field, stack_rest, fields_restored, return_assignments, return_written, names_at, pushed_on, stack_pushed, arguments_assigned, variables_written, call_written, kept_fields, values_kept, stack_replaced, fields_of, others_restored, pair_body, pair_written, call_with, call_to, written_jumps}
+use Rattle.action_builder.specs.Jumps.{name_at, text_at, one_assignment, jump_written, kept_field, stack_rest, fields_restored, return_assignments, return_written, names_at, pushed_on, stack_pushed, arguments_assigned, variables_written, call_written, kept_fields, field_of, values_kept, stack_replaced, fields_of, others_restored, pair_body, pair_written, call_with, call_to, written_jumps}
 use Rattle.action_builder.specs.LabelActions.{procedure_takers, taken_procedures, no_jump_places, initial_tree, written_initials}
 use Rattle.action_builder.specs.OwnVariables.{own_under, own_variables, is_own_variable, localised}
 use Rattle.action_builder.specs.Written.{old_stack}
@@ -199,7 +199,7 @@ module _ (outside : List Definition) (N : Naming) where
 
     fields_bare : (st : Word) (xs : List Word) → assignments_placeless (fields_of nowhere st xs) ≡ fields_of nowhere st xs
     fields_bare st [] = refl
-    fields_bare st (x ∷ xs) = ap (assignment (name_at nowhere x) (Rattle.action_builder.specs.Jumps.field_of nowhere st x)) (fields_bare st xs)
+    fields_bare st (x ∷ xs) = ap (assignment (name_at nowhere x) (field_of nowhere st x)) (fields_bare st xs)
 
     arguments_bare : (xs : List Word) (ts : Trees) → assignments_placeless (arguments_assigned xs ts) ≡ arguments_assigned xs (trees_placeless ts)
     arguments_bare [] ts = refl

@@ -32,7 +32,7 @@ use Rattle.action_builder.specs.OwnVariables.{is_own_variable, localised}
 use Rattle.action_builder.specs.Prepared.{prepared, action_items}
 use Rattle.action_builder.specs.ProcessSets.{set_of_takers, union_from, union, sets_of_processes, process_set_of}
 use Rattle.action_builder.specs.SingleProcess.{in_place_of}
-use Rattle.action_builder.specs.WrittenNames.{written_statements}
+use Rattle.action_builder.specs.WrittenNames.{renamed, written_statements}
 use Rattle.translation.proofs.NoPlaces.{all_labels}
 use Rattle.translation.proofs.PlacelessItems.{label_bare, prepared_bare, actions_bare, items_bare, put_for}
 use Rattle.translation.proofs.PlacelessJumps.{routine_placeless, takers_placeless, taken_placeless, routines_bare, mains_bare, taken_one, taken_bare, taken_procedures_bare, locals_bare, Q, b, own_same, vars_bare, renamed_bare, localised_bare, written_bare, first_bare, jumps_bare}
@@ -40,15 +40,15 @@ use Rattle.translation.proofs.WritableBare.{graft_bare}
 
 -- ---- lists
 
-each_bare : {X Y Z W : Type 0} (h : Y → W) (k : X → Z) (F : X → Y) (G : Z → W) → ((x : X) → h (F x) ≡ G (k x)) → (xs : List X) → map h (map F xs) ≡ map G (map k xs)
+pub each_bare : {X Y Z W : Type 0} (h : Y → W) (k : X → Z) (F : X → Y) (G : Z → W) → ((x : X) → h (F x) ≡ G (k x)) → (xs : List X) → map h (map F xs) ≡ map G (map k xs)
 each_bare h k F G e [] = refl
 each_bare h k F G e (x ∷ xs) = λ i. e x i ∷ each_bare h k F G e xs i
 
-each_same : {X Y : Type 0} (h : Y → Y) (F G : X → Y) → ((x : X) → h (F x) ≡ G x) → (xs : List X) → map h (map F xs) ≡ map G xs
+pub each_same : {X Y : Type 0} (h : Y → Y) (F G : X → Y) → ((x : X) → h (F x) ≡ G x) → (xs : List X) → map h (map F xs) ≡ map G xs
 each_same h F G e [] = refl
 each_same h F G e (x ∷ xs) = λ i. e x i ∷ each_same h F G e xs i
 
-flat_bare : {X Y Z W : Type 0} (h : Y → W) (k : X → Z) (F : X → List Y) (G : Z → List W) → ((x : X) → map h (F x) ≡ G (k x)) → (xs : List X) → map h (flat_map F xs) ≡ flat_map G (map k xs)
+pub flat_bare : {X Y Z W : Type 0} (h : Y → W) (k : X → Z) (F : X → List Y) (G : Z → List W) → ((x : X) → map h (F x) ≡ G (k x)) → (xs : List X) → map h (flat_map F xs) ≡ flat_map G (map k xs)
 flat_bare h k F G e [] = refl
 flat_bare h k F G e (x ∷ xs) = map-append h (F x) (flat_map F xs) ∙ (λ i. e x i ++ flat_bare h k F G e xs i)
 
@@ -101,7 +101,7 @@ parameter_bare (each_of s) = refl
 parameter_bare (single e) = refl
 parameter_bare lone = refl
 
-call_bare : (t : Takers) (a : Word) → call_placeless (call_by t a) ≡ call_by (takers_placeless t) a
+pub call_bare : (t : Takers) (a : Word) → call_placeless (call_by t a) ≡ call_by (takers_placeless t) a
 call_bare (each_of s) a = refl
 call_bare (single e) a = refl
 call_bare lone a = refl
@@ -277,7 +277,7 @@ module _ (outside : List outside_of.Definition) (N : Naming) (g : Algorithm) whe
   spread_bare f h k s x (among e) = refl
 
   in_bare : (u : Routine) (e : Tree) → tree_placeless (written_in P u e) ≡ written_in B (routine_placeless u) (tree_placeless e)
-  in_bare u e = localised_bare outside N g (Rattle.action_builder.specs.WrittenNames.renamed P u e) ∙ ap (localised B) (renamed_bare outside N g u e)
+  in_bare u e = localised_bare outside N g (renamed P u e) ∙ ap (localised B) (renamed_bare outside N g u e)
 
   start_bare : (u : Routine) (t : Takers) (x : Word) (d : Start) → tree_placeless (start_by P u t x d) ≡ start_by B (routine_placeless u) (takers_placeless t) x (start_placeless d)
   start_bare u (each_of s) x d = spread_bare (written_in P u) (written_in B (routine_placeless u)) (in_bare u) s x d
