@@ -59,3 +59,4 @@ pub mod PlacelessJumps
 pub mod PlacesTwice
 pub mod PlacelessUnits
 pub mod RegionPlaced
+pub mod BoundSettled
