@@ -51,3 +51,7 @@ pub mod BoundOf
 pub mod MacrosSound
 pub mod FromLabels
 pub mod NamesGiven
+pub mod PlacedStatements
+pub mod ReadiedSteps
+pub mod UsedNames
+pub mod PairsApart
