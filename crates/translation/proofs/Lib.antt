@@ -46,10 +46,6 @@ pub mod PromiseKept
 pub mod VariableNames
 pub mod NamesOfRules
 pub mod NamesInSight
-pub mod PlacedStatements
-pub mod ReadiedSteps
-pub mod UsedNames
-pub mod PairsApart
 pub mod NamesApart
 pub mod BoundOf
 pub mod MacrosSound
@@ -63,3 +59,7 @@ pub mod PlacesTwice
 pub mod PlacelessUnits
 pub mod RegionPlaced
 pub mod BoundSettled
+pub mod PlacedStatements
+pub mod ReadiedSteps
+pub mod UsedNames
+pub mod PairsApart
