@@ -60,3 +60,4 @@ pub mod PlacesTwice
 pub mod PlacelessUnits
 pub mod RegionPlaced
 pub mod BoundSettled
+pub mod ProcedureStarts
