@@ -61,3 +61,4 @@ pub mod PlacelessUnits
 pub mod RegionPlaced
 pub mod BoundSettled
 pub mod ProcedureStarts
+pub mod TidySteps

@@ -53,12 +53,13 @@ pub record Stance (P : Program) (v : Actor) (d : Stand) : Type 0 where
 abbrev pub bindable : Program → Word → Bool
 bindable P x = is_among (old_stack ∷ words (all_of (bound_lists P.algorithm))) x
 
+-- with these procedures
+abbrev pub callable_of : Program → List Routine → Callable
+callable_of P [] = no_calls
+callable_of P (u ∷ us) = callable_in_pairs P
+
 abbrev pub callable_for : Program → Callable
-callable_for P = by (procedure_routines P.algorithm)
-  where
-    by : List Routine → Callable
-    by [] = no_calls
-    by (u ∷ us) = callable_in_pairs P
+callable_for P = callable_of P (procedure_routines P.algorithm)
 
 module _ (Accepted : Words) where
   -- written names are apart, and definitions read none of them
