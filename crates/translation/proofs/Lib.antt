@@ -62,3 +62,4 @@ pub mod RegionPlaced
 pub mod BoundSettled
 pub mod ProcedureStarts
 pub mod TidySteps
+pub mod FramesAccepted
