@@ -63,3 +63,4 @@ pub mod BoundSettled
 pub mod ProcedureStarts
 pub mod TidySteps
 pub mod FramesAccepted
+pub mod PreparedSteps

@@ -220,7 +220,7 @@ module _ (o : Outside) (a : Algorithm) (h : IsAcceptedInFile o a) (values : Valu
   pub bound_all : AllIn Bound (bound_lists a)
   bound_all = each_from Bound (words (all_of (bound_lists a))) (λ x k. (one_is_among (words (all_of (bound_lists a))) x k, one_each_of (Unreserved o) (words (all_of (bound_lists a))) (free o a h).bound x k))
 
-  bound_kept : (x : Word) → is_among (words (all_of (bound_lists a))) x ≡ true → is_among (kept a) x ≡ true
+  pub bound_kept : (x : Word) → is_among (words (all_of (bound_lists a))) x ≡ true → is_among (kept a) x ≡ true
   bound_kept x e =
       among_later (declared a.globals) _ x
       (among_later (flat_map (λ (d : tree.Definition). d.name.word ∷ words d.params) a.definitions) _ x
