@@ -43,10 +43,13 @@ pub mod AcceptedAlgorithms
 pub mod TypedLabels
 pub mod SameProgram
 pub mod PromiseKept
-pub mod LeftOfMacros
 pub mod VariableNames
 pub mod NamesOfRules
 pub mod NamesInSight
+pub mod PlacedStatements
+pub mod ReadiedSteps
+pub mod UsedNames
+pub mod PairsApart
 pub mod NamesApart
 pub mod BoundOf
 pub mod MacrosSound

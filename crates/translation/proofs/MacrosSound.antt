@@ -28,7 +28,6 @@ use Rattle.translation.specs.laws.TypedAlgorithm.{IsTypedMacro, IsTypedAlgorithm
 use Rattle.translation.specs.laws.WritableAlgorithm.{IsStarted}
 use Rattle.translation.proofs.BoundOf.{AllIn, BindsAll, MacrosAll, in_both, in_flat, body_bound}
 use Rattle.translation.proofs.FewNames.{tokens_within}
-use Rattle.translation.proofs.LeftOfMacros.{SoundMacrosLaw, SeenInScopeLaw}
 use Rattle.translation.proofs.NamesApart.{free, mapped_among}
 use Rattle.translation.proofs.NamesInSight.{one_reversed, UsedOutside, sees_map, sees_inside}
 use Rattle.translation.proofs.NamesOfRules.{Unreserved, rules_of_names}
@@ -139,10 +138,12 @@ module _ (o : Outside) (a : Algorithm) where
   kept_of r y (inl e) = inl (or_left (in_scope r y) false e)
   kept_of r y (inr e) = inr e
 
--- ---- the laws
+-- ---- of an accepted algorithm
 
-pub sound_macros_law : SoundMacrosLaw IsAcceptedInFile
-sound_macros_law o g h = macros_sound o g h
+-- each macro's text, with its parameters in scope, binds nothing again, and no name of the translation; it begins with a statement, and jumps nowhere
+pub sound_macros : (o : Outside) (g : Algorithm) → IsAcceptedInFile o g → SoundMacros o.extended g.procedures (standing_inside g o) (reverse g.macros)
+sound_macros o g h = macros_sound o g h
 
-pub seen_in_scope_law : SeenInScopeLaw IsAcceptedInFile
-seen_in_scope_law o g h u k y n = kept_of o g (naming (declared (locals u)) (standing_inside g o)) y (seen_in_scope o g (declared (locals u)) y n)
+-- what may be used in a routine's body is in scope there, or may never be bound
+pub all_in_scope : (o : Outside) (g : Algorithm) (u : Routine) → Sees (seeing_variables (declared (locals u)) (sight_inside g o)) (Kept o.extended g.procedures (record { base = naming (declared (locals u)) (standing_inside g o); others = [] }))
+all_in_scope o g u y n = kept_of o g (naming (declared (locals u)) (standing_inside g o)) y (seen_in_scope o g (declared (locals u)) y n)

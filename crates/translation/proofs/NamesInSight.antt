@@ -118,9 +118,10 @@ module _ (o : Outside) (N : Word → Type 0) (h : UsedOutside o N) where
         → AllRead N (map inner ds)
     definitions_read [] s m k e = tt
     definitions_read (d ∷ ds) s m k e =
-        let p = both_none (in_whole d.body (seeing_plain (words d.params) s)) (in_definitions ds (defined_inside d ∷ s)) e in
-        ((parts_seen (words d.params ∷ []) false (tree d.body no_trees) s N k (ap (λ rs. rs ++ []) p.0)).0,
-        definitions_read ds (defined_inside d ∷ s) (λ c q. m c (inr q)) (sees_map defined_inside N (d ∷ []) s (λ c q u. one c q) k) p.1)
+        let p = both_none (in_whole d.body (seeing_plain (words d.params) s)) (in_definitions ds (defined_inside d ∷ s)) e in (
+          (parts_seen (words d.params ∷ []) false (tree d.body no_trees) s N k (ap (λ rs. rs ++ []) p.0)).0,
+          definitions_read ds (defined_inside d ∷ s) (λ c q. m c (inr q)) (sees_map defined_inside N (d ∷ []) s (λ c q u. one c q) k) p.1,
+        )
       where
         one : (c : tree.Definition) → OneOf c (d ∷ []) → N c.name.word
         one c (inl q) = subst (λ (b : tree.Definition). N b.name.word) (sym q) (m d (inl refl))
@@ -232,9 +233,10 @@ units_read N s b v (ts ∷ tss) [] h c e t = absurd h
 units_read N s b v (ts ∷ tss) (extends ms ∷ us) h c e t = units_read N s b (record v { earlier = v.earlier ++ [] }) tss us h.1 c (more_none N v.earlier e) t
 units_read N s b v (ts ∷ tss) (constants xs ∷ us) h c e t = units_read N s b (record v { earlier = v.earlier ++ [] }) tss us h.1 c (more_none N v.earlier e) t
 units_read N s b v (ts ∷ tss) (opaque q ∷ us) h c e t = units_read N s b (record v { earlier = v.earlier ++ [] }) tss us h.1 c (more_none N v.earlier e) t
-units_read N s b v (ts ∷ tss) (defines d ∷ us) h c e t =
-    (definition_free v N (readable v N c e s) d.definition h.0.1.reads,
-    units_read N s b (record v { earlier = v.earlier ++ (d.definition ∷ []) }) tss us h.1 c (λ x k. by x (one_either x v.earlier (d.definition ∷ []) k)) (λ x k. t x (inr k)))
+units_read N s b v (ts ∷ tss) (defines d ∷ us) h c e t = (
+  definition_free v N (readable v N c e s) d.definition h.0.1.reads,
+  units_read N s b (record v { earlier = v.earlier ++ (d.definition ∷ []) }) tss us h.1 c (λ x k. by x (one_either x v.earlier (d.definition ∷ []) k)) (λ x k. t x (inr k)),
+)
   where
     by : (x : Definition) → OneOf x v.earlier ⊎ OneOf x (d.definition ∷ []) → N x.title
     by x (inl k) = e x k

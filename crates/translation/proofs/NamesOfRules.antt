@@ -161,9 +161,10 @@ apart_lists : (seen : List Word) (xs ys : List Name) → repeated seen (xs ++ ys
 apart_lists seen [] ys e = tt
 apart_lists seen (n ∷ ns) ys e =
     let p = both_none _ (repeated (n.word ∷ seen) (ns ++ ys)) e in
-    let k = split (λ y. is_among (n.word ∷ seen) y ≡ false) ns ys (apart_from (n.word ∷ seen) (ns ++ ys) p.1) in
-    (each_to (λ y. is_among (n.word ∷ seen) y ≡ false) (λ y. bytes_eq y n.word ≡ false) (λ y h. turned n.word y (or_parts (bytes_eq n.word y) (is_among seen y) h).0) (words ys) k.1,
-    apart_lists (n.word ∷ seen) ns ys p.1)
+    let k = split (λ y. is_among (n.word ∷ seen) y ≡ false) ns ys (apart_from (n.word ∷ seen) (ns ++ ys) p.1) in (
+      each_to (λ y. is_among (n.word ∷ seen) y ≡ false) (λ y. bytes_eq y n.word ≡ false) (λ y h. turned n.word y (or_parts (bytes_eq n.word y) (is_among seen y) h).0) (words ys) k.1,
+      apart_lists (n.word ∷ seen) ns ys p.1,
+    )
 
 pub record NamesOnce (o : Outside) (a : Algorithm) : Type 0 where
   pub outside : Each (λ x. is_among (unit_names o) x ≡ false) (declared a.globals)

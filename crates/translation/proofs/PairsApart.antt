@@ -232,12 +232,12 @@ module _ (o : Outside) (a : Algorithm) (h : IsWritableAlgorithm o a) (n : name_o
   apart_units u p k l d x y i j =
       false_from_ne_true (bytes_eq (written Q u x) (written Q p y))
       (λ e.
-        let f = looked o.extended (taken_at_start a o) (wanted a) u.number variable x (local_wanted o a h u x k i) in
-        let g = looked o.extended (taken_at_start a o) (wanted a) p.number variable y (local_wanted o a h p y l j) in
-        let same : f.found ≡ g.found =
-        one_given (given a o) f.found g.found (given_apart o.extended (taken_at_start a o) (wanted a) h.few) f.listed g.listed (sym f.written ∙ (bytes_eq-Decides (written Q u x) (written Q p y)).0 e ∙ g.written) in
-        let q : u.number ≡ p.number = ap (λ w. w.unit) (sym f.is ∙ ap (λ z. z.want) same ∙ g.is) in
-        both_ways (nat_eq u.number p.number) d (eq-eqb u.number p.number q))
+      let f = looked o.extended (taken_at_start a o) (wanted a) u.number variable x (local_wanted o a h u x k i) in
+      let g = looked o.extended (taken_at_start a o) (wanted a) p.number variable y (local_wanted o a h p y l j) in
+      let same : f.found ≡ g.found =
+      one_given (given a o) f.found g.found (given_apart o.extended (taken_at_start a o) (wanted a) h.few) f.listed g.listed (sym f.written ∙ (bytes_eq-Decides (written Q u x) (written Q p y)).0 e ∙ g.written) in
+      let q : u.number ≡ p.number = ap (λ w. w.unit) (sym f.is ∙ ap (λ z. z.want) same ∙ g.is) in
+      both_ways (nat_eq u.number p.number) d (eq-eqb u.number p.number q))
 
   pc_no_global : declares a.globals pc ≡ false
   pc_no_global =
@@ -273,21 +273,23 @@ module _ (o : Outside) (a : Algorithm) (h : IsWritableAlgorithm o a) (n : name_o
         other y t e' =
             false_from_ne_true (bytes_eq (written Q p x) (written Q p y))
             (λ z.
-              let same = (bytes_eq-Decides x y).0 ((variables_named o a h p k).apart x y l (among_one (declared (locals p)) y e') z) in
-              both_ways (is_later a earlier y) t (λ i. among_all p k y e' i && not ((ap (is_among earlier) (sym same) ∙ f) i)))
+            let same = (bytes_eq-Decides x y).0 ((variables_named o a h p k).apart x y l (among_one (declared (locals p)) y e') z) in
+            both_ways (is_later a earlier y) t (λ i. among_all p k y e' i && not ((ap (is_among earlier) (sym same) ∙ f) i)))
 
     rests : (earlier : List Word) (ds : List Declaration) → later_in a earlier ds ≡ [] → Each (λ x. is_among earlier x ≡ false) (declared ds) → AllUnlike (declared ds)
         → ((x : Word) → OneOf x (declared ds) → OneOf x (declared (locals p))) → AllByRecursion IsWritableDeclaration ds → (at : Place) → RestOnEarlier Q v p at ds
     rests earlier [] q f u i c at = tt
     rests earlier (d ∷ ds) q f u i c at =
         let r = both_none _ (later_in a (d.name.word ∷ earlier) ds) q in (
-          ((λ w s. any_value_same o a values v p pc pc_no_global w s (λ y e. one_each_of (λ z. bytes_eq pc z ≡ false) _ (names_fit o a h p k).pc (written Q p y) (one_local y (among_one (declared (locals p)) y e))) at d.start),
+          (
+            (λ w s. any_value_same o a values v p pc pc_no_global w s (λ y e. one_each_of (λ z. bytes_eq pc z ≡ false) _ (names_fit o a h p k).pc (written Q p y) (one_local y (among_one (declared (locals p)) y e))) at d.start),
             each_one _ (written_all Q p (d ∷ ds)) (λ x l w s.
-              let m = one_written_all Q p (d ∷ ds) x l in
-              let elsewhere = no_global o a h (written Q p m.0) (local_new o a h p m.0 k (i m.0 m.1)) in
-              subst (λ z. initial_value Q v p at d.start (put z w s) ≡ initial_value Q v p at d.start s) (sym m.2)
-              (value_same o a values v p (written Q p m.0) elsewhere w s at d.start
-              (reads_earlier earlier m.0 (i m.0 m.1) (one_each_of (λ z. is_among earlier z ≡ false) (declared (d ∷ ds)) f m.0 m.1) elsewhere w s d.start c.0.1 r.0)))),
+                let m = one_written_all Q p (d ∷ ds) x l in
+                let elsewhere = no_global o a h (written Q p m.0) (local_new o a h p m.0 k (i m.0 m.1)) in
+                subst (λ z. initial_value Q v p at d.start (put z w s) ≡ initial_value Q v p at d.start s) (sym m.2)
+                (value_same o a values v p (written Q p m.0) elsewhere w s at d.start
+                (reads_earlier earlier m.0 (i m.0 m.1) (one_each_of (λ z. is_among earlier z ≡ false) (declared (d ∷ ds)) f m.0 m.1) elsewhere w s d.start c.0.1 r.0))),
+          ),
           rests (d.name.word ∷ earlier) ds r.1 (each_joined (bytes_eq d.name.word) (is_among earlier) (declared ds) u.0 f.1) u.1 (λ x j. i x (inr j)) c.1 at,
         )
 
@@ -302,10 +304,10 @@ module _ (o : Outside) (a : Algorithm) (h : IsWritableAlgorithm o a) (n : name_o
     unread u l d at [] = tt
     unread u l d at (e ∷ ds) = (
       each_one _ (written_all Q u (locals u)) (λ x j w s.
-        let m = one_written_all Q u (locals u) x j in
-        let elsewhere = no_global o a h (written Q u m.0) (local_new o a h u m.0 l m.1) in
-        subst (λ z. initial_value Q v p at e.start (put z w s) ≡ initial_value Q v p at e.start s) (sym m.2)
-        (any_value_same o a values v p (written Q u m.0) elsewhere w s (λ y t. apart_units u p l k d m.0 y m.1 (among_one (declared (locals p)) y t)) at e.start)),
+          let m = one_written_all Q u (locals u) x j in
+          let elsewhere = no_global o a h (written Q u m.0) (local_new o a h u m.0 l m.1) in
+          subst (λ z. initial_value Q v p at e.start (put z w s) ≡ initial_value Q v p at e.start s) (sym m.2)
+          (any_value_same o a values v p (written Q u m.0) elsewhere w s (λ y t. apart_units u p l k d m.0 y m.1 (among_one (declared (locals p)) y t)) at e.start)),
       unread u l d at ds,
     )
 
@@ -319,8 +321,8 @@ module _ (o : Outside) (a : Algorithm) (h : IsWritableAlgorithm o a) (n : name_o
         stack_of_u = (names_fit o a h u k).stack;
         stack_of_p = (names_fit o a h p l).stack;
         apart = λ d. each_one _ (written_all Q u (locals u)) (λ x i.
-          let m = one_written_all Q u (locals u) x i in
-          each_one _ (written_all Q p (locals p)) (λ y j.
+            let m = one_written_all Q u (locals u) x i in
+            each_one _ (written_all Q p (locals p)) (λ y j.
             let r = one_written_all Q p (locals p) y j in
             (λ i. bytes_eq (m.2 i) (r.2 i)) ∙ apart_units u p k l d m.0 r.0 m.1 r.1));
         once = (names_fit o a h p l).apart;

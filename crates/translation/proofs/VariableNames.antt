@@ -89,11 +89,13 @@ module _ (P : Program) (Q : Word → Type 0) where
       by (alone ss) e = tt
       by (processes ps) e =
           let ms = main_routines P.algorithm (processes ps) in
-          let there : (u : Routine) → OneOf u ms → OneOf u (main_routines P.algorithm P.algorithm.main) = λ u k. subst (λ m. OneOf u (main_routines P.algorithm m)) (sym e) k in
-          (p, each_joined Q (stack_for us ++ written_by_all P us) (written_by_all P (filter (λ u. u.spread) ms))
-          (each_joined Q (stack_for us) (written_by_all P us) s
-          (written_each us (λ u k. h u (one_left u us (main_routines P.algorithm P.algorithm.main) k) (numbered_spread (first_procedure P.algorithm) P.algorithm.procedures u k))))
-          (written_each (filter (λ u. u.spread) ms) (λ u k. let r = filtered (λ u. u.spread) u ms k in h u (one_right u us (main_routines P.algorithm P.algorithm.main) (there u r.0)) r.1)))
+          let there : (u : Routine) → OneOf u ms → OneOf u (main_routines P.algorithm P.algorithm.main) = λ u k. subst (λ m. OneOf u (main_routines P.algorithm m)) (sym e) k in (
+            p,
+            each_joined Q (stack_for us ++ written_by_all P us) (written_by_all P (filter (λ u. u.spread) ms))
+                (each_joined Q (stack_for us) (written_by_all P us) s
+                (written_each us (λ u k. h u (one_left u us (main_routines P.algorithm P.algorithm.main) k) (numbered_spread (first_procedure P.algorithm) P.algorithm.procedures u k))))
+                (written_each (filter (λ u. u.spread) ms) (λ u k. let r = filtered (λ u. u.spread) u ms k in h u (one_right u us (main_routines P.algorithm P.algorithm.main) (there u r.0)) r.1)),
+          )
 
 -- ---- a routine's own variables are among these
 

@@ -8,3 +8,5 @@ pub mod AcceptedAlgorithm
 pub mod JumpsEnd
 pub mod StepsOnce
 pub mod LeftToProve
+pub mod PlacedStatements
+pub mod StepParts
