@@ -55,8 +55,6 @@ pub mod BoundOf
 pub mod MacrosSound
 pub mod FromLabels
 pub mod NamesGiven
-pub mod UsedNames
-pub mod PairsApart
 pub mod PlacelessItems
 pub mod PlacelessJumps
 pub mod PlacesTwice
