@@ -7,10 +7,11 @@ use Rattle.tla_token.specs.Signs.{is_among}
 use Rattle.tla_token.specs.Words.{is_own, is_standard}
 use Rattle.tla_tree.specs.Tree.{Word, words, Each, Form, name, operator_call, Tree, node, Trees, no_trees, tree, seen_names, Graft, grafted_name, grafted_node, graft, grafts}
 use Rattle.tla_tree.specs.laws.Writable.{IsIdentifier, IsWritable, AreWritable, names_in}
-use Rattle.tla_value.specs.Definitions.{Valuation, Definition, base, body_sense, defined, with_definitions, scope_of, no_state}
+use Rattle.tla_value.specs.Definitions.{Valuation, Definition, or_sense, base, with_arguments, body_sense, defined, with_definitions, scope_of, no_state}
+use Rattle.tla_value.specs.Grafts.{own_part, read_tree}
 use Rattle.tla_value.specs.Meaning.{Env, just}
 use Rattle.tla_value.specs.Outside.{Outside, ReadDefinition, found}
-use Rattle.tla_value.specs.Standard.{first_of, rest_of, standard_sense}
+use Rattle.tla_value.specs.Standard.{standard_name}
 use Rattle.tla_value.specs.Stops.{Check, plain}
 use Rattle.tla_value.specs.Value.{Value}
 use Rattle.tla_value.specs.laws.FreeNames.{Or, Also, FormReads, FreeNames, FreeInParts, Any}
@@ -33,7 +34,8 @@ use Rattle.action_builder.specs.OwnVariables.{own_under, own_variables, is_own_v
 use Rattle.action_builder.specs.Written.{old_stack}
 use Rattle.action_builder.specs.laws.Ready.{values_of}
 use Rattle.action_builder.specs.laws.Scopes.{own_path, own_scope, with_names, AllNamed}
-use Rattle.action_builder.specs.laws.WrittenScope.{self_bound, definitions_of, written_scope, titles}
+use Rattle.action_builder.specs.laws.StepsOfLabels.{PcStands}
+use Rattle.action_builder.specs.laws.WrittenScope.{self_bound, definitions_of, written_scope}
 use Rattle.action_builder.proofs.RoutinesStand.{FramesStand}
 use Rattle.translation.specs.laws.AcceptedAlgorithm.{IsAcceptedInFile}
 use Rattle.translation.specs.laws.LeftToProve.{extra_of, may_bind}
@@ -106,7 +108,7 @@ mutual
 
 defs_passed : (c : Check) (d : Definition) (ps : List Word) (env : Env) (x : Word) → bytes_eq d.title x ≡ false → (defined c d ps env).defs x ≡ env.defs x
 defs_passed c d [] env x e = refl
-defs_passed c d (p ∷ ps) env x e = ap (λ (b : Bool). cond b (Some (λ at vs. body_sense c d (Rattle.tla_value.specs.Definitions.with_arguments (p ∷ ps) vs env) at)) (env.defs x)) e
+defs_passed c d (p ∷ ps) env x e = ap (λ (b : Bool). cond b (Some (λ at vs. body_sense c d (with_arguments (p ∷ ps) vs env) at)) (env.defs x)) e
 
 defs_through : (c : Check) (ds : List Definition) (env : Env) (x : Word) → Untitled x ds → (with_definitions c ds env).defs x ≡ env.defs x
 defs_through c [] env x h = refl
@@ -286,8 +288,12 @@ module _ (o : Outside) (a : Algorithm) (h : IsAcceptedInFile o a) (values : Valu
         there : ((with_names bs O).env s).now x written_as.nowhere ≡ just defaultInitValue
         there =
             within_now bs k x (reserved_unbound x refl refl) written_as.nowhere s
-            ∙ ap (λ b. Rattle.tla_value.specs.Grafts.read_tree plain (cond b (Some (Rattle.tla_value.specs.Grafts.own_part self x written_as.nowhere)) None) x written_as.nowhere ((written_scope P (extra_of a) v).env s)) (own_no_own x refl refl refl)
+            ∙ ap (λ b. read_tree plain (cond b (Some (own_part self x written_as.nowhere)) None) x written_as.nowhere ((written_scope P (extra_of a) v).env s)) (own_no_own x refl refl refl)
             ∙ bound_now v.self (scope_of plain values (definitions_of P ++ extra_of a) (values_of (vars P) s) no_state) x written_as.nowhere refl
             ∙ looked_through plain (definitions_of P ++ extra_of a) _ x written_as.nowhere (untitled x refl refl)
-            ∙ ap (λ b. Rattle.tla_value.specs.Definitions.or_sense (cond b (Some (s x)) None) ((base plain values).now x written_as.nowhere)) (own_no_variable x refl refl refl)
-            ∙ ap (λ w. Rattle.tla_value.specs.Definitions.or_sense w (Rattle.tla_value.specs.Standard.standard_name x written_as.nowhere)) q
+            ∙ ap (λ b. or_sense (cond b (Some (s x)) None) ((base plain values).now x written_as.nowhere)) (own_no_variable x refl refl refl)
+            ∙ ap (λ w. or_sense w (standard_name x written_as.nowhere)) q
+
+-- of each process
+pub pc_stands : (o : Outside) (a : Algorithm) → IsAcceptedInFile o a → (values : Valuation) (v : Actor) → IsActor (program_in plain o a values) v → PcStands (program_in plain o a values) v
+pc_stands o a h values v actor = record { among = pc_among o a h values; path = pc_path o a h values v actor }
