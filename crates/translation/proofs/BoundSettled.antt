@@ -1,16 +1,16 @@
 -- What holds of all names that statements bind holds of those that they bind with their jumps, calls and returns written as assignments, which bind the name of the old
 -- stack and what initial values bind.
-use Rattle.std.proofs.Common.{◌≡◌, List, [], ◌∷◌, Bool, true, false, cond, ◌||◌, nat_eq, bytes_eq, codes, Option, Some, None, refl, sym, ap, ◌∙◌, inl, inr}
+use Rattle.std.proofs.Common.{◌≡◌, List, [], ◌∷◌, Bool, true, false, cond, ◌||◌, nat_eq, Option, Some, None, refl, inl, inr}
 use Rattle.tla_token.specs.declared.place.Place.{Place}
-use Rattle.tla_tree.specs.Tree.{Word, Form, Tree, node, Trees, no_trees, tree, Each, Every, EveryOf, binders, root_place}
-use Rattle.pcal_tree.specs.Algorithm.{nowhere, Name, Span, Assignments, no_assignments, assignment, Binds, no_binds, one_of, is, Statement, assign, await, print, assert, skip, branch, either, with, while, goto, macro, call, return, Statements, done, then, mark, Branches, no_branches, or, Declaration, Routine, locals, procedure_routines}
+use Rattle.tla_tree.specs.Tree.{Word, Form, Tree, Trees, no_trees, tree, Every, EveryOf, root_place}
+use Rattle.pcal_tree.specs.Algorithm.{nowhere, Name, Span, Assignments, no_assignments, Statement, assign, await, print, assert, skip, branch, either, with, while, goto, macro, call, return, Statements, done, then, mark, Branches, no_branches, or, Declaration, Routine, locals, procedure_routines}
 use Rattle.pcal_tree.specs.Calls.{label_name, first_label, routine_named}
 use Rattle.pcal_tree.specs.Processes.{OneOf}
 use Rattle.pcal_tree.specs.Program.{Program, written}
 use Rattle.pcal_tree.specs.Run.{unlabelled, label_of, Partner, no_partner, goto_partner, return_partner, partner_of}
 use Rattle.pcal_tree.specs.Variables.{written_all, pc, stack}
-use Rattle.pcal_tree.specs.laws.Expansion.{ThroughoutAssignments, ThroughoutBinds, ThroughoutOne, Throughout, ThroughoutSome}
-use Rattle.action_builder.specs.Jumps.{name_at, text_at, one_assignment, spot, jump_written, field_of, kept_field, stack_rest, fields_restored, return_assignments, return_written, names_at, pushed_on, stack_pushed, arguments_assigned, variables_written, call_written, kept_fields, values_kept, stack_replaced, fields_of, others_restored, pair_body, pair_written, call_with, call_to, written_jumps}
+use Rattle.pcal_tree.specs.laws.Expansion.{ThroughoutAssignments, ThroughoutOne, Throughout, ThroughoutSome}
+use Rattle.action_builder.specs.Jumps.{name_at, text_at, one_assignment, spot, jump_written, field_of, kept_field, stack_rest, fields_restored, names_at, pushed_on, arguments_assigned, variables_written, call_written, kept_fields, values_kept, fields_of, others_restored, pair_written, call_to, written_jumps}
 use Rattle.action_builder.specs.LabelActions.{no_jump_places, initial_tree, written_initials}
 use Rattle.action_builder.specs.Settled.{WrittenJumps, jumps, jumps_some, settled_one, settled, settled_some}
 use Rattle.action_builder.specs.Written.{old_stack}
@@ -113,9 +113,10 @@ module _ (N : Word → Type 0) where
     pushed_free p at back rest kept h k r = (tt, ((tt, ((tt, (texted at (P.naming.title p.number), (h, k))), tt)), (r, tt)))
 
     call_free : (p : Routine) (ts : Trees) (back : Word) → Starts p p.variables → EveryOf F ts → Holds (call_written P p nowhere ts back (λ d. nowhere) (λ d. initial_tree P p d.start))
-    call_free p ts back s h =
-        ((named nowhere stack, pushed_free p nowhere (text_at nowhere back) (name_at nowhere stack) (names_at nowhere (written_all P p (locals p))) (texted nowhere back) (names_free nowhere (written_all P p (locals p))) (named nowhere stack), arguments_free (written_all P p p.params) ts h),
-          variables_free p p.variables (jump_written nowhere (label_name P p (first_label p))) s (jump_free nowhere (label_name P p (first_label p))))
+    call_free p ts back s h = (
+      (named nowhere stack, pushed_free p nowhere (text_at nowhere back) (name_at nowhere stack) (names_at nowhere (written_all P p (locals p))) (texted nowhere back) (names_free nowhere (written_all P p (locals p))) (named nowhere stack), arguments_free (written_all P p p.params) ts h),
+      variables_free p p.variables (jump_written nowhere (label_name P p (first_label p))) s (jump_free nowhere (label_name P p (first_label p))),
+    )
 
     values_free : (u p : Routine) → EveryOf F (values_kept P u p nowhere nowhere)
     values_free u p = by (nat_eq u.number p.number)
@@ -132,11 +133,20 @@ module _ (N : Word → Type 0) where
         by false = fields_free nowhere old_stack (written_all P u (locals u))
 
     pair_free : (u p : Routine) (ts : Trees) → N old_stack → Starts p p.variables → EveryOf F ts → Holds (pair_written P u p nowhere nowhere ts (λ d. nowhere) (λ d. initial_tree P p d.start))
-    pair_free u p ts n s h =
-        (((named nowhere stack, n, tt), ((named nowhere stack,
-          pushed_free p nowhere (kept_field nowhere pc) (stack_rest nowhere) (values_kept P u p nowhere nowhere) (field_free nowhere stack pc) (values_free u p) (rest_free nowhere),
-          arguments_free (written_all P p p.params) ts h),
-          variables_free p p.variables (then (spot nowhere) (assign (others_restored P u p nowhere)) (jump_written nowhere (label_name P p (first_label p)))) s (others_free u p, jump_free nowhere (label_name P p (first_label p))))), tt)
+    pair_free u p ts n s h = (
+      (
+        (named nowhere stack, n, tt),
+        (
+          (
+            named nowhere stack,
+            pushed_free p nowhere (kept_field nowhere pc) (stack_rest nowhere) (values_kept P u p nowhere nowhere) (field_free nowhere stack pc) (values_free u p) (rest_free nowhere),
+            arguments_free (written_all P p p.params) ts h,
+          ),
+          variables_free p p.variables (then (spot nowhere) (assign (others_restored P u p nowhere)) (jump_written nowhere (label_name P p (first_label p)))) s (others_free u p, jump_free nowhere (label_name P p (first_label p))),
+        ),
+      ),
+      tt,
+    )
 
     to_free : (u : Routine) (at : Span) (ts : Trees) (l : Word) (j : Partner) → N old_stack → EveryOf F ts → (o : Option Routine) → ((p : Routine) → o ≡ Some p → Starts p p.variables)
         → Holds (call_to P u (written_initials P) no_jump_places at ts l j o)

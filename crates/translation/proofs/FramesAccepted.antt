@@ -1,11 +1,12 @@
 -- In an accepted algorithm a `with` binds no variable of the translation and nothing that an initial value reads; pc and the stack are where each process has them.
-use Rattle.std.proofs.Common.{◌≡◌, List, [], ◌∷◌, ◌++◌, map, Bool, true, false, ◌||◌, ◌&&◌, not, cond, bytes_eq, codes, Option, Some, None, ◌⊎◌, inl, inr, refl, sym, ap, subst, ◌∙◌, Ok}
-use Rattle.std.proofs.lemmas.Bool.{or_left, or_right, both_ways}
+use Rattle.std.proofs.Common.{◌≡◌, List, [], ◌∷◌, ◌++◌, map, Bool, true, false, ◌||◌, ◌&&◌, not, cond, bytes_eq, codes, Option, Some, None, inl, inr, refl, sym, ap, subst, ◌∙◌, Ok}
+use Rattle.std.specs.List.{AllByRecursion}
+use Rattle.std.proofs.lemmas.Bool.{or_right, both_ways}
 use Rattle.std.proofs.lemmas.Slice.Eq.{bytes_eq-Decides}
 use Rattle.tla_token.specs.declared.place.Place.{Place}
 use Rattle.tla_token.specs.Signs.{is_among}
 use Rattle.tla_token.specs.Words.{is_own, is_standard}
-use Rattle.tla_tree.specs.Tree.{Word, words, Each, Form, name, operator_call, Tree, node, Trees, no_trees, tree, seen_names, Graft, grafted_name, grafted_node, graft, grafts}
+use Rattle.tla_tree.specs.Tree.{Word, Each, Form, name, operator_call, Tree, node, Trees, no_trees, tree, seen_names, Graft, grafted_name, grafted_node, graft, grafts}
 use Rattle.tla_tree.specs.laws.Writable.{IsIdentifier, IsWritable, AreWritable, names_in}
 use Rattle.tla_value.specs.Definitions.{Valuation, Definition, or_sense, base, with_arguments, body_sense, defined, with_definitions, scope_of, no_state}
 use Rattle.tla_value.specs.Grafts.{own_part, read_tree}
@@ -15,7 +16,6 @@ use Rattle.tla_value.specs.Standard.{standard_name}
 use Rattle.tla_value.specs.Stops.{Check, plain}
 use Rattle.tla_value.specs.Value.{Value}
 use Rattle.tla_value.specs.laws.FreeNames.{Or, Also, FormReads, FreeNames, FreeInParts, Any}
-use Rattle.tla_value.specs.laws.Grafting.{In}
 use Rattle.tla_value.specs.laws.Untitled.{Untitled}
 use Rattle.tla_value.proofs.Untitled.{looked_through}
 use Rattle.module_tree.specs.Formulas.{self, unset_value}
@@ -26,7 +26,7 @@ use Rattle.pcal_tree.specs.OffencesRebind.{in_scope, may_rebind, standing_inside
 use Rattle.pcal_tree.specs.Processes.{OneOf, IsActor, identifier}
 use Rattle.pcal_tree.specs.Program.{Program, Actor, index, inner, written}
 use Rattle.pcal_tree.specs.Programs.{program_in}
-use Rattle.pcal_tree.specs.Scope.{State, Scope, bound, value_of}
+use Rattle.pcal_tree.specs.Scope.{State, Scope, value_of}
 use Rattle.pcal_tree.specs.Variables.{declared, vars, pc, stack, stack_for, written_by_all}
 use Rattle.pcal_tree.proofs.CallsFine.{also_weaker, free_weaker}
 use Rattle.pcal_tree.proofs.NamesSeen.{HasFree, PutsIn}
@@ -43,9 +43,8 @@ use Rattle.translation.proofs.NamesApart.{IsNamed, self_none, self_some, writabl
 use Rattle.translation.proofs.NamesOfRules.{Unreserved, not_own, turned}
 use Rattle.translation.proofs.RoutinesNamed.{one_each_of, among_later, among_before, local_free}
 use Rattle.translation.proofs.TidySteps.{no_old}
-use Rattle.translation.proofs.VariableNames.{each_to, each_from, none_among, one_is_among, vars_each, stack_each, own_each}
+use Rattle.translation.proofs.VariableNames.{each_from, none_among, vars_each, stack_each, own_each}
 use Rattle.translation.specs.laws.WritableAlgorithm.{IsWritableDeclaration}
-use Rattle.std.specs.List.{AllByRecursion}
 
 -- ---- names that are read free, and identifiers
 
@@ -235,8 +234,8 @@ module _ (o : Outside) (a : Algorithm) (h : IsAcceptedInFile o a) (values : Valu
     pub stack_path : (u : Routine) → OneOf u us → own_path (is_own_variable P stack) (identifier v.self) ≡ index v.self
     stack_path u k =
         path_of stack (λ ps.
-          or_right (bytes_eq pc stack) _
-          (among_before (stack_for us ++ written_by_all P us) _ stack (among_before (stack_for us) (written_by_all P us) stack (has_stack us u k)))) a.main refl
+        or_right (bytes_eq pc stack) _
+        (among_before (stack_for us ++ written_by_all P us) _ stack (among_before (stack_for us) (written_by_all P us) stack (has_stack us u k)))) a.main refl
 
     -- ---- what is reserved has no definition
 
