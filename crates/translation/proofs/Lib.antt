@@ -65,3 +65,4 @@ pub mod ProcedureStarts
 pub mod TidySteps
 pub mod FramesAccepted
 pub mod PreparedSteps
+pub mod RowsAccepted
