@@ -46,3 +46,4 @@ pub mod PromiseKept
 pub mod LeftOfMacros
 pub mod PlacedStatements
 pub mod ReadiedSteps
+pub mod UsedNames
