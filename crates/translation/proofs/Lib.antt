@@ -47,3 +47,4 @@ pub mod LeftOfMacros
 pub mod PlacedStatements
 pub mod ReadiedSteps
 pub mod UsedNames
+pub mod AskedSteps
