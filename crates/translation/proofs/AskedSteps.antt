@@ -198,7 +198,7 @@ module _ (C V : Word → Bool) where
 
 -- ---- names that are used
 
-two_fine : (Q : Spot → Type 0) (xs ys : List Spot) → AllByRecursion Q (xs ++ ys) → AllByRecursion Q xs × AllByRecursion Q ys
+pub two_fine : (Q : Spot → Type 0) (xs ys : List Spot) → AllByRecursion Q (xs ++ ys) → AllByRecursion Q xs × AllByRecursion Q ys
 two_fine Q [] ys h = (tt, h)
 two_fine Q (x ∷ xs) ys h = (let k = two_fine Q xs ys h.1 in ((h.0, k.0), k.1))
 

@@ -48,3 +48,4 @@ pub mod PlacedStatements
 pub mod ReadiedSteps
 pub mod UsedNames
 pub mod AskedSteps
+pub mod BegunSteps
