@@ -49,3 +49,4 @@ pub mod ReadiedSteps
 pub mod UsedNames
 pub mod AskedSteps
 pub mod BegunSteps
+pub mod PutTrees
