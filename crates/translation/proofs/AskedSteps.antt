@@ -151,7 +151,7 @@ module _ (C V : Word → Bool) where
   none_are : AreOf []
   none_are x m = cc
 
-  roots_are : (ms : Assignments) → AreWritableAssignments V ms → AreOf (roots ms)
+  pub roots_are : (ms : Assignments) → AreWritableAssignments V ms → AreOf (roots ms)
   roots_are no_assignments w = none_are
   roots_are (assignment l e ms) w = both_are (some_word (root l)) (roots ms) (λ x m. root_is (root l) w.0.1.0 w.0.1.1 w.0.1.2 x m) (roots_are ms w.2)
     where

@@ -50,3 +50,4 @@ pub mod UsedNames
 pub mod AskedSteps
 pub mod BegunSteps
 pub mod PutTrees
+pub mod StepNames

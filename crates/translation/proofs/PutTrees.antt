@@ -148,3 +148,35 @@ left_placed V at (node m p ts) h = h
 
 pub side_put : (V' V : Word → Bool) (g : Graft) → ((y : Word) (at : Place) → V' y ≡ true → IfLeft V (g y at) y) → (l : Tree) → IsLeft V' l → IsLeft V (graft_left g l)
 side_put V' V g put (node m at ts) h = left_placed V at (graft g (node m at ts)) (left_put V' V g put (node m at ts) h)
+
+-- ---- the variable of a left side
+
+-- of what stands for a name
+abbrev pub root_of : Option Tree → Word → Option Word
+root_of (Some t) y = root t
+root_of None y = Some y
+
+module _ (g : Graft) (r : Word → Word) (put : (y : Word) (at : Place) → root_of (g y at) y ≡ Some (r y)) where
+  root_node : (m : Form) (at : Place) (ts us : Trees) (x : Word) → root_form m (root_of_first ts) ≡ Some x → (root_of_first ts ≡ Some x → root_of_first us ≡ Some (r x)) → root (grafted_node g m at us) ≡ Some (r x)
+  root_node (name y) at ts us x e k = by (g y at) (put y at)
+    where
+      by : (o : Option Tree) → root_of o y ≡ Some (r y) → root (grafted_name o (name y) at us) ≡ Some (r x)
+      by (Some t) q = q ∙ (λ i. Some (r (same_Some y x e i)))
+      by None q = q ∙ (λ i. Some (r (same_Some y x e i)))
+  root_node (strict apply) at ts us x e k = k e
+  root_node (strict (select a)) at ts us x e k = k e
+  root_node m at ts us x e k = cc
+
+  mutual
+    pub root_put : (l : Tree) (x : Word) → root l ≡ Some x → root (graft g l) ≡ Some (r x)
+    root_put (node m at ts) x e = root_node m at ts (grafts g ts) x e (first_root ts x)
+
+    first_root : (ts : Trees) (x : Word) → root_of_first ts ≡ Some x → root_of_first (grafts g ts) ≡ Some (r x)
+    first_root no_trees x e = cc
+    first_root (tree f us) x e = root_put f x e
+
+  root_placed : (at : Place) (t : Tree) → root (placed_at at t) ≡ root t
+  root_placed at (node m p ts) = refl
+
+  pub side_root : (l : Tree) (x : Word) → root l ≡ Some x → root (graft_left g l) ≡ Some (r x)
+  side_root (node m at ts) x e = root_placed at (graft g (node m at ts)) ∙ root_put (node m at ts) x e

@@ -11,3 +11,4 @@ pub mod LeftToProve
 pub mod PlacedStatements
 pub mod StepParts
 pub mod FreshReads
+pub mod StepNames
