@@ -51,3 +51,4 @@ pub mod AskedSteps
 pub mod BegunSteps
 pub mod PutTrees
 pub mod StepNames
+pub mod StraightSteps

@@ -100,7 +100,7 @@ negated_back : (b : Bool) → not b ≡ true → b ≡ false
 negated_back true e = cc
 negated_back false e = refl
 
-not_true : (b : Bool) → (b ≡ true → ⊥) → b ≡ false
+pub not_true : (b : Bool) → (b ≡ true → ⊥) → b ≡ false
 not_true true f = absurd (f refl)
 not_true false f = refl
 
@@ -179,17 +179,24 @@ module _ (P : Program) (u : Routine) (N : Word → Type 0) (k : StepNames P u N)
       both_ways (A t.0) (p t.0 t.1) (ap A (sym (variable_apart z.0 t.0 (w z.0 z.1) (v t.0 t.1) (z.2 ∙ sym t.2))) ∙ z.1)))
 
   -- a global is assigned under its name
-  became_global : (A B : Names) → Became r A B → IsWithin A V → (y : Word) → declares a.globals y ≡ true → B y ≡ true → A y ≡ true
+  pub became_global : (A B : Names) → Became r A B → IsWithin A V → (y : Word) → declares a.globals y ≡ true → B y ≡ true → A y ≡ true
   became_global A B q w y d b = (let z = q y b in by z.0 z.1 z.2 (kind_of z.0 (w z.0 z.1)))
     where
       by : (x : Word) → A x ≡ true → r x ≡ y → Kind x → A y ≡ true
       by x m e (inl p) = absurd (no_global x p.0 y d (sym p.1 ∙ e))
       by x m e (inr p) = ap A (sym e ∙ p.1) ∙ m
 
-  pub fresh_became : (A B : Names) → Became r A B → IsWithin A V → (x : Word) → U A x ≡ true → U B x ≡ true
-  fresh_became A B q w x e =
+  -- the globals of B are of A
+  abbrev pub GlobalsOf : Names → Names → Type 0
+  GlobalsOf A B = (y : Word) → declares a.globals y ≡ true → B y ≡ true → A y ≡ true
+
+  pub fresh_globals : (A B : Names) → GlobalsOf A B → (x : Word) → U A x ≡ true → U B x ≡ true
+  fresh_globals A B q x e =
       negated (list_any B (through ds x)) (any_none B (through ds x) (λ y m. not_true (B y) (λ b.
-      both_ways (A y) (any_each A (through ds x) (negated_back (list_any A (through ds x)) e) y m) (became_global A B q w y (through_global a x y m) b))))
+      both_ways (A y) (any_each A (through ds x) (negated_back (list_any A (through ds x)) e) y m) (q y (through_global a x y m) b))))
+
+  pub fresh_became : (A B : Names) → Became r A B → IsWithin A V → (x : Word) → U A x ≡ true → U B x ≡ true
+  fresh_became A B q w = fresh_globals A B (became_global A B q w)
 
   pub unused_fresh : (B : Names) (x : Word) → Unused P x → U B x ≡ true
   unused_fresh B x e = ap (λ (ys : List Word). not (list_any B ys)) e
@@ -219,11 +226,11 @@ module _ (P : Program) (u : Routine) (N : Word → Type 0) (k : StepNames P u N)
       by true = plain_own y at
       by false = tt
 
-  names_put : (A B : Names) → Became r A B → IsWithin A V → Puts g (In (U A)) (In (U A)) (In (U B)) (In (U B))
-  names_put A B q w = record {
-    left = λ y at n e. fresh_became A B q w y n;
+  names_put : (A B : Names) → ((x : Word) → U A x ≡ true → U B x ≡ true) → Puts g (In (U A)) (In (U A)) (In (U B)) (In (U B))
+  names_put A B f = record {
+    left = λ y at n e. f y n;
     put = λ y at. by y at (declares (locals u) y) refl;
-    operators = λ y n. fresh_became A B q w y n;
+    operators = λ y n. f y n;
   }
     where
       by : (y : Word) (at : Place) (b : Bool) → declares (locals u) y ≡ b → IfFree (In (U B)) (In (U B)) (cond b (Some (node (name (written P u y)) at no_trees)) None)
@@ -241,8 +248,9 @@ module _ (P : Program) (u : Routine) (N : Word → Type 0) (k : StepNames P u N)
       by y at true e = (tt, ((variable_fresh B y (k.own y e), tt), ((unused_fresh B self k.self_untitled, tt), tt)))
       by y at false e = tt
 
-  pub named_reads : (A B : Names) → Became r A B → IsWithin A V → (e : Tree) → ReadsFresh ds N A e → ReadsFresh ds N B (graft g e)
-  named_reads A B q w e f = record { free = free_put g _ _ _ _ (names_put A B q w) e f.free; plain = every_put (Plain N) g names_plain e f.plain }
+  -- what may be read where those of A are assigned may be read where those of B are
+  pub named_reads : (A B : Names) → ((x : Word) → U A x ≡ true → U B x ≡ true) → (e : Tree) → ReadsFresh ds N A e → ReadsFresh ds N B (graft g e)
+  named_reads A B q e f = record { free = free_put g _ _ _ _ (names_put A B q) e f.free; plain = every_put (Plain N) g names_plain e f.plain }
 
   pub own_reads : (B : Names) (e : Tree) → ReadsFresh ds N B e → ReadsFresh ds N B (graft h e)
   own_reads B e f = record { free = free_put h _ _ _ _ (own_put B) e f.free; plain = every_put (Plain N) h own_plain e f.plain }
@@ -254,7 +262,7 @@ module _ (P : Program) (u : Routine) (N : Word → Type 0) (k : StepNames P u N)
   placed_reads : (B : Names) (at : Place) (t : Tree) → ReadsFresh ds N B t → ReadsFresh ds N B (placed_at at t)
   placed_reads B at (node m p ts) f = record { free = f.free; plain = ((f.plain.0.0, unprimed_any m p at f.plain.0.1), f.plain.1) }
 
-  side_reads : (A B : Names) (j : Graft) → ((e : Tree) → ReadsFresh ds N A e → ReadsFresh ds N B (graft j e)) → (l : Tree) → ReadsFresh ds N A l → ReadsFresh ds N B (graft_left j l)
+  pub side_reads : (A B : Names) (j : Graft) → ((e : Tree) → ReadsFresh ds N A e → ReadsFresh ds N B (graft j e)) → (l : Tree) → ReadsFresh ds N A l → ReadsFresh ds N B (graft_left j l)
   side_reads A B j f (node m at ts) q = placed_reads B at (graft j (node m at ts)) (f (node m at ts) q)
 
   pub fine_of : (B : Names) → IsWithin B (is_among vs) → (t : Tree) → ReadsFresh ds N B t → FineTree U B t
@@ -268,7 +276,7 @@ module _ (P : Program) (u : Routine) (N : Word → Type 0) (k : StepNames P u N)
       unbound x n = not_true (B x) (λ b. both_ways (is_among vs x) (k.bound x n).0 (w x b))
 
   pub tree_fine : (A B : Names) → Became r A B → IsWithin A V → (e : Tree) → ReadsFresh ds N A e → FineTree U B (graft h (graft g e))
-  tree_fine A B q w e f = fine_of B (became_variables A B q w) (graft h (graft g e)) (own_reads B (graft g e) (named_reads A B q w e f))
+  tree_fine A B q w e f = fine_of B (became_variables A B q w) (graft h (graft g e)) (own_reads B (graft g e) (named_reads A B (fresh_became A B q w) e f))
 
   -- ---- left sides
 
@@ -296,7 +304,7 @@ module _ (P : Program) (u : Routine) (N : Word → Type 0) (k : StepNames P u N)
       by true = refl
       by false = refl
 
-  own_root : (y : Word) (at : Place) → root_of (h y at) y ≡ Some y
+  pub own_root : (y : Word) (at : Place) → root_of (h y at) y ≡ Some y
   own_root y at = by (is_own_variable P y)
     where
       by : (b : Bool) → root_of (cond b (Some (own_part self y at)) None) y ≡ Some y
@@ -311,7 +319,7 @@ module _ (P : Program) (u : Routine) (N : Word → Type 0) (k : StepNames P u N)
   abbrev put_all : Assignments → Assignments
   put_all ms = graft_assignments h (graft_assignments g ms)
 
-  without_within : (y : Word) (ys : List Word) (x : Word) → is_among (without y ys) x ≡ true → is_among ys x ≡ true
+  pub without_within : (y : Word) (ys : List Word) (x : Word) → is_among (without y ys) x ≡ true → is_among ys x ≡ true
   without_within y [] x m = m
   without_within y (z ∷ zs) x m = by (bytes_eq y z) m (without_within y zs x)
     where
@@ -351,7 +359,7 @@ module _ (P : Program) (u : Routine) (N : Word → Type 0) (k : StepNames P u N)
   sides_fine : (A B : Names) → Became r A B → IsWithin A V → (ms : Assignments) → SidesReadFresh ds N A ms → FineSides U B (put_all ms)
   sides_fine A B q w no_assignments f = tt
   sides_fine A B q w (assignment l e ms) f = (
-    fine_of B (became_variables A B q w) (graft_left h (graft_left g l)) (side_reads B B h (own_reads B) (graft_left g l) (side_reads A B g (named_reads A B q w) l f.0)),
+    fine_of B (became_variables A B q w) (graft_left h (graft_left g l)) (side_reads B B h (own_reads B) (graft_left g l) (side_reads A B g (named_reads A B (fresh_became A B q w)) l f.0)),
     tree_fine A B q w e f.1,
     sides_fine A B q w ms f.2,
   )
@@ -376,6 +384,6 @@ module _ (P : Program) (u : Routine) (N : Word → Type 0) (k : StepNames P u N)
   pub binds_new : (A : Names) (bs : Binds) → BindsReadFresh ds N A bs → is_old (graft_binds h (graft_binds g bs)) ≡ false
   binds_new A no_binds f = refl
   binds_new A (one_of x e bs) f = refl
-  binds_new A (is x e no_binds) f = (k.bound x.word f.1).2
+  binds_new A (is x e no_binds) f = (k.bound x.word f.1).3
   binds_new A (is x e (one_of y d bs)) f = refl
   binds_new A (is x e (is y d bs)) f = refl

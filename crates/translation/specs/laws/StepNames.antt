@@ -31,6 +31,6 @@ pub record StepNames (P : Program) (u : Routine) (N : Word → Type 0) : Type 0 
   pub self_untitled : Unused P self
   pub head_untitled : Unused P (codes "Head")
   pub tail_untitled : Unused P (codes "Tail")
-  pub bound : (x : Word) → N x → (is_among (vars P) x ≡ false) × Unused P x × (bytes_eq old_stack x ≡ false)
+  pub bound : (x : Word) → N x → (is_among (vars P) x ≡ false) × Unused P x × (bytes_eq self x ≡ false) × (bytes_eq old_stack x ≡ false)
   pub pc_among : is_among (vars P) pc ≡ true
   pub pc_apart : (x : Word) → is_variable P.algorithm u x ≡ true → name_of P u x ≡ pc → ⊥
