@@ -251,7 +251,7 @@ module _ (ds : List Reading) where
     known_fresh : (A : Names) (xs : List Word) → Unread xs → (x : Word) → In xs x → Fresh A x
     known_fresh A xs u x m = unread_fresh A x (u x m)
 
-    tree_fresh : (A : Names) (xs : List Word) → Unread xs → (e : Tree) → IsWritable e → Every (Plain N) e → AllOf (Fresh A) (used e xs) → ReadsFresh ds N A e
+    pub tree_fresh : (A : Names) (xs : List Word) → Unread xs → (e : Tree) → IsWritable e → Every (Plain N) e → AllOf (Fresh A) (used e xs) → ReadsFresh ds N A e
     tree_fresh A xs u e w t h = record {
       free = names_free (Fresh A) e xs w (every_weaker (Plain N) (BindsOf (Fresh A)) (binds_fresh A) e t) (known_fresh A xs u) h;
       plain = t;

@@ -52,3 +52,4 @@ pub mod BegunSteps
 pub mod PutTrees
 pub mod StepNames
 pub mod StraightSteps
+pub mod JumpsReady

@@ -252,6 +252,9 @@ module _ (P : Program) (u : Routine) (N : Word → Type 0) (k : StepNames P u N)
   pub named_reads : (A B : Names) → ((x : Word) → U A x ≡ true → U B x ≡ true) → (e : Tree) → ReadsFresh ds N A e → ReadsFresh ds N B (graft g e)
   named_reads A B q e f = record { free = free_put g _ _ _ _ (names_put A B q) e f.free; plain = every_put (Plain N) g names_plain e f.plain }
 
+  pub named_trees : (A B : Names) → ((x : Word) → U A x ≡ true → U B x ≡ true) → (ts : Trees) → AllReadFresh ds N A ts → AllReadFresh ds N B (grafts g ts)
+  named_trees A B q ts f = record { free = parts_put g _ _ _ _ (names_put A B q) [] ts f.free; plain = each_put (Plain N) g names_plain ts f.plain }
+
   pub own_reads : (B : Names) (e : Tree) → ReadsFresh ds N B e → ReadsFresh ds N B (graft h e)
   own_reads B e f = record { free = free_put h _ _ _ _ (own_put B) e f.free; plain = every_put (Plain N) h own_plain e f.plain }
 
