@@ -25,7 +25,7 @@ use Rattle.action_builder.specs.Settled.{jumps_one, jumps, jumps_some}
 use Rattle.action_builder.specs.laws.Ready.{IsWithin, Apart}
 use Rattle.action_builder.specs.laws.Settling.{Stops}
 use Rattle.action_builder.proofs.Main.{append_cases, in_front, behind}
-use Rattle.translation.specs.laws.FreshReads.{fresh, Plain, ReadsFresh, AllReadFresh, SidesReadFresh, BindsReadFresh, AllFresh, asked}
+use Rattle.translation.specs.laws.FreshReads.{fresh, Plain, ReadsFresh, AllReadFresh, SidesReadFresh, BindsReadFresh, AllFresh, MayReturn, asked}
 use Rattle.translation.specs.laws.JumpsEnd.{JumpEnds, JumpsEnd, AllJumpsEnd}
 use Rattle.translation.specs.laws.PlacedStatements.{PlacedOne, Placed, AllPlaced}
 use Rattle.translation.specs.laws.StepParts.{Asked, AskedOne, AskedIn, AskedSome, goes_on}
@@ -305,6 +305,23 @@ round_is : (e : Tree) (b : Statements) (l : Bool) (p : Path) → l ≡ true → 
 round_is e b true p h = refl
 round_is e b false p h = cc
 
+partner_may : (r w l : Bool) (rest : Statements) → Placed r w l rest → MayReturn r (partner_of rest)
+partner_may r w l done h = tt
+partner_may r w l (mark m k rest) h = tt
+partner_may r w l (then at return rest) h = h.0
+partner_may r w l (then at (goto m) rest) h = tt
+partner_may r w l (then at (assign ms) rest) h = tt
+partner_may r w l (then at (await e) rest) h = tt
+partner_may r w l (then at (print e) rest) h = tt
+partner_may r w l (then at (assert e) rest) h = tt
+partner_may r w l (then at skip rest) h = tt
+partner_may r w l (then at (branch e a b) rest) h = tt
+partner_may r w l (then at (either bs) rest) h = tt
+partner_may r w l (then at (with bs b) rest) h = tt
+partner_may r w l (then at (while e b) rest) h = tt
+partner_may r w l (then at (macro m ts) rest) h = tt
+partner_may r w l (then at (call m ts) rest) h = tt
+
 module _ (ds : List Reading) (ps : List Procedure) (C V : Word → Bool) (N : Word → Type 0) (E : Effects) (r : Bool) (unread : (x : Word) → N x → through ds x ≡ []) where
   abbrev R : Asked
   R = asked ds ps C V N E r
@@ -358,30 +375,30 @@ module _ (ds : List Reading) (ps : List Procedure) (C V : Word → Bool) (N : Wo
 
   mutual
     one_asked : (w l : Bool) (A : Names) (p : Path) (xs : List Word) (at : Place) (st : Statement) (j : Partner) (rest : Statements) → Has A p → IsWithin A V → (l ≡ true → (x : Word) → A x ≡ false) → Unread ds xs
-        → SetsOnceOne A st → JumpsOnceOne E A st j → PlacedOne r w l st → JumpEnds st rest → IsWritableStatement C V st → ThroughoutOne (Plain N) N st → AreFine ds (spots_of_one U l p at st xs) → AskedOne R A st j
-    one_asked w l A p xs at (assign ms) j rest h v n u s k q e i t f =
+        → SetsOnceOne A st → JumpsOnceOne E A st j → MayReturn r j → PlacedOne r w l st → JumpEnds st rest → IsWritableStatement C V st → ThroughoutOne (Plain N) N st → AreFine ds (spots_of_one U l p at st xs) → AskedOne R A st j
+    one_asked w l A p xs at (assign ms) j rest h v n u s k mr q e i t f =
         (v, s, i.0, sides_fresh ds N unread V A xs u ms i.0 t (path_fresh ds A p (used_by_assignments ms xs) h f))
-    one_asked w l A p xs at (await a) j rest h v n u s k q e i t f = (v, tree_fresh ds N unread A xs u a i t (path_fresh ds A p (used a xs) h f))
-    one_asked w l A p xs at (print a) j rest h v n u s k q e i t f = (v, tree_fresh ds N unread A xs u a i t (path_fresh ds A p (used a xs) h f))
-    one_asked w l A p xs at (assert a) j rest h v n u s k q e i t f = (v, tree_fresh ds N unread A xs u a i t (path_fresh ds A p (used a xs) h f))
-    one_asked w l A p xs at skip j rest h v n u s k q e i t f = tt
-    one_asked w l A p xs at (branch a b c) j rest h v n u s k q e i t f =
+    one_asked w l A p xs at (await a) j rest h v n u s k mr q e i t f = (v, tree_fresh ds N unread A xs u a i t (path_fresh ds A p (used a xs) h f))
+    one_asked w l A p xs at (print a) j rest h v n u s k mr q e i t f = (v, tree_fresh ds N unread A xs u a i t (path_fresh ds A p (used a xs) h f))
+    one_asked w l A p xs at (assert a) j rest h v n u s k mr q e i t f = (v, tree_fresh ds N unread A xs u a i t (path_fresh ds A p (used a xs) h f))
+    one_asked w l A p xs at skip j rest h v n u s k mr q e i t f = tt
+    one_asked w l A p xs at (branch a b c) j rest h v n u s k mr q e i t f =
         let x = two_fine (IsFine ds) (after_path p (used a xs)) _ f in
         let y = two_fine (IsFine ds) (spots U false p b xs) (spots U false p c xs) x.1 in (
           (v, tree_fresh ds N unread A xs u a i.0 t.0 (path_fresh ds A p (used a xs) h x.0)),
           list_asked w false A p xs b h v (no_label A) u s.0 k.0 q.0 e.0 i.1 t.1 y.0,
           list_asked w false A p xs c h v (no_label A) u s.1 k.1 q.1 e.1 i.2 t.2 y.1,
         )
-    one_asked w l A p xs at (either no_branches) j rest h v n u s k q e i t f = tt
-    one_asked w l A p xs at (either (or b bs)) j rest h v n u s k q e i t f =
+    one_asked w l A p xs at (either no_branches) j rest h v n u s k mr q e i t f = tt
+    one_asked w l A p xs at (either (or b bs)) j rest h v n u s k mr q e i t f =
         let y = two_fine (IsFine ds) (spots U false p b xs) (spots_of_some U p bs xs) f in
         (list_asked w false A p xs b h v (no_label A) u s.0 k.0 q.0 e.0.0 i.0 t.0 y.0, some_asked w A p xs bs h v u s.1 k.1 q.1 e.0.1 i.1 t.1 y.1)
-    one_asked w l A p xs at (with bs b) j rest h v n u s k q e i t f =
+    one_asked w l A p xs at (with bs b) j rest h v n u s k mr q e i t f =
         let y = two_fine (IsFine ds) (after_path p (used_by_binds bs xs)) (spots U false p b (words (names_of_binds bs) ++ xs)) f in (
           (v, names_fresh ds N unread A xs u bs i.0 t.0 (path_fresh ds A p (used_by_binds bs xs) h y.0)),
           list_asked true false A p (words (names_of_binds bs) ++ xs) b h v (no_label A) (bound_unread ds N unread xs u bs t.0) s k q e.0 i.1 t.1 y.1,
         )
-    one_asked w l A p xs at (while a b) j rest h v n u s k q e i t f =
+    one_asked w l A p xs at (while a b) j rest h v n u s k mr q e i t f =
         let o = after_one path.assigned (while a b) l p in
         let y = two_fine (IsFine ds) (after_path o (used a xs)) (spots U false o b xs) f in
         let g = subst (Has A) (sym (round_is a b l p q.0)) h in
@@ -389,12 +406,12 @@ module _ (ds : List Reading) (ps : List Procedure) (C V : Word → Bool) (N : Wo
           (v, tree_fresh ds N unread A xs u a i.0 t.0 (path_fresh ds A o (used a xs) g y.0)),
           list_asked w false A o xs b g v (no_label A) u (subst (λ (B : Names). SetsOnce B b) z s) (subst (λ (B : Names). JumpsOnce E B b) z k) q.1 e i.1 t.1 y.1,
         )
-    one_asked w l A p xs at (goto m) j rest h v n u s k q e i t f = v
-    one_asked w l A p xs at (macro m ts) j rest h v n u s k q e i t f = absurd i
-    one_asked w l A p xs at (call m ts) j rest h v n u s k q e i t f =
+    one_asked w l A p xs at (goto m) j rest h v n u s k mr q e i t f = v
+    one_asked w l A p xs at (macro m ts) j rest h v n u s k mr q e i t f = absurd i
+    one_asked w l A p xs at (call m ts) j rest h v n u s k mr q e i t f =
         let y = both_of (Fresh ds A) (used_by_all ts xs) (U at (call m ts)) (path_fresh ds A p (used_by_all ts xs ++ U at (call m ts)) h f) in
-        (v, trees_fresh ds N unread A xs u ts i.1 t y.0, i.0, k, all_named ds A at (used_by_call ps m) y.1.1)
-    one_asked w l A p xs at return j rest h v n u s k q e i t f = (v, q, k)
+        (v, trees_fresh ds N unread A xs u ts i.1 t y.0, i.0, k, all_named ds A at (used_by_call ps m) y.1.1, mr)
+    one_asked w l A p xs at return j rest h v n u s k mr q e i t f = (v, q, k)
 
     pub list_asked : (w l : Bool) (A : Names) (p : Path) (xs : List Word) (b : Statements) → Has A p → IsWithin A V → (l ≡ true → (x : Word) → A x ≡ false) → Unread ds xs
         → SetsOnce A b → JumpsOnce E A b → Placed r w l b → JumpsEnd b → AreWritableStatements C V b → Throughout (Plain N) N b → AreFine ds (spots U l p b xs) → AskedIn R A b
@@ -402,7 +419,7 @@ module _ (ds : List Reading) (ps : List Procedure) (C V : Word → Bool) (N : Wo
     list_asked w l A p xs (mark m a rest) h v n u s k q e i t f = v
     list_asked w l A p xs (then at st rest) h v n u s k q e i t f =
         let y = two_fine (IsFine ds) (spots_of_one U l p at.first st xs) (spots U false (after_one path.assigned st l p) rest xs) f in (
-          one_asked w l A p xs at.first st (partner_of rest) rest h v n u s.0 k.0 q.0 e.0 i.0 t.0 y.0,
+          one_asked w l A p xs at.first st (partner_of rest) rest h v n u s.0 k.0 (partner_may r w false rest q.1) q.0 e.0 i.0 t.0 y.0,
           λ g. follows w l A p st rest g h v q.0 e.0 i.0 (λ o. list_asked w false (more A (set_by st)) (after_one path.assigned st l p) xs rest o (within_more C V A (set_by st) v (one_are C V st i.0)) (no_label (more A (set_by st))) u
           s.1 k.1 q.1 e.1 i.1 t.1 y.1),
         )

@@ -107,10 +107,10 @@ each_written P q Q f (d ∷ es) w =
 -- ---- what calls read
 
 -- in the initial values of a procedure's variables
-abbrev used_in : Routine → List Name
+abbrev pub used_in : Routine → List Name
 used_in q = flat_map (λ d. flat_map (λ e. used e (declared (locals q))) (initial d.start)) q.variables
 
-used_called : (x : Name) (n : ℕ) (ps : List Procedure) (q : Routine) → routine_named x.word (numbered procedure_routine n ps) ≡ Some q → used_by_call ps x ≡ used_in q
+pub used_called : (x : Name) (n : ℕ) (ps : List Procedure) (q : Routine) → routine_named x.word (numbered procedure_routine n ps) ≡ Some q → used_by_call ps x ≡ used_in q
 used_called x n [] q e = cc
 used_called x n (p ∷ ps) q e = by (bytes_eq p.name.word x.word) e (used_called x (suc n) ps q)
   where

@@ -53,3 +53,4 @@ pub mod PutTrees
 pub mod StepNames
 pub mod StraightSteps
 pub mod JumpsReady
+pub mod RoutineReady

@@ -11,6 +11,7 @@ use Rattle.pcal_tree.specs.OffencesStale.{used_by_call}
 use Rattle.pcal_tree.specs.OffencesSteps.{effect_with}
 use Rattle.pcal_tree.specs.Paths.{Effects, roots}
 use Rattle.pcal_tree.specs.Reads.{Reading, through}
+use Rattle.pcal_tree.specs.Run.{Partner, return_partner}
 use Rattle.action_builder.specs.Assigned.{Names}
 use Rattle.action_builder.specs.laws.Ready.{IsWithin, Apart}
 use Rattle.translation.specs.laws.StepParts.{Asked}
@@ -46,6 +47,11 @@ abbrev pub AllFresh : List Reading → Names → List Name → Type 0
 AllFresh ds A [] = Unit {0}
 AllFresh ds A (n ∷ ns) = (fresh ds A n.word ≡ true) × AllFresh ds A ns
 
+-- it is followed by a `return` only where one may be
+abbrev pub MayReturn : Bool → Partner → Type 0
+MayReturn r (return_partner at) = r ≡ true
+MayReturn r _ = Unit {0}
+
 -- ps, C: the procedures; V: the variables that may be assigned; E: what calls and returns assign; r: a `return` may be there. A call reads also what the initial values of
 -- the procedure's variables do.
 abbrev pub asked : List Reading → List Procedure → (Word → Bool) → (Word → Bool) → (Word → Type 0) → Effects → Bool → Asked
@@ -54,6 +60,6 @@ asked ds ps C V N E r = record {
   reads = λ A e. IsWithin A V × ReadsFresh ds N A e;
   binds = λ A bs. IsWithin A V × BindsReadFresh ds N A bs;
   goes = λ A. IsWithin A V;
-  calls = λ A p ts j. IsWithin A V × AllReadFresh ds N A ts × (C p.word ≡ true) × Apart A (effect_with E (call p ts) j).variables × AllFresh ds A (used_by_call ps p);
+  calls = λ A p ts j. IsWithin A V × AllReadFresh ds N A ts × (C p.word ≡ true) × Apart A (effect_with E (call p ts) j).variables × AllFresh ds A (used_by_call ps p) × MayReturn r j;
   returns = λ A. IsWithin A V × (r ≡ true) × Apart A (E return).variables;
 }
