@@ -183,12 +183,12 @@ module _ (P : Program) (u : Routine) (N : Word → Type 0) (k : StepNames P u N)
   operator_anyhow : (A : Names) (f : Word) (at : Place) (ts : Trees) → Unused P f → AllReadAnyhow A ts → Anyhow A (node (operator_call f) at ts)
   operator_anyhow A f at ts e c B q = (let x = c B q in record { free = (unused_fresh P u N k B f e, x.free); plain = ((tt, tt), x.plain) })
 
-  pub field_anyhow : (A : Names) (at : Place) (st x : Word) → Anyhow A (name_at at st) → Anyhow A (field_of at st x)
-  field_anyhow A at st x f =
-      strict_anyhow A (select x) at _ (and_anyhow A _ no_trees (operator_anyhow A (codes "Head") at _ k.head_untitled (and_anyhow A (name_at at st) no_trees f (none_anyhow A))) (none_anyhow A))
+  pub field_anyhow : (A : Names) (at : Place) (st x : Word) → Unused P (codes "Head") → Anyhow A (name_at at st) → Anyhow A (field_of at st x)
+  field_anyhow A at st x e f =
+      strict_anyhow A (select x) at _ (and_anyhow A _ no_trees (operator_anyhow A (codes "Head") at _ e (and_anyhow A (name_at at st) no_trees f (none_anyhow A))) (none_anyhow A))
 
-  pub rest_anyhow : (A : Names) (at : Place) → is_among vs stack ≡ true → Anyhow A (stack_rest at)
-  rest_anyhow A at m = operator_anyhow A (codes "Tail") at _ k.tail_untitled (and_anyhow A (name_at at stack) no_trees (name_anyhow A at stack m) (none_anyhow A))
+  pub rest_anyhow : (A : Names) (at : Place) → Unused P (codes "Tail") → is_among vs stack ≡ true → Anyhow A (stack_rest at)
+  rest_anyhow A at e m = operator_anyhow A (codes "Tail") at _ e (and_anyhow A (name_at at stack) no_trees (name_anyhow A at stack m) (none_anyhow A))
 
   names_anyhow : (A : Names) (at : Place) (xs : List Word) → Each IsNew xs → AllReadAnyhow A (names_at at xs)
   names_anyhow A at [] f = none_anyhow A
@@ -205,9 +205,9 @@ module _ (P : Program) (u : Routine) (N : Word → Type 0) (k : StepNames P u N)
   pub one_write : (A : Names) (at : Place) (x : Word) (e : Tree) (ms : Assignments) → IsNew x → Anyhow A e → Writes A ms → Writes A (assignment (name_at at x) e ms)
   one_write A at x e ms n f w = ((x, refl, n.0, n.1), name_anyhow A at x n.0, f, w)
 
-  pub restored_writes : (A : Names) (at : Place) (xs : List Word) (ms : Assignments) → is_among vs stack ≡ true → Each IsNew xs → Writes A ms → Writes A (fields_restored at xs ms)
-  restored_writes A at [] ms m f w = w
-  restored_writes A at (x ∷ xs) ms m f w = one_write A at x (kept_field at x) (fields_restored at xs ms) f.0 (field_anyhow A at stack x (name_anyhow A at stack m)) (restored_writes A at xs ms m f.1 w)
+  pub restored_writes : (A : Names) (at : Place) (xs : List Word) (ms : Assignments) → Unused P (codes "Head") → is_among vs stack ≡ true → Each IsNew xs → Writes A ms → Writes A (fields_restored at xs ms)
+  restored_writes A at [] ms e m f w = w
+  restored_writes A at (x ∷ xs) ms e m f w = one_write A at x (kept_field at x) (fields_restored at xs ms) f.0 (field_anyhow A at stack x e (name_anyhow A at stack m)) (restored_writes A at xs ms e m f.1 w)
 
   pub arguments_write : (A : Names) (xs : List Word) (ts : Trees) → Each IsNew xs → AllReadAnyhow A ts → Writes A (arguments_assigned xs ts)
   arguments_write A [] no_trees f e = tt
@@ -260,9 +260,9 @@ module _ (P : Program) (u : Routine) (N : Word → Type 0) (k : StepNames P u N)
     pub return_ready : (A B : Names) → Became r A B → IsWithin A V → Apart A (declared (locals u)) → (at : Place) → Readied U vs B (graft_all h (return_written P u at))
     return_ready A B q w p at =
         ready_from A B q w (return_written P u at)
-        (one_write A at pc (kept_field at pc) (fields_restored at xs (one_assignment (name_at at stack) (stack_rest at))) (k.pc_among, k.pc_new) (field_anyhow A at stack pc (name_anyhow A at stack f.stack_among))
-        (restored_writes A at xs (one_assignment (name_at at stack) (stack_rest at)) f.stack_among owned_new
-        (one_write A at stack (stack_rest at) no_assignments stack_is (rest_anyhow A at f.stack_among) tt)), tt)
+        (one_write A at pc (kept_field at pc) (fields_restored at xs (one_assignment (name_at at stack) (stack_rest at))) (k.pc_among, k.pc_new) (field_anyhow A at stack pc f.head_untitled (name_anyhow A at stack f.stack_among))
+        (restored_writes A at xs (one_assignment (name_at at stack) (stack_rest at)) f.head_untitled f.stack_among owned_new
+        (one_write A at stack (stack_rest at) no_assignments stack_is (rest_anyhow A at f.tail_untitled f.stack_among) tt)), tt)
         (subst (Each (λ x. B x ≡ false)) (sym all) (pc_free A B q w, each_joined (λ x. B x ≡ false) xs (stack ∷ []) (owned_free A B q w p) (stack_free A B q w, tt)))
         (subst AllUnlike (sym all) (each_joined (λ x. bytes_eq pc x ≡ false) xs (stack ∷ []) f.unlike.pc (refl, tt), unlike_last xs stack f.unlike.each f.unlike.stack))
       where

@@ -34,8 +34,7 @@ pub record StepNames (P : Program) (u : Routine) (N : Word → Type 0) : Type 0 
   pub untitled : (x : Word) → is_among (vars P) x ≡ true → Unused P x
   pub own : (x : Word) → is_own_variable P x ≡ true → is_among (vars P) x ≡ true
   pub self_untitled : Unused P self
-  pub head_untitled : Unused P (codes "Head")
-  pub tail_untitled : Unused P (codes "Tail")
+  pub self_free : is_among (vars P) self ≡ false
   pub bound : (x : Word) → N x → (is_among (vars P) x ≡ false) × Unused P x × (bytes_eq self x ≡ false) × (bytes_eq old_stack x ≡ false)
   pub pc_among : is_among (vars P) pc ≡ true
   pub pc_new : declares P.algorithm.globals pc ≡ false
@@ -68,6 +67,8 @@ pub record Frames (P : Program) (u : Routine) (N : Word → Type 0) (r : Bool) :
   pub stack_among : is_among (vars P) stack ≡ true
   pub stack_new : declares P.algorithm.globals stack ≡ false
   pub stack_apart : (x : Word) → is_variable P.algorithm u x ≡ true → name_of P u x ≡ stack → ⊥
+  pub head_untitled : Unused P (codes "Head")
+  pub tail_untitled : Unused P (codes "Tail")
   pub unset_untitled : Unused P (codes "defaultInitValue")
   pub unlike : Unlikes P u
   pub called : (x : Word) (q : Routine) → routine_named x (procedure_routines P.algorithm) ≡ Some q → Called P u N q
