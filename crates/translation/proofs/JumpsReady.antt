@@ -171,10 +171,10 @@ module _ (P : Program) (u : Routine) (N : Word → Type 0) (k : StepNames P u N)
   pub text_anyhow : (A : Names) (at : Place) (w : Word) → Anyhow A (text_at at w)
   text_anyhow A at w B q = record { free = (tt, tt); plain = ((tt, tt), tt) }
 
-  none_anyhow : (A : Names) → AllReadAnyhow A no_trees
+  pub none_anyhow : (A : Names) → AllReadAnyhow A no_trees
   none_anyhow A B q = record { free = tt; plain = tt }
 
-  and_anyhow : (A : Names) (t : Tree) (ts : Trees) → Anyhow A t → AllReadAnyhow A ts → AllReadAnyhow A (tree t ts)
+  pub and_anyhow : (A : Names) (t : Tree) (ts : Trees) → Anyhow A t → AllReadAnyhow A ts → AllReadAnyhow A (tree t ts)
   and_anyhow A t ts f e B q = (let x = f B q in let y = e B q in record { free = (x.free, y.free); plain = (x.plain, y.plain) })
 
   strict_anyhow : (A : Names) (o : Strict) (at : Place) (ts : Trees) → AllReadAnyhow A ts → Anyhow A (node (strict o) at ts)
@@ -190,7 +190,7 @@ module _ (P : Program) (u : Routine) (N : Word → Type 0) (k : StepNames P u N)
   pub rest_anyhow : (A : Names) (at : Place) → Unused P (codes "Tail") → is_among vs stack ≡ true → Anyhow A (stack_rest at)
   rest_anyhow A at e m = operator_anyhow A (codes "Tail") at _ e (and_anyhow A (name_at at stack) no_trees (name_anyhow A at stack m) (none_anyhow A))
 
-  names_anyhow : (A : Names) (at : Place) (xs : List Word) → Each IsNew xs → AllReadAnyhow A (names_at at xs)
+  pub names_anyhow : (A : Names) (at : Place) (xs : List Word) → Each IsNew xs → AllReadAnyhow A (names_at at xs)
   names_anyhow A at [] f = none_anyhow A
   names_anyhow A at (x ∷ xs) f = and_anyhow A (name_at at x) (names_at at xs) (name_anyhow A at x f.0.0) (names_anyhow A at xs f.1)
 
@@ -222,7 +222,7 @@ module _ (P : Program) (u : Routine) (N : Word → Type 0) (k : StepNames P u N)
 
   -- ---- a jump
 
-  pc_free : (A B : Names) → Became r A B → IsWithin A V → B pc ≡ false
+  pub pc_free : (A B : Names) → Became r A B → IsWithin A V → B pc ≡ false
   pc_free A B q w = not_true (B pc) (λ b. (let z = q pc b in k.pc_apart z.0 (w z.0 z.1) z.2))
 
   pub ready_from : (A B : Names) → Became r A B → IsWithin A V → (b : Statements) → Straight A b → Each (λ x. B x ≡ false) (all_roots b) → AllUnlike (all_roots b) → Readied U vs B (graft_all h b)
@@ -254,7 +254,7 @@ module _ (P : Program) (u : Routine) (N : Word → Type 0) (k : StepNames P u N)
     stack_is : IsNew stack
     stack_is = (f.stack_among, f.stack_new)
 
-    stack_free : (A B : Names) → Became r A B → IsWithin A V → B stack ≡ false
+    pub stack_free : (A B : Names) → Became r A B → IsWithin A V → B stack ≡ false
     stack_free A B q w = not_true (B stack) (λ b. (let z = q stack b in f.stack_apart z.0 (w z.0 z.1) z.2))
 
     pub return_ready : (A B : Names) → Became r A B → IsWithin A V → Apart A (declared (locals u)) → (at : Place) → Readied U vs B (graft_all h (return_written P u at))

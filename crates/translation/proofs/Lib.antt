@@ -54,3 +54,4 @@ pub mod StepNames
 pub mod StraightSteps
 pub mod JumpsReady
 pub mod RoutineReady
+pub mod PairsReady

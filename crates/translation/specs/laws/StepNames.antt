@@ -69,6 +69,8 @@ pub record Frames (P : Program) (u : Routine) (N : Word → Type 0) (r : Bool) :
   pub stack_apart : (x : Word) → is_variable P.algorithm u x ≡ true → name_of P u x ≡ stack → ⊥
   pub head_untitled : Unused P (codes "Head")
   pub tail_untitled : Unused P (codes "Tail")
+  pub old_untitled : Unused P old_stack
+  pub old_free : is_among (vars P) old_stack ≡ false
   pub unset_untitled : Unused P (codes "defaultInitValue")
   pub unlike : Unlikes P u
   pub called : (x : Word) (q : Routine) → routine_named x (procedure_routines P.algorithm) ≡ Some q → Called P u N q
