@@ -55,3 +55,4 @@ pub mod StraightSteps
 pub mod JumpsReady
 pub mod RoutineReady
 pub mod PairsReady
+pub mod LabelReady

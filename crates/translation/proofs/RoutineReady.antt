@@ -17,8 +17,8 @@ use Rattle.pcal_tree.specs.Reads.{Reading, readings_of}
 use Rattle.pcal_tree.specs.Run.{Partner, no_partner, goto_partner, return_partner, unlabelled}
 use Rattle.pcal_tree.specs.Variables.{vars, declared}
 use Rattle.action_builder.specs.Assigned.{Names}
-use Rattle.action_builder.specs.Jumps.{written_jumps, call_to, call_with, pair_written}
-use Rattle.action_builder.specs.LabelActions.{no_jump_places, initial_tree, written_initials}
+use Rattle.action_builder.specs.Jumps.{written_jumps, call_to, call_with}
+use Rattle.action_builder.specs.LabelActions.{no_jump_places, written_initials}
 use Rattle.action_builder.specs.OwnVariables.{is_own_variable}
 use Rattle.action_builder.specs.Prepared.{prepared, none}
 use Rattle.action_builder.specs.Settled.{WrittenJumps}
@@ -31,6 +31,7 @@ use Rattle.translation.specs.laws.WritableAlgorithm.{is_procedure, is_variable}
 use Rattle.translation.proofs.BegunSteps.{effects_of}
 use Rattle.translation.proofs.CalledProcedures.{is_called}
 use Rattle.translation.proofs.JumpsReady.{used_in, used_called, goto_ready, return_ready, call_ready}
+use Rattle.translation.proofs.PairsReady.{pair_ready}
 use Rattle.translation.proofs.ReadiedSteps.{From, Became, PartsFit, list_ready}
 use Rattle.translation.proofs.StepNames.{assigned_from, assignments_fine, assignments_apart, tree_fine, binds_fine, binds_new}
 use Rattle.translation.proofs.UsedNames.{AllOf}
@@ -110,58 +111,52 @@ module _ (P : Program) (u : Routine) (N : Word → Type 0) (k : StepNames P u N)
   abbrev W : WrittenJumps
   W = written_jumps P u (written_initials P) no_jump_places
 
-  -- of a call that is one statement with a return
-  abbrev pub PairReady : Type 0
-  PairReady = (q : Routine) (f : Frames P u N ret) (c : Called P u N q) (A B : Names) → Became r A B → IsWithin A V → Apart A (declared (locals u)) → AllOf (λ x. U A x ≡ true) (used_in q) → (ts : Trees) → AllReadFresh ds N A ts
-      → Readied U vs B (graft_all h (pair_written P u q nowhere nowhere (grafts g ts) (λ d. nowhere) (λ d. initial_tree P q d.start)))
+  call_is : (A B : Names) → Became r A B → (at : Span) (p : Name) (ts : Trees) (l : Word) (j : Partner) → R.calls A p ts j → (q : Routine) → routine_named p.word (procedure_routines a) ≡ Some q → Readied U vs B (graft_all h (call_with P u (written_initials P) no_jump_places at (grafts g ts) l j q))
+  call_is A B b at p ts l j e q m = by j e.3 e.5
+    where
+      f : Frames P u N ret
+      f = frames q (named_one (procedure_routines a) p.word q m)
 
-  module _ (pairs : PairReady) where
-    call_is : (A B : Names) → Became r A B → (at : Span) (p : Name) (ts : Trees) (l : Word) (j : Partner) → R.calls A p ts j → (q : Routine) → routine_named p.word (procedure_routines a) ≡ Some q → Readied U vs B (graft_all h (call_with P u (written_initials P) no_jump_places at (grafts g ts) l j q))
-    call_is A B b at p ts l j e q m = by j e.3 e.5
-      where
-        f : Frames P u N ret
-        f = frames q (named_one (procedure_routines a) p.word q m)
+      c : Called P u N q
+      c = f.called p.word q m
 
-        c : Called P u N q
-        c = f.called p.word q m
+      used : AllOf (λ x. U A x ≡ true) (used_in q)
+      used = subst (AllOf (λ x. U A x ≡ true)) (used_called p (first_procedure a) a.procedures q m) (all_of_fresh ds A (used_by_call a.procedures p) e.4)
 
-        used : AllOf (λ x. U A x ≡ true) (used_in q)
-        used = subst (AllOf (λ x. U A x ≡ true)) (used_called p (first_procedure a) a.procedures q m) (all_of_fresh ds A (used_by_call a.procedures p) e.4)
+      is_self : nat_eq u.number q.number ≡ true → ret ≡ true
+      is_self t = split ret refl
+        where
+          split : (x : Bool) → ret ≡ x → ret ≡ true
+          split true z = z
+          split false z = absurd (both_ways (nat_eq u.number q.number) (f.alone z p.word q m) t)
 
-        is_self : nat_eq u.number q.number ≡ true → ret ≡ true
-        is_self t = split ret refl
-          where
-            split : (x : Bool) → ret ≡ x → ret ≡ true
-            split true z = z
-            split false z = absurd (both_ways (nat_eq u.number q.number) (f.alone z p.word q m) t)
+      same : (j : Partner) → Apart A (effect_with (effects_of a ret u) (call p ts) j).variables → nat_eq u.number q.number ≡ true → Apart A (declared (locals u))
+      same j x t = own_call a u A ret p ts j (is_self t) (ap (λ (v : Routine). bytes_eq v.name.word p.word) (c.same t) ∙ named_is (procedure_routines a) p.word q m) x
 
-        same : (j : Partner) → Apart A (effect_with (effects_of a ret u) (call p ts) j).variables → nat_eq u.number q.number ≡ true → Apart A (declared (locals u))
-        same j x t = own_call a u A ret p ts j (is_self t) (ap (λ (v : Routine). bytes_eq v.name.word p.word) (c.same t) ∙ named_is (procedure_routines a) p.word q m) x
+      by : (j : Partner) → Apart A (effect_with (effects_of a ret u) (call p ts) j).variables → MayReturn ret j → Readied U vs B (graft_all h (call_with P u (written_initials P) no_jump_places at (grafts g ts) l j q))
+      by no_partner x y = call_ready P u N k ret f q c A B b e.0 (same no_partner x) used nowhere ts (label_name P u l) (λ d. nowhere) e.1
+      by (goto_partner m) x y = call_ready P u N k ret f q c A B b e.0 (same (goto_partner m) x) used nowhere ts (label_name P u m) (λ d. nowhere) e.1
+      by (return_partner end) x y = pair_ready P u N k ret f q c A B b e.0 (pair_return a u A ret p ts end y x) used ts e.1
 
-        by : (j : Partner) → Apart A (effect_with (effects_of a ret u) (call p ts) j).variables → MayReturn ret j → Readied U vs B (graft_all h (call_with P u (written_initials P) no_jump_places at (grafts g ts) l j q))
-        by no_partner x y = call_ready P u N k ret f q c A B b e.0 (same no_partner x) used nowhere ts (label_name P u l) (λ d. nowhere) e.1
-        by (goto_partner m) x y = call_ready P u N k ret f q c A B b e.0 (same (goto_partner m) x) used nowhere ts (label_name P u m) (λ d. nowhere) e.1
-        by (return_partner end) x y = pairs q f c A B b e.0 (pair_return a u A ret p ts end y x) used ts e.1
+  calls_fit : (A B : Names) → Became r A B → (at : Span) (p : Name) (ts : Trees) (l : Word) (j : Partner) → R.calls A p ts j → Readied U vs B (graft_all h (W.call at p (grafts g ts) l j))
+  calls_fit A B b at p ts l j e =
+      let q = is_called a p.word e.2 in
+      subst (λ (o : Option Routine). Readied U vs B (graft_all h (call_to P u (written_initials P) no_jump_places at (grafts g ts) l j o))) (sym q.1) (call_is A B b at p ts l j e q.0 q.1)
 
-    calls_fit : (A B : Names) → Became r A B → (at : Span) (p : Name) (ts : Trees) (l : Word) (j : Partner) → R.calls A p ts j → Readied U vs B (graft_all h (W.call at p (grafts g ts) l j))
-    calls_fit A B b at p ts l j e =
-        let q = is_called a p.word e.2 in
-        subst (λ (o : Option Routine). Readied U vs B (graft_all h (call_to P u (written_initials P) no_jump_places at (grafts g ts) l j o))) (sym q.1) (call_is A B b at p ts l j e q.0 q.1)
+  pub parts_fit : PartsFit R r g h W U vs
+  parts_fit = record {
+    sources = λ A ms e. assigned_from P u N k ms e.2;
+    assigns = λ A B b ms e. (assignments_fine P u N k A B b e.0 ms e.2 e.3, assignments_apart P u N k A B b e.0 ms e.2 e.1);
+    reads = λ A B b t e. tree_fine P u N k A B b e.0 t e.1;
+    binds = λ A B b bs e. (binds_fine P u N k A B b e.0 bs e.1, binds_new P u N k A bs e.1);
+    goes = λ A B b l e. goto_ready P u N k A B b e nowhere (label_name P u l);
+    calls = calls_fit;
+    returns = λ A B b at e. return_ready P u N k ret (frames u (mine e.1)) A B b e.0 (own_return a u A ret e.1 e.2) nowhere;
+  }
 
-    pub parts_fit : PartsFit R r g h W U vs
-    parts_fit = record {
-      sources = λ A ms e. assigned_from P u N k ms e.2;
-      assigns = λ A B b ms e. (assignments_fine P u N k A B b e.0 ms e.2 e.3, assignments_apart P u N k A B b e.0 ms e.2 e.1);
-      reads = λ A B b t e. tree_fine P u N k A B b e.0 t e.1;
-      binds = λ A B b bs e. (binds_fine P u N k A B b e.0 bs e.1, binds_new P u N k A bs e.1);
-      goes = λ A B b l e. goto_ready P u N k A B b e nowhere (label_name P u l);
-      calls = calls_fit;
-      returns = λ A B b at e. return_ready P u N k ret (frames u (mine e.1)) A B b e.0 (own_return a u A ret e.1 e.2) nowhere;
-    }
-
-    -- the statements of a step, with written names, settled, and with the variables of the process at its identifier
-    pub step_ready : (here l : Word) (b : Statements) → AskedIn R none b → Readied U vs none (prepared W self (is_own_variable P) here l (graft_all g b))
-    step_ready here l b e = list_ready R r g h W U vs parts_fit none none (λ y m. absurd (never m)) here l b e
-      where
-        never : false ≡ true → ⊥
-        never x = cc
+  -- the statements of a step, with written names, settled, and with the variables of the process at its identifier
+  pub step_ready : (here l : Word) (b : Statements) → AskedIn R none b → Readied U vs none (prepared W self (is_own_variable P) here l (graft_all g b))
+  step_ready here l b e = list_ready R r g h W U vs parts_fit none none (λ y m. absurd (never m)) here l b e
+    where
+      never : false ≡ true → ⊥
+      never x = cc
