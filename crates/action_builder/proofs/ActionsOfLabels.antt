@@ -1,5 +1,5 @@
 -- The action of a label, with its test of pc, is true exactly where the process steps from that label.
-use Rattle.std.proofs.Common.{◌≡◌, List, [], ◌∷◌, ◌++◌, Bool, true, false, cond, bytes_eq, Option, Some, None, map, refl, sym, ◌∙◌, ap, Ok, Err}
+use Rattle.std.proofs.Common.{◌≡◌, List, [], ◌∷◌, ◌++◌, Bool, true, false, cond, bytes_eq, Option, Some, None, refl, sym, ◌∙◌, ap, Ok, Err}
 use Rattle.std.proofs.lemmas.Bool.{both_ways}
 use Rattle.std.proofs.lemmas.Slice.Eq.{bytes_eq-Decides}
 use Rattle.tla_token.specs.declared.place.Place.{Place}
@@ -10,16 +10,14 @@ use Rattle.tla_tree.specs.declared.op.Op.TheVariants.{Equal}
 use Rattle.tla_value.specs.Value.{Value, truth, text, Trouble, Outcome, ◌>>=◌, TrueExactly, and_then, fun, fault, int, model, set}
 use Rattle.tla_value.specs.Order.{same, found_at}
 use Rattle.tla_value.specs.OrderLaws.{same_is, same_self}
-use Rattle.tla_value.specs.Stops.{Check, plain, truth_at, sense_of}
+use Rattle.tla_value.specs.Stops.{plain, truth_at, sense_of}
 use Rattle.tla_value.specs.Strict.{applied, strict_value}
 use Rattle.tla_value.specs.Meaning.{Env, just}
 use Rattle.tla_value.specs.Grafts.{owned, through as through_env}
-use Rattle.tla_value.specs.Definitions.{Valuation, Definition, scope_of, no_state, or_sense, base}
-use Rattle.tla_value.specs.laws.Places.{AgreeButPlaces}
+use Rattle.tla_value.specs.Definitions.{Valuation, Definition, scope_of, or_sense, base}
 use Rattle.tla_value.proofs.Graft.{grafted_law}
 use Rattle.module_tree.specs.Formulas.{self, named, quoted, equal}
-use Rattle.module_tree.specs.Module.{Action}
-use Rattle.module_tree.specs.ActionTruth.{Verdict, truth_in, items_hold, Acts, acts_of, action_of}
+use Rattle.module_tree.specs.ActionTruth.{truth_in, items_hold}
 use Rattle.module_tree.proofs.Tells.{tells_and, tells_as}
 use Rattle.pcal_tree.specs.Scope.{State, Scope}
 use Rattle.pcal_tree.specs.Run.{Has}

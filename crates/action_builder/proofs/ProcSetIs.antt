@@ -1,5 +1,5 @@
 -- ProcSet has the identifiers of all processes: its chain of \cup is the set of the members of all its sets, in canonical order.
-use Rattle.std.proofs.Common.{◌≡◌, List, [], ◌∷◌, ◌++◌, Bool, true, false, ◌||◌, refl, sym, ◌∙◌, ap, Ok}
+use Rattle.std.proofs.Common.{◌≡◌, List, [], ◌∷◌, ◌++◌, Bool, false, ◌||◌, sym, ◌∙◌, ap, Ok}
 use Rattle.tla_token.specs.Places.{nowhere}
 use Rattle.tla_tree.specs.declared.op.Op.TheVariants.{Cup}
 use Rattle.tla_tree.specs.Tree.{Tree, node, tree, no_trees, strict, operator}

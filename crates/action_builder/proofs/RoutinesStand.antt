@@ -1,15 +1,15 @@
 -- In the scope of the written names, also under a `with`, the variables of each routine are where calls and returns look for them, and initial values are written as they are.
-use Rattle.std.proofs.Common.{◌≡◌, List, [], ◌∷◌, Bool, true, false, ◌||◌, cond, bytes_eq, codes, Some, None, refl, sym, ◌∙◌, ap, subst, Ok, Err}
+use Rattle.std.proofs.Common.{◌≡◌, List, [], ◌∷◌, Bool, true, false, ◌||◌, cond, bytes_eq, codes, Some, None, refl, sym, ◌∙◌, ap, subst, Ok}
 use Rattle.std.proofs.lemmas.Bool.{both_ways}
 use Rattle.std.proofs.lemmas.Slice.Eq.{bytes_eq-Decides}
 use Rattle.tla_token.specs.declared.place.Place.{Place}
 use Rattle.tla_token.specs.Signs.{is_among}
 use Rattle.tla_tree.specs.Tree.{Word, Each, Every}
-use Rattle.tla_value.specs.Value.{Value, Outcome, fault, over}
+use Rattle.tla_value.specs.Value.{Value}
 use Rattle.tla_value.specs.Stops.{plain}
 use Rattle.tla_value.specs.Standard.{first_of, rest_of, standard_sense}
 use Rattle.tla_value.specs.Meaning.{just}
-use Rattle.tla_value.specs.Grafts.{owned, own_part}
+use Rattle.tla_value.specs.Grafts.{own_part}
 use Rattle.tla_value.specs.Definitions.{Valuation, Definition}
 use Rattle.tla_value.specs.laws.FreeNames.{Any, FreeNames, AgreeOn}
 use Rattle.tla_value.specs.laws.Grafting.{In, BindsClear}

@@ -1,5 +1,5 @@
 -- The premises without processes and procedures: variable x, and A: x := x + 1; goto A. There is no stack, and no name is any process's own.
-use Rattle.std.proofs.Common.{◌≡◌, List, [], ◌∷◌, Bool, true, false, codes, Some, None, refl, Err, Ok, inl}
+use Rattle.std.proofs.Common.{◌≡◌, [], ◌∷◌, Bool, true, false, codes, Some, None, refl, Err, Ok, inl}
 use Rattle.std.proofs.lemmas.Bool.{or_right}
 use Rattle.tla_token.specs.Places.{nowhere}
 use Rattle.tla_token.specs.Signs.{is_among}

@@ -1,17 +1,17 @@
 -- All premises together can be met: the sample's process at its label, with a macro call, a variable of its own, a bound name, a jump and a call.
-use Rattle.std.proofs.Common.{◌≡◌, List, [], ◌∷◌, ◌++◌, Bool, true, false, ◌||◌, cond, bytes_eq, codes, Option, Some, None, refl, sym, subst, inl, inr, Ok, Err}
+use Rattle.std.proofs.Common.{◌≡◌, [], ◌∷◌, ◌++◌, Bool, true, false, cond, bytes_eq, codes, Some, None, refl, subst, inl, inr, Ok, Err}
 use Rattle.std.proofs.lemmas.Bool.{both_ways, or_parts, or_right}
 use Rattle.action_builder.proofs.Equal.{other-name}
 use Rattle.tla_token.specs.declared.place.Place.{Place}
 use Rattle.tla_token.specs.Signs.{is_among}
-use Rattle.tla_tree.specs.Tree.{Word, Each, name, node, no_trees}
+use Rattle.tla_tree.specs.Tree.{Word, name, node, no_trees}
 use Rattle.tla_value.specs.Value.{Value, Trouble, TrueExactly}
 use Rattle.tla_value.specs.Stops.{plain}
 use Rattle.tla_value.specs.Grafts.{owned}
 use Rattle.tla_value.specs.laws.Grafting.{Apart, NotFreeIn}
 use Rattle.tla_value.proofs.Graft.{apart_clear}
 use Rattle.tla_value.proofs.Owned.{owned_apart}
-use Rattle.pcal_tree.specs.Algorithm.{declares, locals, Routine}
+use Rattle.pcal_tree.specs.Algorithm.{declares, locals}
 use Rattle.pcal_tree.specs.Scope.{State}
 use Rattle.pcal_tree.specs.Run.{Has}
 use Rattle.pcal_tree.specs.Program.{Program}
@@ -21,21 +21,20 @@ use Rattle.pcal_tree.specs.StepStart.{at_label}
 use Rattle.pcal_tree.proofs.Uncaptured.{uncaptured}
 use Rattle.module_tree.specs.Formulas.{self}
 use Rattle.module_tree.specs.ActionTruth.{items_hold}
-use Rattle.action_builder.specs.Assigned.{Names, more}
+use Rattle.action_builder.specs.Assigned.{Names}
 use Rattle.action_builder.specs.Settled.{settled}
 use Rattle.action_builder.specs.Prepared.{none}
 use Rattle.action_builder.specs.LabelActions.{items_from}
 use Rattle.action_builder.specs.WrittenNames.{renames}
 use Rattle.action_builder.specs.OwnVariables.{is_own_variable}
-use Rattle.action_builder.specs.laws.Ready as Ready
 use Rattle.action_builder.specs.laws.Ready.{IsWithin, Settled, values_of}
 use Rattle.action_builder.specs.laws.LabelSteps.{LabelStep, prepared_of, IsPrepared, IsReady}
 use Rattle.action_builder.specs.laws.Jumps.{callable}
 use Rattle.action_builder.specs.laws.Sample as sample
 use Rattle.action_builder.proofs.Names.{each_name}
 use Rattle.action_builder.proofs.Decided.{clear_list, fine_list}
-use Rattle.action_builder.proofs.Witness.{sample_calls, some_is, apart, after_x, after_y, after_await, after_call, after_b}
-use Rattle.action_builder.specs.laws.WrittenScope.{definitions_of, Seen, NamesApart}
+use Rattle.action_builder.proofs.Witness.{sample_calls, some_is, apart, after_x, after_await, after_call, after_b}
+use Rattle.action_builder.specs.laws.WrittenScope.{definitions_of, NamesApart}
 use Rattle.action_builder.specs.laws.StepsOfLabels.{step_of, pair_env, NamesGiven, AllUnprimed, AllSettledFor}
 use Rattle.action_builder.proofs.StepsOfLabels.{scope_stands}
 use Rattle.action_builder.proofs.RoutinesStand as routines

@@ -1,16 +1,15 @@
 -- The conjuncts of Init for a variable of a process set or of a procedure: x = [self \in S |-> e] and x \in [S -> T] are true just where the walk through the initial values
 -- allows the variable's value.
 use Rattle.std.proofs.Common.{◌≡◌, List, [], ◌∷◌, ◌++◌, Bool, true, false, ◌&&◌, cond, map, refl, sym, ◌∙◌, ap, Ok, Err}
-use Rattle.std.specs.Ordering.{is_eq, nat_cmp, ordering_then}
-use Rattle.std.specs.declared.cmp.Ordering.{Ordering}
-use Rattle.std.specs.declared.cmp.Ordering.TheVariants.{Less, Equal, Greater}
+use Rattle.std.specs.Ordering.{is_eq}
+use Rattle.std.specs.declared.cmp.Ordering.TheVariants.{Equal}
 use Rattle.tla_token.specs.declared.place.Place.{Place}
 use Rattle.tla_token.specs.Places.{nowhere}
 use Rattle.tla_tree.specs.declared.op.Binder.TheVariants.{Function}
-use Rattle.tla_tree.specs.Tree.{Word, Tree, Name, binding, operator, functions}
+use Rattle.tla_tree.specs.Tree.{Word, Tree, operator, functions}
 use Rattle.tla_value.specs.Value.{Value, Values, no_values, and, truth, set, fun, values_in, Outcome, ◌>>=◌, in_order, int, text, model}
 use Rattle.tla_value.specs.Order.{orders, same, holds, count, pairs_of, fun_from, IsAscending, IsCanonical}
-use Rattle.tla_value.specs.OrderLaws.{orders_equal, nat_self, same_is, same_self, is_equal}
+use Rattle.tla_value.specs.OrderLaws.{orders_equal, is_equal}
 use Rattle.tla_value.specs.Sets.{repeated, all_chosen, is_function_over}
 use Rattle.tla_value.specs.Stops.{plain, members_at, truth_at}
 use Rattle.tla_value.specs.Meaning.{Env, just, bind, Row, with_first, at_members, at_choices, at_body, table, gathered, eval}

@@ -4,7 +4,7 @@ use Rattle.std.proofs.lemmas.Bool.{both_ways, or_left, or_right}
 use Rattle.std.proofs.lemmas.Slice.Eq.{bytes_eq-Decides}
 use Rattle.tla_token.specs.declared.place.Place.{Place}
 use Rattle.tla_token.specs.Signs.{is_among}
-use Rattle.tla_tree.specs.Tree.{Word, Form, name, next, operator_call, Each, Every, binders}
+use Rattle.tla_tree.specs.Tree.{Word, Every}
 use Rattle.tla_value.specs.Value.{Value, Trouble, Outcome, TrueExactly, fault}
 use Rattle.tla_value.specs.Stops.{Check, plain, sense_of}
 use Rattle.tla_value.specs.Standard.{printed, asserted, standard_sense}
@@ -13,7 +13,6 @@ use Rattle.tla_value.specs.Definitions.{Valuation, Definition, or_sense, base, a
 use Rattle.tla_value.specs.laws.Grafting.{In, IsUnprimed, Given}
 use Rattle.tla_value.proofs.Alike.{eval_alike}
 use Rattle.tla_value.proofs.Facts.{every_weaker}
-use Rattle.tla_value.proofs.Relations.{Bound, KeptBy}
 use Rattle.tla_value.proofs.MidState.{scope_mixed}
 use Rattle.tla_value.proofs.Primes.{Mixed, AgreeNow, bound_now, form_unprimed}
 use Rattle.module_tree.specs.Formulas.{self}

@@ -1,5 +1,5 @@
 -- Next as a disjunction: the own action of a routine is true exactly where one of its labels' is, and so \E self \in S of it over the processes of S.
-use Rattle.std.proofs.Common.{◌≡◌, List, [], ◌∷◌, ◌++◌, Bool, true, false, ◌||◌, ◌⊎◌, Some, None, map, refl, sym, ◌∙◌, ap, Ok, Err}
+use Rattle.std.proofs.Common.{◌≡◌, List, [], ◌∷◌, ◌++◌, true, false, ◌⊎◌, Some, None, map, refl, sym, ◌∙◌, ap, Ok, Err}
 use Rattle.tla_tree.specs.Tree.{Word, Tree, root_place}
 use Rattle.tla_value.specs.Value.{Value, set, TrueExactly, or_all, ◌>>=◌}
 use Rattle.tla_value.specs.Stops.{plain, members_at}

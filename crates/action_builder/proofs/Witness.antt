@@ -1,5 +1,5 @@
 -- The sample step meets all that the laws ask.
-use Rattle.std.proofs.Common.{◌≡◌, List, [], ◌∷◌, Bool, true, false, cond, ◌||◌, bytes_eq, codes, Option, Some, None, refl, sym, subst}
+use Rattle.std.proofs.Common.{◌≡◌, List, [], ◌∷◌, Bool, true, false, cond, bytes_eq, codes, Option, Some, None, refl, sym, subst}
 use Rattle.tla_token.specs.Signs.{is_among}
 use Rattle.tla_token.specs.declared.place.Place.{Place}
 use Rattle.tla_tree.specs.Tree.{Word, Each}

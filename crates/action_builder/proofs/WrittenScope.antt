@@ -10,9 +10,8 @@ use Rattle.tla_value.specs.Value.{Value, fault}
 use Rattle.tla_value.specs.Stops.{Check, sense_of}
 use Rattle.tla_value.specs.Meaning.{Env, just}
 use Rattle.tla_value.specs.Grafts.{own_part, read_tree}
-use Rattle.tla_value.specs.Definitions.{Definition, or_sense, base, in_states, at_use, body_sense, with_arguments, defined, with_definitions, scope_of, no_state}
-use Rattle.tla_value.specs.laws.FreeNames.{Any, Also, Or, FreeNames, AgreeOn}
-use Rattle.tla_value.proofs.FreeNames.{free_names, bind_agree}
+use Rattle.tla_value.specs.Definitions.{Definition, or_sense, base, in_states, body_sense, defined, with_definitions, scope_of, no_state}
+use Rattle.tla_value.specs.laws.FreeNames.{Any, Also, FreeNames, AgreeOn}
 use Rattle.module_tree.specs.Formulas.{self}
 use Rattle.pcal_tree.specs.Algorithm.{nowhere, declares, Routine, locals}
 use Rattle.pcal_tree.specs.Scope.{State, Scope, reach_in, origin_in}

@@ -3,9 +3,9 @@
 use Rattle.std.proofs.Common.{◌≡◌, List, [], ◌∷◌, ◌++◌, Bool, true, false, cond, Some, map, refl, sym, ◌∙◌, ap, Ok, Err, ◌⊎◌, inl, inr}
 use Rattle.tla_token.specs.declared.place.Place.{Place}
 use Rattle.tla_token.specs.Places.{nowhere}
-use Rattle.tla_tree.specs.Tree.{Word, Tree, Trees, node, tree, no_trees, cases, Every, graft, root_place}
+use Rattle.tla_tree.specs.Tree.{Word, Tree, Every, root_place}
 use Rattle.tla_tree.specs.TreeOf.{trees_from}
-use Rattle.tla_value.specs.Value.{Value, Values, truth, text, set, Outcome, ◌>>=◌, in_order, and_then, int, model, fun}
+use Rattle.tla_value.specs.Value.{Value, Values, truth, text, set, Outcome, ◌>>=◌, and_then, int, model, fun}
 use Rattle.tla_value.specs.Order.{same, IsAscending, IsCanonical}
 use Rattle.tla_value.specs.Stops.{plain, members_at, truth_at}
 use Rattle.tla_value.specs.Meaning.{Env, just, bind, eval, evals, test, first_arm}

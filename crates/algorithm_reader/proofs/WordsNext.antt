@@ -1,10 +1,9 @@
 -- Which reserved word of PlusCal is next, by the word that its token keeps.
-use Rattle.std.proofs.Common.{◌≡◌, ℕ, ◌<◌, ◌≤◌, Bool, true, false, List, codes, get_or, length, Some, if◌then◌else◌, refl, sym, ap, ◌∙◌}
-use Rattle.std.specs.Bool.{Decides}
+use Rattle.std.proofs.Common.{◌≡◌, ℕ, ◌<◌, ◌≤◌, Bool, true, false, List, nat_eq, codes, get_or, length, if◌then◌else◌, refl, sym, ap, ◌∙◌}
+use Rattle.std.specs.List.{position_or_len}
 use Rattle.std.specs.Str.{bytes_eq}
-use Rattle.std.proofs.lemmas.Bool.{false_from_ne_true}
+use Rattle.std.proofs.lemmas.Bool.{false_from_ne_true, eqb-true, eq-eqb, both_ways}
 use Rattle.std.proofs.lemmas.List.{drop_more, drop_all}
-use Rattle.std.proofs.lemmas.Option.{same_Some}
 use Rattle.std.proofs.lemmas.Slice.Eq.{bytes_eq-Decides}
 use Rattle.tla_token.specs.declared.word.PluscalWord.{PluscalWord}
 use Rattle.tla_token.specs.declared.word.PluscalWord.TheVariants as pluscal
@@ -18,7 +17,7 @@ use Rattle.tla_token.specs.declared.token.Span.{Span}
 use Rattle.tla_token.specs.declared.token.Token as code_token
 use Rattle.tla_token.specs.declared.token.Tokens.{Tokens}
 use Rattle.tla_token.specs.Lexemes as lexeme
-use Rattle.tla_token.specs.ReservedWords.{pluscal_spelling, tla_spelling, pluscal_word_of}
+use Rattle.tla_token.specs.ReservedWords.{pluscal_spelling, tla_spelling, all_pluscal_words}
 use Rattle.tla_token.specs.KeptWords.{is_kept}
 use Rattle.tla_token.specs.TokensSeen.{kind_seen, span_bytes}
 use Rattle.tla_token.proofs.KeptLemmas.{kept_pluscal, kept_tla}
@@ -30,54 +29,68 @@ use Rattle.expr_nodes.specs.Ahead.{ahead}
 use Rattle.expr_nodes.proofs.ViewLemmas.{name_view, reserved_view, fairness_view}
 use Rattle.syntax_reading.specs.TokenReaders.{first, is_reserved}
 
--- ---- words with one spelling are one
+-- ---- words are told by their numbers
 
-spells : (r : PluscalWord) → pluscal_word_of (pluscal_spelling r) ≡ Some r
-spells pluscal.Algorithm = refl
-spells pluscal.Assert = refl
-spells pluscal.Await = refl
-spells pluscal.Begin = refl
-spells pluscal.Call = refl
-spells pluscal.Define = refl
-spells pluscal.Do = refl
-spells pluscal.Either = refl
-spells pluscal.Else = refl
-spells pluscal.Elsif = refl
-spells pluscal.End = refl
-spells pluscal.Fair = refl
-spells pluscal.Goto = refl
-spells pluscal.If = refl
-spells pluscal.Macro = refl
-spells pluscal.Or = refl
-spells pluscal.Print = refl
-spells pluscal.Procedure = refl
-spells pluscal.Process = refl
-spells pluscal.Return = refl
-spells pluscal.Skip = refl
-spells pluscal.Then = refl
-spells pluscal.Variable = refl
-spells pluscal.Variables = refl
-spells pluscal.When = refl
-spells pluscal.While = refl
-spells pluscal.With = refl
+abbrev number : PluscalWord → ℕ
+number r = position_or_len (λ w. bytes_eq (pluscal_spelling w) (pluscal_spelling r)) all_pluscal_words
 
-same_word : (r s : PluscalWord) → pluscal_spelling r ≡ pluscal_spelling s → r ≡ s
-same_word r s e = same_Some r s (sym (spells r) ∙ ap pluscal_word_of e ∙ spells s)
+numbered : (r : PluscalWord) → get_or all_pluscal_words (number r) pluscal.Algorithm ≡ r
+numbered pluscal.Algorithm = refl
+numbered pluscal.Assert = refl
+numbered pluscal.Await = refl
+numbered pluscal.Begin = refl
+numbered pluscal.Call = refl
+numbered pluscal.Define = refl
+numbered pluscal.Do = refl
+numbered pluscal.Either = refl
+numbered pluscal.Else = refl
+numbered pluscal.Elsif = refl
+numbered pluscal.End = refl
+numbered pluscal.Fair = refl
+numbered pluscal.Goto = refl
+numbered pluscal.If = refl
+numbered pluscal.Macro = refl
+numbered pluscal.Or = refl
+numbered pluscal.Print = refl
+numbered pluscal.Procedure = refl
+numbered pluscal.Process = refl
+numbered pluscal.Return = refl
+numbered pluscal.Skip = refl
+numbered pluscal.Then = refl
+numbered pluscal.Variable = refl
+numbered pluscal.Variables = refl
+numbered pluscal.When = refl
+numbered pluscal.While = refl
+numbered pluscal.With = refl
 
-compared : (k : Bool) (r s : PluscalWord) → Decides k (s ≡ r) → k ≡ bytes_eq (pluscal_spelling r) (pluscal_spelling s)
-compared true r s d = sym ((bytes_eq-Decides (pluscal_spelling r) (pluscal_spelling s)).1 (ap pluscal_spelling (sym (d.0 refl))))
-compared false r s d = sym (false_from_ne_true (bytes_eq (pluscal_spelling r) (pluscal_spelling s)) (λ t. absurd (no (d.1 (sym (same_word r s ((bytes_eq-Decides (pluscal_spelling r) (pluscal_spelling s)).0 t)))))))
+same_number : (r s : PluscalWord) → number r ≡ number s → r ≡ s
+same_number r s e = sym (numbered r) ∙ ap (λ (n : ℕ). get_or all_pluscal_words n pluscal.Algorithm) e ∙ numbered s
+
+by_number : (r s : PluscalWord) (k : Bool) → nat_eq (number r) (number s) ≡ k → k ≡ bytes_eq (pluscal_spelling s) (pluscal_spelling r)
+by_number r s true e =
+    sym ((bytes_eq-Decides (pluscal_spelling s) (pluscal_spelling r)).1 (ap pluscal_spelling (sym (same_number r s (eqb-true (number r) (number s) e)))))
+by_number r s false e =
+    sym (false_from_ne_true (bytes_eq (pluscal_spelling s) (pluscal_spelling r)) (λ t.
+    absurd (both_ways (nat_eq (number r) (number s)) e (eq-eqb (number r) (number s) (ap position (sym ((bytes_eq-Decides (pluscal_spelling s) (pluscal_spelling r)).0 t)))))))
   where
-    no : false ≡ true → ⊥
-    no e = cc
+    position : List ℕ → ℕ
+    position u = position_or_len (λ w. bytes_eq (pluscal_spelling w) u) all_pluscal_words
+
+pub numbers_tell : (r s : PluscalWord) (n m : ℕ) → n ≡ position_or_len (λ w. bytes_eq (pluscal_spelling w) (pluscal_spelling r)) all_pluscal_words → m ≡ position_or_len (λ w. bytes_eq (pluscal_spelling w) (pluscal_spelling s)) all_pluscal_words
+    → nat_eq n m ≡ bytes_eq (pluscal_spelling s) (pluscal_spelling r)
+numbers_tell r s n m e f = (λ i. nat_eq (e i) (f i)) ∙ by_number r s (nat_eq (number r) (number s)) refl
 
 -- ---- a token
 
-pub reserved_next : (bytes : List ℕ) (s : Span) (r t : PluscalWord) (k : Bool) → is_kept bytes (code.PluscalWord s t) ≡ true → Decides k (t ≡ r) → k ≡ is_reserved (pluscal_spelling r) (kind_of (kind_seen bytes (code.PluscalWord s t)))
+reserved_next : (bytes : List ℕ) (s : Span) (r t : PluscalWord) (k : Bool) → is_kept bytes (code.PluscalWord s t) ≡ true → k ≡ bytes_eq (pluscal_spelling r) (pluscal_spelling t) → k ≡ is_reserved (pluscal_spelling r) (kind_of (kind_seen bytes (code.PluscalWord s t)))
 reserved_next bytes s r t k h d =
-    compared k r t d
+    d
     ∙ ap (bytes_eq (pluscal_spelling r)) (sym (kept_pluscal bytes s t h))
     ∙ ap (is_reserved (pluscal_spelling r)) (reserved_view bytes s t h)
+
+pub reserved_at : (bytes : List ℕ) (kind : Kind) (s : Span) (r t : PluscalWord) (k : Bool) → kind ≡ code.PluscalWord s t → is_kept bytes kind ≡ true → k ≡ bytes_eq (pluscal_spelling r) (pluscal_spelling t) → k ≡ is_reserved (pluscal_spelling r) (kind_of (kind_seen bytes kind))
+reserved_at bytes kind s r t k e h d =
+    reserved_next bytes s r t k (ap (is_kept bytes) (sym e) ∙ h) d ∙ ap (λ (u : Kind). is_reserved (pluscal_spelling r) (kind_of (kind_seen bytes u))) (sym e)
 
 sign_next : (w : Word) (s : Sign) → false ≡ is_reserved w (sign_kind s)
 sign_next w sign.MapsTo = refl

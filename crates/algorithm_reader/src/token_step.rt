@@ -1,7 +1,9 @@
 //! Steps over single tokens of an algorithm, wherever in their lines they are: what is next, and past a word or mark.
 
 ghost use Rattle.std.specs.Prelude.{◌≡◌, ℕ, List, ◌<◌, ◌≤◌, IfOk, IfSome, IfNone, true, false, length, is_some};
-ghost use Rattle.tla_token.specs.ReservedWords.{pluscal_spelling};
+ghost use Rattle.std.specs.List.{position_or_len};
+ghost use Rattle.std.specs.Str.{bytes_eq};
+ghost use Rattle.tla_token.specs.ReservedWords.{pluscal_spelling, all_pluscal_words};
 ghost use Rattle.tla_token.specs.KeptWords.{is_kept};
 ghost use Rattle.tla_token.specs.TokensSeen.{kind_seen};
 ghost use Rattle.tla_tree.specs.TokenViews.{kind_of};
@@ -99,13 +101,55 @@ pub fn is_next_word(tokens: &Tokens, at: usize, word: PluscalWord) -> bool
 }
 
 // Whether a token is this reserved word of PlusCal.
-#[tactic(auto, using(crate::proofs::WordsNext::reserved_next, crate::proofs::WordsNext::unreserved_next))]
+#[tactic(auto, using(crate::proofs::WordsNext::unreserved_next))]
 fn is_word(kind: Kind, word: PluscalWord) -> bool
     ensures { (bytes : List ℕ) → is_kept bytes kind ≡ true → result ≡ is_reserved (pluscal_spelling word) (kind_of (kind_seen bytes kind)) }
 {
     match kind {
-        Kind::PluscalWord(_, other) => other == word,
+        Kind::PluscalWord(_, other) => is_same(other, word),
         _ => false,
+    }
+}
+
+// Whether two words are one.
+fn is_same(one: PluscalWord, other: PluscalWord) -> bool
+    ensures { result ≡ bytes_eq (pluscal_spelling other) (pluscal_spelling one) }
+{
+    word_number(one) == word_number(other)
+}
+
+// The number of a word.
+fn word_number(word: PluscalWord) -> u8
+    ensures { result ≡ position_or_len (λ w. bytes_eq (pluscal_spelling w) (pluscal_spelling word)) all_pluscal_words }
+{
+    match word {
+        PluscalWord::Algorithm => 0,
+        PluscalWord::Assert => 1,
+        PluscalWord::Await => 2,
+        PluscalWord::Begin => 3,
+        PluscalWord::Call => 4,
+        PluscalWord::Define => 5,
+        PluscalWord::Do => 6,
+        PluscalWord::Either => 7,
+        PluscalWord::Else => 8,
+        PluscalWord::Elsif => 9,
+        PluscalWord::End => 10,
+        PluscalWord::Fair => 11,
+        PluscalWord::Goto => 12,
+        PluscalWord::If => 13,
+        PluscalWord::Macro => 14,
+        PluscalWord::Or => 15,
+        PluscalWord::Print => 16,
+        PluscalWord::Procedure => 17,
+        PluscalWord::Process => 18,
+        PluscalWord::Return => 19,
+        PluscalWord::Skip => 20,
+        PluscalWord::Then => 21,
+        PluscalWord::Variable => 22,
+        PluscalWord::Variables => 23,
+        PluscalWord::When => 24,
+        PluscalWord::While => 25,
+        PluscalWord::With => 26,
     }
 }
 

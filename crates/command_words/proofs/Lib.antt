@@ -2,3 +2,4 @@
 mod Rows
 pub mod Found
 mod Meanings
+pub mod TableLemmas

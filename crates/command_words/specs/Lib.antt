@@ -2,3 +2,4 @@
 pub mod Table
 pub mod Commands
 pub mod Meant
+pub mod TableParts

@@ -3,7 +3,7 @@
 use pcal_tree::Syntax;
 
 /// How a translation is made.
-#[derive(Clone, Copy, PartialEq, Eq, Debug)]
+#[derive(Clone, Copy)]
 pub struct Options {
     /// Labels are added everywhere where one is missing: `--label` was given.
     pub forced: bool,
@@ -12,7 +12,7 @@ pub struct Options {
 }
 
 /// A command, with the words that name its files.
-#[derive(Clone, Copy, PartialEq, Eq, Debug)]
+#[derive(Clone, Copy)]
 pub enum Command<'a> {
     /// `translate FILE`.
     Translate(&'a str, Options),

@@ -19,13 +19,22 @@ use tla_token::fault::sooner;
 // ---- algorithms
 
 /// Whether an algorithm begins here: its first words, blanks and a name.
-#[tactic(auto, using(crate::proofs::BeginningSteps::begun, crate::proofs::BeginningSteps::not_begun, crate::proofs::BeginningSteps::unbegun))]
+#[tactic(auto, using(crate::proofs::BeginningSteps::unbegun))]
 pub fn begins_algorithm(text: &[u8]) -> bool
     ensures { result ≡ pure.begins_algorithm text.now }
 {
     if !begins_with(text, b'-') {
         return false;
     }
+    has_first_words(text)
+}
+
+// The same, also where another byte is in front: few places come to this.
+#[cold]
+#[tactic(auto, using(crate::proofs::BeginningSteps::begun, crate::proofs::BeginningSteps::not_begun))]
+fn has_first_words(text: &[u8]) -> bool
+    ensures { result ≡ pure.begins_algorithm text.now }
+{
     match first_words_len(text) {
         Some(n) => is_named(&text[n..]),
         None => false,
@@ -138,13 +147,22 @@ pub fn first_beginning(text: &[u8], from: usize, to: usize) -> Option<usize>
 // ---- options
 
 /// Whether a line of options goes on here: `PlusCal options (`.
-#[tactic(auto, using(crate::proofs::BeginningSteps::options_unbegun, crate::proofs::BeginningSteps::options_no, crate::proofs::BeginningSteps::options_blankless, crate::proofs::BeginningSteps::options_yes))]
+#[tactic(auto, using(crate::proofs::BeginningSteps::options_unbegun))]
 pub fn is_options(text: &[u8]) -> bool
     ensures { result ≡ pure.is_options text.now }
 {
     if !begins_with(text, b'P') {
         return false;
     }
+    has_options(text)
+}
+
+// The same, also where another byte is in front: few places come to this.
+#[cold]
+#[tactic(auto, using(crate::proofs::BeginningSteps::options_no, crate::proofs::BeginningSteps::options_blankless, crate::proofs::BeginningSteps::options_yes))]
+fn has_options(text: &[u8]) -> bool
+    ensures { result ≡ pure.is_options text.now }
+{
     if !text.starts_with(b"PlusCal") {
         return false;
     }

@@ -7,7 +7,7 @@ use Rattle.tla_token.specs.Signs.{is_among}
 use Rattle.tla_tree.specs.Tree.{Word, Name, words, Form, name, operator_call, Tree, node, Trees, no_trees, tree, Each, Every, EveryOf, binders, seen_names, root_place}
 use Rattle.tla_value.specs.laws.FreeNames.{Or, Also, Any, IsOther, FormReads, FreeNames, FreeInParts}
 use Rattle.tla_value.specs.laws.Grafting.{Apart, ApartForm, NotFreeIn}
-use Rattle.pcal_tree.specs.Algorithm.{Span, Binds, no_binds, one_of, is, Statement, assign, await, print, assert, skip, branch, either, with, while, goto, macro, call, return, Statements, done, then, mark, Branches, no_branches, or, Macro, Procedure, Assignments, no_assignments, assignment}
+use Rattle.pcal_tree.specs.Algorithm.{Binds, no_binds, one_of, is, Statement, assign, await, print, assert, skip, branch, either, with, while, goto, macro, call, return, Statements, done, then, mark, Branches, no_branches, or, Macro, Procedure, Assignments, no_assignments, assignment}
 use Rattle.pcal_tree.specs.BoundNames.{names_of_binds}
 use Rattle.pcal_tree.specs.Offences.{offence_if}
 use Rattle.pcal_tree.specs.OffencesNames.{Use, takes, variable, argument, standard, unread, Sight, knowing, seeing_plain, use_of, applied_offences, form_offences, count, in_tree, in_parts, in_whole, in_each, in_binds, after_binds, in_one, in_body, in_branches, parameter_use, seeing_parameters, macro_offences}

@@ -4,7 +4,7 @@ ghost use Rattle.std.specs.Prelude.{◌≡◌};
 ghost use Rattle.pcal_tree.specs.Marks.{text_of_mark, text_of_fairness};
 
 /// The mark after a label.
-#[derive(Clone, Copy, PartialEq, Eq, Debug)]
+#[derive(Clone, Copy)]
 pub enum Mark {
     /// `A:`
     Plain,
@@ -15,7 +15,7 @@ pub enum Mark {
 }
 
 /// The fairness that is asked of a process.
-#[derive(Clone, Copy, PartialEq, Eq, Debug)]
+#[derive(Clone, Copy)]
 pub enum Fairness {
     /// `process`
     Unfair,

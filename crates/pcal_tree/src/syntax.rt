@@ -1,7 +1,7 @@
 //! The two syntaxes of PlusCal.
 
 /// A syntax of PlusCal ("A PlusCal User's Manual", its two versions).
-#[derive(Clone, Copy, PartialEq, Eq, Debug)]
+#[derive(Clone, Copy)]
 pub enum Syntax {
     /// With `begin` and `end`.
     P,

@@ -1,6 +1,6 @@
 -- The labelled algorithm and the module under one meaning: the values of its constants, and states as values of the written variables
 -- ("A PlusCal User's Manual", section 3; values in canonical order, "Specifying Systems", sections 16.1.6 to 16.1.10).
-use Rattle.std.specs.Prelude.{◌≡◌, List, ◌∷◌, Some, None, cond, codes, is_some, false}
+use Rattle.std.specs.Prelude.{◌≡◌, List, ◌∷◌, Some, None, codes, is_some, false}
 use Rattle.std.specs.Bool.{IsTrue}
 use Rattle.tla_token.specs.Signs.{is_among}
 use Rattle.tla_tree.specs.Tree.{Word, Each, words}

@@ -1,13 +1,13 @@
 -- A script that is followed to its end is run, through the states that it leads to.
-use Rattle.std.proofs.Common.{◌≡◌, ℕ, suc, List, [], ◌∷◌, Option, Some, None, refl, sym, ap, subst, ◌∙◌}
+use Rattle.std.proofs.Common.{◌≡◌, ℕ, suc, List, [], ◌∷◌, None, refl, ap}
 use Rattle.tla_tree.specs.Tree.{Word}
 use Rattle.pcal_tree.specs.Scope.{State}
 use Rattle.pcal_tree.specs.Program.{Program}
 use Rattle.pcal_tree.specs.StepAnswers.{Reply, reached, held_at, no_label, needs_choice, too_many_choices, stopped_by, stepped, start_by}
-use Rattle.pcal_tree.specs.Script.{Turn, StepBy, StepsBy, RunOf}
+use Rattle.pcal_tree.specs.Script.{Turn, StepsBy, RunOf}
 use Rattle.pcal_tree.proofs.ReplyLaws.{step_replied, start_replied}
 use Rattle.step_runner.specs.Script.{Script}
-use Rattle.step_runner.specs.Followed.{Followed, landed, after_reply, turns_followed, followed}
+use Rattle.step_runner.specs.Followed.{landed, after_reply, turns_followed, followed}
 
 abbrev Landing : Reply (State × Word) → State → Type 0
 Landing r t = (l : Word) × (r ≡ reached (t, l))

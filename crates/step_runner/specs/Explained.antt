@@ -1,7 +1,7 @@
 -- What comes of explaining a trace: the states that are shown, and why it stops before its end.
-use Rattle.std.specs.Prelude.{ℕ, suc, List, [], ◌∷◌, ◌++◌, Bool, true, false, Option, Some, None, unwrap_or, Ok, Err}
+use Rattle.std.specs.Prelude.{ℕ, suc, List, [], ◌∷◌, Bool, true, false, Option, Some, None, unwrap_or, Ok, Err}
 use Rattle.tla_tree.specs.Tree.{Word}
-use Rattle.tla_value.specs.Value.{Value, truth, Trouble, over, Outcome}
+use Rattle.tla_value.specs.Value.{truth, Trouble, over, Outcome}
 use Rattle.tla_value.specs.States.{Entries, value_of}
 use Rattle.tla_value.specs.Definitions.{Valuation}
 use Rattle.pcal_tree.specs.Scope.{State}

@@ -11,7 +11,7 @@ use Rattle.tla_tree.specs.Whole.{whole}
 use Rattle.tla_tree.proofs.Opened.{in_braces}
 use Rattle.tla_tree.proofs.SoundTokens.{mark_is, sign_is}
 use Rattle.tla_expr.specs.ReadForms.{membered, braced}
-use Rattle.tla_expr.proofs.ReadLinks.{open_at}
+use Rattle.expr_rows.proofs.ReadLinks.{open_at}
 
 module _ (m : Room) (d : Readers) (e : ℕ) (p : Place) (ts : List Token) where
   pub no_members : is_mark tk.close_brace (next e ts).kind ≡ true → (us : List Token) → us ≡ tail ts → peek e (braces m d e p) ts ≡ Ok (no_set p (next e ts).place, us)

@@ -17,8 +17,8 @@ use Rattle.expr_nodes.specs.declared.make.Read.{Read}
 use Rattle.expr_nodes.specs.declared.shape.Boxes.{Boxes}
 use Rattle.expr_nodes.specs.ShapeOf.{list_shape}
 use Rattle.expr_nodes.specs.ReadIn.{IsIn, AreItems, AreLocals}
-use Rattle.tla_expr.specs.HasRead.{cased, defined}
-use Rattle.tla_expr.proofs.ReadLinks.{open_at, then_one}
+use Rattle.expr_rows.specs.HasRead.{cased, defined}
+use Rattle.expr_rows.proofs.ReadLinks.{open_at, then_one}
 
 pub case_more : (b e : ℕ) (p : Place) (ts us : List Token) (d : ℕ) → d + 1 ≡ b → us ≡ tail ts → keyed (room whole (Some b)) e p tk.case_key ts ≡ cased (whole (Some d)) e p us
 case_more b e p ts us d l t = open_at d 0 b l (in_cases e p) ts ∙ ap (cased (whole (Some d)) e p) (sym t)

@@ -12,7 +12,7 @@ use Rattle.tla_tree.specs.Whole.{whole}
 use Rattle.tla_tree.proofs.SoundTokens.{mark_is}
 use Rattle.expr_nodes.specs.declared.shape.Shape.{Shape}
 use Rattle.expr_nodes.specs.ShapeOf.{shape_of}
-use Rattle.tla_expr.specs.HasRead.{filtered}
+use Rattle.expr_rows.specs.HasRead.{filtered}
 use Rattle.tla_expr.specs.ReadForms.{deep_rule}
 use Rattle.expr_nodes.proofs.DepthLemmas.{fits_is}
 

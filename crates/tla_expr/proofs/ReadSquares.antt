@@ -13,10 +13,10 @@ use Rattle.tla_tree.proofs.Opened.{in_squares}
 use Rattle.tla_tree.proofs.SoundTokens.{mark_is}
 use Rattle.expr_nodes.specs.declared.shape.Shape.{Shape}
 use Rattle.expr_nodes.specs.ShapeOf.{shape_of}
-use Rattle.tla_expr.specs.HasRead.{mapped_to}
-use Rattle.tla_expr.specs.InSquares.{changed, function_behind}
+use Rattle.expr_rows.specs.HasRead.{mapped_to}
+use Rattle.expr_lists.specs.InSquares.{changed, function_behind}
 use Rattle.tla_expr.specs.ReadForms.{square_rule}
-use Rattle.tla_expr.proofs.ReadLinks.{open_at}
+use Rattle.expr_rows.proofs.ReadLinks.{open_at}
 use Rattle.tla_expr.proofs.ReadMembers.{fits_yes, fits_no}
 
 except_is : (k : TokenView) → is_key tk.except_key k ≡ true → k ≡ tk.key tk.except_key

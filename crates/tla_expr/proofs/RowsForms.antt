@@ -1,42 +1,21 @@
--- Worked rows: short forms, sets in braces, and what a first token begins.
-use Rattle.std.proofs.Common.{◌≡◌, [], ◌∷◌, None, Ok, Err, refl}
+-- Worked rows: forms in braces and in square brackets.
+use Rattle.std.proofs.Common.{◌≡◌, [], ◌∷◌, Ok, refl}
 use Rattle.tla_token.specs.declared.place.Place.{Place}
 use Rattle.tla_token.specs.declared.rule.Rule.TheVariants.{TooDeep, Syntax}
 use Rattle.tla_tree.specs.declared.op.Op.TheVariants as op
 use Rattle.tla_tree.specs.Tree.{Word}
 use Rattle.tla_tree.specs.Lexical.{token}
 use Rattle.tla_tree.specs.Lexical as tk
-use Rattle.tla_tree.specs.Spelling.{Phrase, Phrases, last, more, prefix_of, set_of, filter, functions, infix_of, name}
+use Rattle.tla_tree.specs.Spelling.{Phrase, last, set_of, filter, functions, infix_of, name}
 use Rattle.tla_tree.specs.Reader.{Readers, no_steps, any}
-use Rattle.tla_expr.specs.ReadForms.{under_short, set_alone, set_before, deep_rule, membered, braced, braced_other, square_rule, mapped, squared, squared_other, shape_if}
+use Rattle.tla_expr.specs.ReadForms.{deep_rule, membered, braced, braced_other, square_rule, mapped, squared, squared_other}
 
 abbrev here : Place
 here = record { line = 1; col = 3 }
 
 -- readers that always read this, and take nothing
-abbrev shorts : Phrase → Readers
-shorts b = record no_steps { short = λ e ts. Ok (b, ts) }
-
 abbrev always : Phrase → Readers
 always b = record no_steps { expr = λ e c ts. Ok (b, ts) }
-
-abbrev rows : Phrases → Readers
-rows xs = record no_steps { phrases = λ e ts. Ok (xs, ts) }
-
-short_negated : (b : Phrase) (p : Place) → under_short (shorts b) 0 p op.Not [] ≡ Ok (prefix_of p op.Not b, [])
-short_negated b p = refl
-
-one_in_braces : (a : Phrase) (p : Place) → set_alone 0 p a (token here (tk.mark tk.close_brace) ∷ []) ≡ Ok (set_of p (last a) here, [])
-one_in_braces a p = refl
-
-not_closed : (a : Phrase) (p : Place) → set_alone 0 p a (token here (tk.mark tk.close_square) ∷ []) ≡ Err (Syntax, token here (tk.mark tk.close_square) ∷ [])
-not_closed a p = refl
-
-more_in_braces : (a : Phrase) (xs : Phrases) (p q : Place) → set_before (rows xs) 0 p a q (token here (tk.mark tk.close_brace) ∷ []) ≡ Ok (set_of p (more a q xs) here, [])
-more_in_braces a xs p q = refl
-
-no_shape : shape_if None ≡ None
-no_shape = refl
 
 filtered_members : (b : Phrase) (p q s : Place) (x : Word) → membered (any (always b)) (always b) 0 p q x s (token here (tk.mark tk.colon) ∷ token here (tk.mark tk.close_brace) ∷ []) ≡ Ok (filter p q x s b here b here, [])
 filtered_members b p q s x = refl

@@ -1,7 +1,6 @@
 //! Reading sets in braces, by what comes behind the `{`.
 
 ghost use Rattle.std.specs.Prelude.{◌<◌, ◌≤◌, suc, length, IfOk, Some};
-ghost use Rattle.tla_token.specs.Limits.{deepest_expression};
 ghost use Rattle.tla_token.specs.TokensSeen.{span_bytes};
 ghost use Rattle.tla_tree.specs.Pool.{Keeps};
 ghost use Rattle.tla_tree.specs.Lexical as tk;
@@ -10,20 +9,21 @@ ghost use Rattle.tla_tree.specs.Reader as reader;
 ghost use Rattle.tla_tree.specs.Whole.{whole};
 ghost use Rattle.expr_nodes.specs.Ahead.{ahead};
 ghost use Rattle.expr_nodes.specs.ReadIn.{IsIn, Told};
-ghost use Rattle.tla_expr.specs.HasRead.{HasRead, CanRead, ReadsBelow, Stands};
+ghost use Rattle.expr_rows.specs.HasRead.{HasRead, Stands};
+ghost use Rattle.expr_rows.specs.MayRead.{MayRead};
 ghost use Rattle.tla_expr.specs.ReadForms.{braced, braced_other};
 
-use crate::read_climb::climb;
-use crate::read_image::image_in;
-use crate::read_link::postfix;
 use crate::read_member::member_in;
-use crate::read_name::from_name;
-use crate::read_set::set_in;
+use expr_lists::read_image::image_in;
+use expr_lists::read_set::set_in;
 use expr_nodes::cursor::{Halt, Word, is_sign};
 use expr_nodes::make::{Read, empty_set};
 use expr_nodes::shape::Context;
 use expr_nodes::spot::{Spot, after, after_mark, deeper, next_at};
 use expr_nodes::view::{Mark, View};
+use expr_operands::read_climb::climb;
+use expr_operands::read_link::postfix;
+use expr_operands::read_name::from_name;
 use std::alloc::Global;
 use tla_pool::Pool;
 use tla_token::{Place, Tokens};
@@ -39,10 +39,7 @@ fn rest<F: Fn(&mut Pool, Context, Spot) -> Result<(Read, usize), Halt>>(
     place: Place,
     a: Read,
 ) -> Result<(Read, usize), Halt>
-    requires there { s.at ≤ length tokens.now.items.items }
-    requires limited { s.left ≤ deepest_expression }
-    requires can { CanRead tokens.now (suc s.left) (F.pre inner.now) }
-    requires reads { ReadsBelow tokens.now (suc s.left) (F.post inner.now) }
+    requires given { MayRead tokens.now s (suc s.left) (F.pre inner.now) (F.post inner.now) }
     requires a_in { a.id < length pool.old }
     requires a_small { a.shape.nesting ≤ s.left }
     ensures read { (i : Phrase) → IsIn pool.old a i → Told (λ x j. IsIn pool.new x.0 j) (λ x. ahead tokens.now x.1) result (reader.peek s.edge (reader.brace_rest (whole (Some s.left)) s.edge place i) (ahead tokens.now s.at)) }
@@ -65,10 +62,7 @@ fn named<F: Fn(&mut Pool, Context, Spot) -> Result<(Read, usize), Halt>>(
     place: Place,
     word: Word,
 ) -> Result<(Read, usize), Halt>
-    requires there { s.at ≤ length tokens.now.items.items }
-    requires limited { s.left ≤ deepest_expression }
-    requires can { CanRead tokens.now (suc s.left) (F.pre inner.now) }
-    requires reads { ReadsBelow tokens.now (suc s.left) (F.post inner.now) }
+    requires given { MayRead tokens.now s (suc s.left) (F.pre inner.now) (F.post inner.now) }
     ensures { HasRead tokens.now pool.old pool.new s.at (suc s.left) result (braced (reader.room whole (Some s.left)) (whole (Some s.left)) s.edge place word.place (span_bytes tokens.now.bytes.items word.span) (ahead tokens.now s.at)) }
 {
     let (a, at) = from_name(alloc, tokens, inner, pool, s, word)?;
@@ -87,10 +81,7 @@ fn from_word<F: Fn(&mut Pool, Context, Spot) -> Result<(Read, usize), Halt>>(
     place: Place,
     word: Word,
 ) -> Result<(Read, usize), Halt>
-    requires there { s.at ≤ length tokens.now.items.items }
-    requires limited { s.left ≤ deepest_expression }
-    requires can { CanRead tokens.now (suc s.left) (F.pre inner.now) }
-    requires reads { ReadsBelow tokens.now (suc s.left) (F.post inner.now) }
+    requires given { MayRead tokens.now s (suc s.left) (F.pre inner.now) (F.post inner.now) }
     ensures { HasRead tokens.now pool.old pool.new s.at (suc s.left) result (reader.peek s.edge (reader.brace_name (reader.room whole (Some s.left)) (whole (Some s.left)) s.edge place word.place (span_bytes tokens.now.bytes.items word.span)) (ahead tokens.now s.at)) }
 {
     let t = next_at(tokens, s);
@@ -119,10 +110,7 @@ fn from_other<F: Fn(&mut Pool, Context, Spot) -> Result<(Read, usize), Halt>>(
     s: Spot,
     place: Place,
 ) -> Result<(Read, usize), Halt>
-    requires there { s.at ≤ length tokens.now.items.items }
-    requires limited { s.left ≤ deepest_expression }
-    requires can { CanRead tokens.now (suc s.left) (F.pre inner.now) }
-    requires reads { ReadsBelow tokens.now (suc s.left) (F.post inner.now) }
+    requires given { MayRead tokens.now s (suc s.left) (F.pre inner.now) (F.post inner.now) }
     ensures { HasRead tokens.now pool.old pool.new s.at (suc s.left) result (braced_other (whole (Some s.left)) s.edge place (ahead tokens.now s.at)) }
 {
     let (a, at) = inner(pool, Context::Free, s)?;
@@ -142,10 +130,7 @@ pub fn braces_from<F: Fn(&mut Pool, Context, Spot) -> Result<(Read, usize), Halt
     s: Spot,
     place: Place,
 ) -> Result<(Read, usize), Halt>
-    requires there { s.at ≤ length tokens.now.items.items }
-    requires limited { s.left ≤ deepest_expression }
-    requires can { CanRead tokens.now (suc s.left) (F.pre inner.now) }
-    requires reads { ReadsBelow tokens.now (suc s.left) (F.post inner.now) }
+    requires given { MayRead tokens.now s (suc s.left) (F.pre inner.now) (F.post inner.now) }
     ensures { HasRead tokens.now pool.old pool.new s.at (suc s.left) result (reader.peek s.edge (reader.braces (reader.room whole (Some s.left)) (whole (Some s.left)) s.edge place) (ahead tokens.now s.at)) }
 {
     if let Some(at) = after_mark(tokens, s, Mark::CloseBrace) {
@@ -180,10 +165,7 @@ pub fn braces<F: Fn(&mut Pool, Context, Spot) -> Result<(Read, usize), Halt>>(
     s: Spot,
     place: Place,
 ) -> Result<(Read, usize), Halt>
-    requires there { s.at ≤ length tokens.now.items.items }
-    requires limited { s.left ≤ deepest_expression }
-    requires can { CanRead tokens.now s.left (F.pre inner.now) }
-    requires reads { ReadsBelow tokens.now s.left (F.post inner.now) }
+    requires given { MayRead tokens.now s s.left (F.pre inner.now) (F.post inner.now) }
     ensures { HasRead tokens.now pool.old pool.new s.at s.left result (reader.primary (reader.room whole (Some s.left)) (whole (Some s.left)) s.edge place (tk.mark tk.open_brace) (ahead tokens.now s.at)) }
 {
     let d = deeper(tokens, s, 0)?;

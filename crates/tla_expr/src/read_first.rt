@@ -1,7 +1,7 @@
 //! Which form the next token begins.
 
-ghost use Rattle.std.specs.Prelude.{◌<◌, ◌≤◌, true, false, length, Some, None};
-ghost use Rattle.tla_token.specs.Limits.{deepest_expression, past_numbers};
+ghost use Rattle.std.specs.Prelude.{◌<◌, true, false, Some, None};
+ghost use Rattle.tla_token.specs.Limits.{past_numbers};
 ghost use Rattle.tla_token.specs.Lexemes.{number_of};
 ghost use Rattle.tla_token.specs.TokensSeen.{span_bytes};
 ghost use Rattle.tla_tree.specs.Lexical as tk;
@@ -10,24 +10,25 @@ ghost use Rattle.tla_tree.specs.Whole.{whole};
 ghost use Rattle.expr_nodes.specs.ShapeOf.{context_seen};
 ghost use Rattle.expr_nodes.specs.ViewSeen.{mark_seen, key_seen};
 ghost use Rattle.expr_nodes.specs.Ahead.{ahead};
-ghost use Rattle.tla_expr.specs.HasRead.{HasRead, CanRead, ReadsBelow, ReadsThere};
+ghost use Rattle.expr_rows.specs.HasRead.{HasRead, ReadsThere};
+ghost use Rattle.expr_rows.specs.MayRead.{MayRead};
 ghost use Rattle.tla_expr.specs.Numbers.{NumbersFit};
 
 use crate::read_braces::braces;
-use crate::read_climb::climb;
 use crate::read_listed::{case, let_from, list};
-use crate::read_name::from_name;
-use crate::read_open::if_then_else;
-use crate::read_primary::{bracket, tuple};
-use crate::read_quantifier::quantifier;
-use crate::read_short::signed;
 use crate::read_squares::squares;
-use crate::read_token::{constant, number, string};
+use expr_lists::read_quantifier::quantifier;
 use expr_nodes::cursor::{Halt, Word};
 use expr_nodes::make::Read;
 use expr_nodes::shape::{Context, is_bullet, prefix_by};
 use expr_nodes::spot::{Spot, after, next_at, refused};
 use expr_nodes::view::{Key, Mark, View};
+use expr_operands::read_climb::climb;
+use expr_operands::read_name::from_name;
+use expr_operands::read_open::if_then_else;
+use expr_operands::read_primary::{bracket, tuple};
+use expr_operands::read_short::signed;
+use expr_operands::read_token::{constant, number, string};
 use std::alloc::Global;
 use tla_pool::Pool;
 use tla_token::bytes::number_value;
@@ -48,10 +49,7 @@ pub fn word<F: Fn(&mut Pool, Context, Spot) -> Result<(Read, usize), Halt>>(
     place: Place,
     span: Span,
 ) -> Result<(Read, usize), Halt>
-    requires there { s.at ≤ length tokens.now.items.items }
-    requires limited { s.left ≤ deepest_expression }
-    requires can { CanRead tokens.now s.left (F.pre inner.now) }
-    requires reads { ReadsBelow tokens.now s.left (F.post inner.now) }
+    requires given { MayRead tokens.now s s.left (F.pre inner.now) (F.post inner.now) }
     ensures { HasRead tokens.now pool.old pool.new s.at s.left result (reader.primary (reader.room whole (Some s.left)) (whole (Some s.left)) s.edge place (tk.word (span_bytes tokens.now.bytes.items span)) (ahead tokens.now s.at)) }
 {
     let at = after(tokens, s);
@@ -79,10 +77,7 @@ pub fn marked<F: Fn(&mut Pool, Context, Spot) -> Result<(Read, usize), Halt>>(
     place: Place,
     mark: Mark,
 ) -> Result<(Read, usize), Halt>
-    requires there { s.at ≤ length tokens.now.items.items }
-    requires limited { s.left ≤ deepest_expression }
-    requires can { CanRead tokens.now s.left (F.pre inner.now) }
-    requires reads { ReadsBelow tokens.now s.left (F.post inner.now) }
+    requires given { MayRead tokens.now s s.left (F.pre inner.now) (F.post inner.now) }
     ensures { HasRead tokens.now pool.old pool.new s.at s.left result (reader.primary (reader.room whole (Some s.left)) (whole (Some s.left)) s.edge place (tk.mark (mark_seen mark)) (ahead tokens.now s.at)) }
 {
     match mark {
@@ -108,10 +103,7 @@ pub fn bullets<F: Fn(&mut Pool, Context, Spot) -> Result<(Read, usize), Halt>>(
     place: Place,
     op: Op,
 ) -> Result<(Read, usize), Halt>
-    requires there { s.at ≤ length tokens.now.items.items }
-    requires limited { s.left ≤ deepest_expression }
-    requires can { CanRead tokens.now s.left (F.pre inner.now) }
-    requires reads { ReadsBelow tokens.now s.left (F.post inner.now) }
+    requires given { MayRead tokens.now s s.left (F.pre inner.now) (F.post inner.now) }
     ensures { HasRead tokens.now pool.old pool.new s.at s.left result (reader.primary (reader.room whole (Some s.left)) (whole (Some s.left)) s.edge place (tk.sign op) (ahead tokens.now s.at)) }
 {
     if is_bullet(op) {
@@ -131,11 +123,8 @@ fn big_number<F: Fn(&mut Pool, Context, Spot) -> Result<(Read, usize), Halt>>(
     place: Place,
     span: Span,
 ) -> Result<(Read, usize), Halt>
-    requires there { s.at ≤ length tokens.now.items.items }
+    requires given { MayRead tokens.now s s.left (F.pre inner.now) (F.post inner.now) }
     requires small { number_of (span_bytes tokens.now.bytes.items span) < past_numbers }
-    requires limited { s.left ≤ deepest_expression }
-    requires can { CanRead tokens.now s.left (F.pre inner.now) }
-    requires reads { ReadsBelow tokens.now s.left (F.post inner.now) }
     ensures { HasRead tokens.now pool.old pool.new s.at s.left result (reader.primary (reader.room whole (Some s.left)) (whole (Some s.left)) s.edge place (tk.number (number_of (span_bytes tokens.now.bytes.items span))) (ahead tokens.now s.at)) }
 {
     match number_value(tokens.word(span)) {
@@ -156,11 +145,8 @@ pub fn primary<F: Fn(&mut Pool, Context, Spot) -> Result<(Read, usize), Halt>>(
     pool: &mut Pool,
     s: Spot,
 ) -> Result<(Read, usize), Halt>
-    requires there { s.at ≤ length tokens.now.items.items }
+    requires given { MayRead tokens.now s s.left (F.pre inner.now) (F.post inner.now) }
     requires numbers { NumbersFit tokens.now }
-    requires limited { s.left ≤ deepest_expression }
-    requires can { CanRead tokens.now s.left (F.pre inner.now) }
-    requires reads { ReadsBelow tokens.now s.left (F.post inner.now) }
     ensures { HasRead tokens.now pool.old pool.new s.at s.left result (reader.peek s.edge (reader.primary (reader.room whole (Some s.left)) (whole (Some s.left)) s.edge) (ahead tokens.now s.at)) }
 {
     let t = next_at(tokens, s);
@@ -190,10 +176,7 @@ pub fn keyed<F: Fn(&mut Pool, Context, Spot) -> Result<(Read, usize), Halt>>(
     place: Place,
     key: Key,
 ) -> Result<(Read, usize), Halt>
-    requires there { s.at ≤ length tokens.now.items.items }
-    requires limited { s.left ≤ deepest_expression }
-    requires can { CanRead tokens.now s.left (F.pre inner.now) }
-    requires reads { ReadsBelow tokens.now s.left (F.post inner.now) }
+    requires given { MayRead tokens.now s s.left (F.pre inner.now) (F.post inner.now) }
     ensures { HasRead tokens.now pool.old pool.new s.at s.left result (reader.keyed (reader.room whole (Some s.left)) s.edge place (key_seen key) (ahead tokens.now s.at)) }
 {
     match key {
@@ -219,11 +202,8 @@ pub fn operand<F: Fn(&mut Pool, Context, Spot) -> Result<(Read, usize), Halt>>(
     s: Spot,
     context: Context,
 ) -> Result<(Read, usize), Halt>
-    requires there { s.at ≤ length tokens.now.items.items }
+    requires given { MayRead tokens.now s s.left (F.pre inner.now) (F.post inner.now) }
     requires numbers { NumbersFit tokens.now }
-    requires limited { s.left ≤ deepest_expression }
-    requires can { CanRead tokens.now s.left (F.pre inner.now) }
-    requires reads { ReadsBelow tokens.now s.left (F.post inner.now) }
     ensures { HasRead tokens.now pool.old pool.new s.at s.left result (reader.peek s.edge (reader.operand (reader.room whole (Some s.left)) (whole (Some s.left)) s.edge (context_seen context)) (ahead tokens.now s.at)) }
 {
     let t = next_at(tokens, s);
@@ -250,11 +230,8 @@ pub fn expression<F: Fn(&mut Pool, Context, Spot) -> Result<(Read, usize), Halt>
     context: Context,
     s: Spot,
 ) -> Result<(Read, usize), Halt>
-    requires there { s.at ≤ length tokens.now.items.items }
+    requires given { MayRead tokens.now s s.left (F.pre inner.now) (F.post inner.now) }
     requires numbers { NumbersFit tokens.now }
-    requires limited { s.left ≤ deepest_expression }
-    requires can { CanRead tokens.now s.left (F.pre inner.now) }
-    requires reads { ReadsBelow tokens.now s.left (F.post inner.now) }
     ensures { ReadsThere tokens.now pool.old pool.new context s result }
 {
     let (a, at) = operand(alloc, tokens, inner, pool, s, context)?;

@@ -2,7 +2,7 @@
 
 ghost use Rattle.std.specs.Prelude.{◌<◌, ◌≤◌, length};
 ghost use Rattle.tla_token.specs.Limits.{deepest_expression};
-ghost use Rattle.tla_expr.specs.HasRead.{ReadsThere};
+ghost use Rattle.expr_rows.specs.HasRead.{ReadsThere};
 ghost use Rattle.tla_expr.specs.Numbers.{NumbersFit};
 
 use crate::read_first::expression;

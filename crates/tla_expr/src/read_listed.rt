@@ -1,24 +1,24 @@
 //! Reading `CASE`, `LET` and lists by columns, over a reader of the expressions in them.
 
-ghost use Rattle.std.specs.Prelude.{◌≡◌, ◌≤◌, suc, true, length, Some};
-ghost use Rattle.tla_token.specs.Limits.{deepest_expression};
+ghost use Rattle.std.specs.Prelude.{◌≡◌, suc, true, Some};
 ghost use Rattle.tla_tree.specs.Lexical as tk;
 ghost use Rattle.tla_tree.specs.Rank.{is_bullet as is_bullet_of};
 ghost use Rattle.tla_tree.specs.Reader as reader;
 ghost use Rattle.tla_tree.specs.Whole.{whole};
 ghost use Rattle.expr_nodes.specs.Ahead.{ahead};
-ghost use Rattle.tla_expr.specs.HasRead.{HasRead, CanRead, ReadsBelow, cased, defined};
+ghost use Rattle.expr_rows.specs.HasRead.{HasRead, cased, defined};
+ghost use Rattle.expr_rows.specs.MayRead.{MayRead};
 
-use crate::read_arms::arms;
-use crate::read_bullets::bullets;
-use crate::read_link::postfix;
-use crate::read_locals::locals;
+use expr_lists::read_arms::arms;
+use expr_lists::read_bullets::bullets;
+use expr_lists::read_locals::locals;
 use expr_nodes::cursor::Halt;
 use expr_nodes::gather::{cases, local};
 use expr_nodes::make::Read;
 use expr_nodes::shape::{Context, list_shape};
 use expr_nodes::spot::{Spot, after, deeper, past_key};
 use expr_nodes::view::Key;
+use expr_operands::read_link::postfix;
 use std::alloc::Global;
 use tla_pool::Pool;
 use tla_token::{Place, Tokens};
@@ -37,10 +37,7 @@ pub fn case_in<F: Fn(&mut Pool, Context, Spot) -> Result<(Read, usize), Halt>>(
     s: Spot,
     place: Place,
 ) -> Result<(Read, usize), Halt>
-    requires there { s.at ≤ length tokens.now.items.items }
-    requires limited { s.left ≤ deepest_expression }
-    requires can { CanRead tokens.now (suc s.left) (F.pre inner.now) }
-    requires reads { ReadsBelow tokens.now (suc s.left) (F.post inner.now) }
+    requires given { MayRead tokens.now s (suc s.left) (F.pre inner.now) (F.post inner.now) }
     ensures { HasRead tokens.now pool.old pool.new s.at (suc s.left) result (cased (whole (Some s.left)) s.edge place (ahead tokens.now s.at)) }
 {
     let (many, at) = arms(alloc, tokens, inner, pool, s)?;
@@ -61,10 +58,7 @@ pub fn case<F: Fn(&mut Pool, Context, Spot) -> Result<(Read, usize), Halt>>(
     s: Spot,
     place: Place,
 ) -> Result<(Read, usize), Halt>
-    requires there { s.at ≤ length tokens.now.items.items }
-    requires limited { s.left ≤ deepest_expression }
-    requires can { CanRead tokens.now s.left (F.pre inner.now) }
-    requires reads { ReadsBelow tokens.now s.left (F.post inner.now) }
+    requires given { MayRead tokens.now s s.left (F.pre inner.now) (F.post inner.now) }
     ensures { HasRead tokens.now pool.old pool.new s.at s.left result (reader.keyed (reader.room whole (Some s.left)) s.edge place tk.case_key (ahead tokens.now s.at)) }
 {
     let d = deeper(tokens, s, 0)?;
@@ -85,10 +79,7 @@ pub fn let_in<F: Fn(&mut Pool, Context, Spot) -> Result<(Read, usize), Halt>>(
     s: Spot,
     place: Place,
 ) -> Result<(Read, usize), Halt>
-    requires there { s.at ≤ length tokens.now.items.items }
-    requires limited { s.left ≤ deepest_expression }
-    requires can { CanRead tokens.now (suc s.left) (F.pre inner.now) }
-    requires reads { ReadsBelow tokens.now (suc s.left) (F.post inner.now) }
+    requires given { MayRead tokens.now s (suc s.left) (F.pre inner.now) (F.post inner.now) }
     ensures { HasRead tokens.now pool.old pool.new s.at (suc s.left) result (defined (whole (Some s.left)) s.edge place (ahead tokens.now s.at)) }
 {
     let (many, at) = locals(alloc, tokens, inner, pool, s)?;
@@ -111,10 +102,7 @@ pub fn let_from<F: Fn(&mut Pool, Context, Spot) -> Result<(Read, usize), Halt>>(
     s: Spot,
     place: Place,
 ) -> Result<(Read, usize), Halt>
-    requires there { s.at ≤ length tokens.now.items.items }
-    requires limited { s.left ≤ deepest_expression }
-    requires can { CanRead tokens.now s.left (F.pre inner.now) }
-    requires reads { ReadsBelow tokens.now s.left (F.post inner.now) }
+    requires given { MayRead tokens.now s s.left (F.pre inner.now) (F.post inner.now) }
     ensures { HasRead tokens.now pool.old pool.new s.at s.left result (reader.keyed (reader.room whole (Some s.left)) s.edge place tk.let_key (ahead tokens.now s.at)) }
 {
     let d = deeper(tokens, s, 0)?;
@@ -136,10 +124,7 @@ pub fn list<F: Fn(&mut Pool, Context, Spot) -> Result<(Read, usize), Halt>>(
     place: Place,
     op: Op,
 ) -> Result<(Read, usize), Halt>
-    requires there { s.at ≤ length tokens.now.items.items }
-    requires limited { s.left ≤ deepest_expression }
-    requires can { CanRead tokens.now s.left (F.pre inner.now) }
-    requires reads { ReadsBelow tokens.now s.left (F.post inner.now) }
+    requires given { MayRead tokens.now s s.left (F.pre inner.now) (F.post inner.now) }
     requires bullet { is_bullet_of op ≡ true }
     ensures { HasRead tokens.now pool.old pool.new s.at s.left result (reader.primary (reader.room whole (Some s.left)) (whole (Some s.left)) s.edge place (tk.sign op) (ahead tokens.now s.at)) }
 {

@@ -1,7 +1,6 @@
 //! Reading what comes in braces behind `{x \in`.
 
 ghost use Rattle.std.specs.Prelude.{◌≡◌, ◌<◌, ◌≤◌, suc, length, IfOk, Some, MatchOption};
-ghost use Rattle.tla_token.specs.Limits.{deepest_expression};
 ghost use Rattle.tla_token.specs.TokensSeen.{span_bytes};
 ghost use Rattle.tla_tree.specs.Pool.{Keeps};
 ghost use Rattle.tla_tree.specs.Spelling.{Phrase};
@@ -9,17 +8,19 @@ ghost use Rattle.tla_tree.specs.Reader as reader;
 ghost use Rattle.tla_tree.specs.Whole.{whole};
 ghost use Rattle.expr_nodes.specs.Ahead.{ahead};
 ghost use Rattle.expr_nodes.specs.ReadIn.{IsIn, Told};
-ghost use Rattle.tla_expr.specs.HasRead.{HasRead, CanRead, ReadsBelow, Stands};
-ghost use Rattle.tla_expr.specs.ReadForms.{PartedIn, deep_rule, membered};
+ghost use Rattle.expr_rows.specs.HasRead.{HasRead, Stands};
+ghost use Rattle.expr_rows.specs.MayRead.{MayRead};
+ghost use Rattle.expr_operands.specs.ShortForms.{PartedIn};
+ghost use Rattle.tla_expr.specs.ReadForms.{deep_rule, membered};
 
-use crate::read_brace::filter_in;
-use crate::read_element::{Parted, set_behind};
-use crate::read_set::set_in;
+use expr_lists::read_brace::filter_in;
+use expr_lists::read_set::set_in;
 use expr_nodes::cursor::{Halt, Word, is_mark};
 use expr_nodes::make::Read;
 use expr_nodes::shape::Context;
 use expr_nodes::spot::{Spot, after_mark, next_at, refused};
 use expr_nodes::view::Mark;
+use expr_operands::read_element::{Parted, set_behind};
 use std::alloc::Global;
 use tla_pool::Pool;
 use tla_token::{Place, Rule, Tokens};
@@ -47,10 +48,7 @@ fn element_in<F: Fn(&mut Pool, Context, Spot) -> Result<(Read, usize), Halt>>(
     place: Place,
     e: Read,
 ) -> Result<(Read, usize), Halt>
-    requires there { s.at ≤ length tokens.now.items.items }
-    requires limited { s.left ≤ deepest_expression }
-    requires can { CanRead tokens.now (suc s.left) (F.pre inner.now) }
-    requires reads { ReadsBelow tokens.now (suc s.left) (F.post inner.now) }
+    requires given { MayRead tokens.now s (suc s.left) (F.pre inner.now) (F.post inner.now) }
     requires e_in { e.id < length pool.old }
     ensures read { (i : Phrase) → IsIn pool.old e i → Told (λ x j. IsIn pool.new x.0 j) (λ x. ahead tokens.now x.1) result (reader.set_from (reader.room whole (Some s.left)) (whole (Some s.left)) s.edge place (Some i) (ahead tokens.now s.at)) }
     ensures kept { Keeps pool.old pool.new }
@@ -75,10 +73,7 @@ fn member_rest<F: Fn(&mut Pool, Context, Spot) -> Result<(Read, usize), Halt>>(
     sign: Place,
     y: Parted,
 ) -> Result<(Read, usize), Halt>
-    requires there { s.at ≤ length tokens.now.items.items }
-    requires limited { s.left ≤ deepest_expression }
-    requires can { CanRead tokens.now (suc s.left) (F.pre inner.now) }
-    requires reads { ReadsBelow tokens.now (suc s.left) (F.post inner.now) }
+    requires given { MayRead tokens.now s (suc s.left) (F.pre inner.now) (F.post inner.now) }
     requires set_in { y.set.id < length pool.old }
     requires element_in { MatchOption y.element (Unit {0}) (λ e. e.id < length pool.old) }
     ensures read { (i : Phrase) → PartedIn pool.old word.place (span_bytes tokens.now.bytes.items word.span) sign y i → Told (λ x j. IsIn pool.new x.0 j) (λ x. ahead tokens.now x.1) result (reader.peek s.edge (reader.member_rest (reader.room whole (Some s.left)) (whole (Some s.left)) s.edge place word.place (span_bytes tokens.now.bytes.items word.span) sign i) (ahead tokens.now s.at)) }
@@ -121,10 +116,7 @@ pub fn member_in<F: Fn(&mut Pool, Context, Spot) -> Result<(Read, usize), Halt>>
     word: Word,
     sign: Place,
 ) -> Result<(Read, usize), Halt>
-    requires there { s.at ≤ length tokens.now.items.items }
-    requires limited { s.left ≤ deepest_expression }
-    requires can { CanRead tokens.now (suc s.left) (F.pre inner.now) }
-    requires reads { ReadsBelow tokens.now (suc s.left) (F.post inner.now) }
+    requires given { MayRead tokens.now s (suc s.left) (F.pre inner.now) (F.post inner.now) }
     ensures { HasRead tokens.now pool.old pool.new s.at (suc s.left) result (membered (reader.room whole (Some s.left)) (whole (Some s.left)) s.edge place word.place (span_bytes tokens.now.bytes.items word.span) sign (ahead tokens.now s.at)) }
 {
     let (y, at) = set_behind(alloc, tokens, inner, pool, s, word, sign)?;

@@ -3,16 +3,16 @@
 ghost use Rattle.std.specs.Prelude.{◌<◌, ◌≤◌, length, IfOk};
 ghost use Rattle.tla_token.specs.Limits.{deepest_expression};
 ghost use Rattle.tla_tree.specs.Pool.{AllBelow, Keeps};
-ghost use Rattle.tla_expr.specs.HasRead.{ReadsThere};
+ghost use Rattle.expr_rows.specs.HasRead.{ReadsThere};
 ghost use Rattle.tla_expr.specs.Numbers.{NumbersFit};
 ghost use Rattle.tla_expr.specs.ReadTrees.{ReadsTree, ReadsTrees};
 
 use crate::read_knot::read_at;
-use crate::read_row::phrases;
 use expr_nodes::cursor::Halt;
 use expr_nodes::make::Read;
 use expr_nodes::shape::Context;
 use expr_nodes::spot::Spot;
+use expr_rows::read_row::phrases;
 use std::alloc::Global;
 use tla_pool::Pool;
 use tla_token::Tokens;

@@ -1,7 +1,6 @@
 //! Reading forms in square brackets, by what comes behind the `[`.
 
 ghost use Rattle.std.specs.Prelude.{◌≡◌, ◌<◌, ◌≤◌, ◌||◌, suc, length, IfOk, Some, MatchOption};
-ghost use Rattle.tla_token.specs.Limits.{deepest_expression};
 ghost use Rattle.tla_token.specs.TokensSeen.{span_bytes};
 ghost use Rattle.tla_tree.specs.Pool.{Keeps};
 ghost use Rattle.tla_tree.specs.Lexical as tk;
@@ -10,23 +9,25 @@ ghost use Rattle.tla_tree.specs.Reader as reader;
 ghost use Rattle.tla_tree.specs.Whole.{whole};
 ghost use Rattle.expr_nodes.specs.Ahead.{ahead};
 ghost use Rattle.expr_nodes.specs.ReadIn.{IsIn, Told};
-ghost use Rattle.tla_expr.specs.HasRead.{HasRead, CanRead, ReadsBelow, Stands};
-ghost use Rattle.tla_expr.specs.ReadForms.{PartedIn, square_rule, mapped, squared, squared_other};
+ghost use Rattle.expr_rows.specs.HasRead.{HasRead, Stands};
+ghost use Rattle.expr_rows.specs.MayRead.{MayRead};
+ghost use Rattle.expr_operands.specs.ShortForms.{PartedIn};
+ghost use Rattle.tla_expr.specs.ReadForms.{square_rule, mapped, squared, squared_other};
 
-use crate::on_next::after_key;
-use crate::read_climb::climb;
-use crate::read_element::{Parted, set_behind};
-use crate::read_except::except_in;
-use crate::read_function::{function_from, function_on};
-use crate::read_link::postfix;
-use crate::read_name::from_name;
-use crate::read_record::record_rest;
-use crate::read_square::functions_in;
+use expr_lists::on_next::after_key;
+use expr_lists::read_except::except_in;
+use expr_lists::read_function::{function_from, function_on};
+use expr_lists::read_record::record_rest;
+use expr_lists::read_square::functions_in;
 use expr_nodes::cursor::{FieldName, Halt, Word, is_key, is_mark, is_sign};
 use expr_nodes::make::Read;
 use expr_nodes::shape::Context;
 use expr_nodes::spot::{Spot, after, after_mark, deeper, next_at, refused};
 use expr_nodes::view::{Key, Mark, View};
+use expr_operands::read_climb::climb;
+use expr_operands::read_element::{Parted, set_behind};
+use expr_operands::read_link::postfix;
+use expr_operands::read_name::from_name;
 use std::alloc::Global;
 use tla_pool::Pool;
 use tla_token::{Place, Rule, Tokens};
@@ -42,10 +43,7 @@ fn rest<F: Fn(&mut Pool, Context, Spot) -> Result<(Read, usize), Halt>>(
     place: Place,
     a: Read,
 ) -> Result<(Read, usize), Halt>
-    requires there { s.at ≤ length tokens.now.items.items }
-    requires limited { s.left ≤ deepest_expression }
-    requires can { CanRead tokens.now (suc s.left) (F.pre inner.now) }
-    requires reads { ReadsBelow tokens.now (suc s.left) (F.post inner.now) }
+    requires given { MayRead tokens.now s (suc s.left) (F.pre inner.now) (F.post inner.now) }
     requires a_in { a.id < length pool.old }
     requires a_small { a.shape.nesting ≤ s.left }
     ensures read { (i : Phrase) → IsIn pool.old a i → Told (λ x j. IsIn pool.new x.0 j) (λ x. ahead tokens.now x.1) result (reader.peek s.edge (reader.square_rest (whole (Some s.left)) s.edge place i) (ahead tokens.now s.at)) }
@@ -84,10 +82,7 @@ fn element_in<F: Fn(&mut Pool, Context, Spot) -> Result<(Read, usize), Halt>>(
     place: Place,
     e: Read,
 ) -> Result<(Read, usize), Halt>
-    requires there { s.at ≤ length tokens.now.items.items }
-    requires limited { s.left ≤ deepest_expression }
-    requires can { CanRead tokens.now (suc s.left) (F.pre inner.now) }
-    requires reads { ReadsBelow tokens.now (suc s.left) (F.post inner.now) }
+    requires given { MayRead tokens.now s (suc s.left) (F.pre inner.now) (F.post inner.now) }
     requires e_in { e.id < length pool.old }
     ensures read { (i : Phrase) → IsIn pool.old e i → Told (λ x j. IsIn pool.new x.0 j) (λ x. ahead tokens.now x.1) result (reader.square_from (reader.room whole (Some s.left)) (whole (Some s.left)) s.edge place (Some i) (ahead tokens.now s.at)) }
     ensures kept { Keeps pool.old pool.new }
@@ -121,10 +116,7 @@ fn member_rest<F: Fn(&mut Pool, Context, Spot) -> Result<(Read, usize), Halt>>(
     sign: Place,
     y: Parted,
 ) -> Result<(Read, usize), Halt>
-    requires there { s.at ≤ length tokens.now.items.items }
-    requires limited { s.left ≤ deepest_expression }
-    requires can { CanRead tokens.now (suc s.left) (F.pre inner.now) }
-    requires reads { ReadsBelow tokens.now (suc s.left) (F.post inner.now) }
+    requires given { MayRead tokens.now s (suc s.left) (F.pre inner.now) (F.post inner.now) }
     requires set_in { y.set.id < length pool.old }
     requires element_in { MatchOption y.element (Unit {0}) (λ e. e.id < length pool.old) }
     ensures read { (i : Phrase) → PartedIn pool.old word.place (span_bytes tokens.now.bytes.items word.span) sign y i → Told (λ x j. IsIn pool.new x.0 j) (λ x. ahead tokens.now x.1) result (reader.peek s.edge (reader.square_member (reader.room whole (Some s.left)) (whole (Some s.left)) s.edge place word.place (span_bytes tokens.now.bytes.items word.span) sign i) (ahead tokens.now s.at)) }
@@ -154,10 +146,7 @@ fn member_in<F: Fn(&mut Pool, Context, Spot) -> Result<(Read, usize), Halt>>(
     word: Word,
     sign: Place,
 ) -> Result<(Read, usize), Halt>
-    requires there { s.at ≤ length tokens.now.items.items }
-    requires limited { s.left ≤ deepest_expression }
-    requires can { CanRead tokens.now (suc s.left) (F.pre inner.now) }
-    requires reads { ReadsBelow tokens.now (suc s.left) (F.post inner.now) }
+    requires given { MayRead tokens.now s (suc s.left) (F.pre inner.now) (F.post inner.now) }
     ensures { HasRead tokens.now pool.old pool.new s.at (suc s.left) result (mapped (reader.room whole (Some s.left)) (whole (Some s.left)) s.edge place word.place (span_bytes tokens.now.bytes.items word.span) sign (ahead tokens.now s.at)) }
 {
     let (y, at) = set_behind(alloc, tokens, inner, pool, s, word, sign)?;
@@ -184,10 +173,7 @@ fn named<F: Fn(&mut Pool, Context, Spot) -> Result<(Read, usize), Halt>>(
     place: Place,
     word: Word,
 ) -> Result<(Read, usize), Halt>
-    requires there { s.at ≤ length tokens.now.items.items }
-    requires limited { s.left ≤ deepest_expression }
-    requires can { CanRead tokens.now (suc s.left) (F.pre inner.now) }
-    requires reads { ReadsBelow tokens.now (suc s.left) (F.post inner.now) }
+    requires given { MayRead tokens.now s (suc s.left) (F.pre inner.now) (F.post inner.now) }
     ensures { HasRead tokens.now pool.old pool.new s.at (suc s.left) result (squared (reader.room whole (Some s.left)) (whole (Some s.left)) s.edge place word.place (span_bytes tokens.now.bytes.items word.span) (ahead tokens.now s.at)) }
 {
     let (a, at) = from_name(alloc, tokens, inner, pool, s, word)?;
@@ -206,10 +192,7 @@ fn from_word<F: Fn(&mut Pool, Context, Spot) -> Result<(Read, usize), Halt>>(
     place: Place,
     word: Word,
 ) -> Result<(Read, usize), Halt>
-    requires there { s.at ≤ length tokens.now.items.items }
-    requires limited { s.left ≤ deepest_expression }
-    requires can { CanRead tokens.now (suc s.left) (F.pre inner.now) }
-    requires reads { ReadsBelow tokens.now (suc s.left) (F.post inner.now) }
+    requires given { MayRead tokens.now s (suc s.left) (F.pre inner.now) (F.post inner.now) }
     ensures { HasRead tokens.now pool.old pool.new s.at (suc s.left) result (reader.peek s.edge (reader.square_name (reader.room whole (Some s.left)) (whole (Some s.left)) s.edge place word.place (span_bytes tokens.now.bytes.items word.span)) (ahead tokens.now s.at)) }
 {
     let t = next_at(tokens, s);
@@ -241,10 +224,7 @@ fn from_other<F: Fn(&mut Pool, Context, Spot) -> Result<(Read, usize), Halt>>(
     s: Spot,
     place: Place,
 ) -> Result<(Read, usize), Halt>
-    requires there { s.at ≤ length tokens.now.items.items }
-    requires limited { s.left ≤ deepest_expression }
-    requires can { CanRead tokens.now (suc s.left) (F.pre inner.now) }
-    requires reads { ReadsBelow tokens.now (suc s.left) (F.post inner.now) }
+    requires given { MayRead tokens.now s (suc s.left) (F.pre inner.now) (F.post inner.now) }
     ensures { HasRead tokens.now pool.old pool.new s.at (suc s.left) result (squared_other (whole (Some s.left)) s.edge place (ahead tokens.now s.at)) }
 {
     let (a, at) = inner(pool, Context::Free, s)?;
@@ -264,10 +244,7 @@ pub fn squares_from<F: Fn(&mut Pool, Context, Spot) -> Result<(Read, usize), Hal
     s: Spot,
     place: Place,
 ) -> Result<(Read, usize), Halt>
-    requires there { s.at ≤ length tokens.now.items.items }
-    requires limited { s.left ≤ deepest_expression }
-    requires can { CanRead tokens.now (suc s.left) (F.pre inner.now) }
-    requires reads { ReadsBelow tokens.now (suc s.left) (F.post inner.now) }
+    requires given { MayRead tokens.now s (suc s.left) (F.pre inner.now) (F.post inner.now) }
     ensures { HasRead tokens.now pool.old pool.new s.at (suc s.left) result (reader.peek s.edge (reader.squares (reader.room whole (Some s.left)) (whole (Some s.left)) s.edge place) (ahead tokens.now s.at)) }
 {
     let t = next_at(tokens, s);
@@ -306,10 +283,7 @@ pub fn squares<F: Fn(&mut Pool, Context, Spot) -> Result<(Read, usize), Halt>>(
     s: Spot,
     place: Place,
 ) -> Result<(Read, usize), Halt>
-    requires there { s.at ≤ length tokens.now.items.items }
-    requires limited { s.left ≤ deepest_expression }
-    requires can { CanRead tokens.now s.left (F.pre inner.now) }
-    requires reads { ReadsBelow tokens.now s.left (F.post inner.now) }
+    requires given { MayRead tokens.now s s.left (F.pre inner.now) (F.post inner.now) }
     ensures { HasRead tokens.now pool.old pool.new s.at s.left result (reader.primary (reader.room whole (Some s.left)) (whole (Some s.left)) s.edge place (tk.mark tk.open_square) (ahead tokens.now s.at)) }
 {
     let d = deeper(tokens, s, 0)?;

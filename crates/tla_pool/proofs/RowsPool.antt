@@ -47,7 +47,7 @@ another_place_is_another_node h =
     let lines : 1 ≡ 2 = ap (λ (n : Entry). n.place.line) ((same_entry-Decides one one_there).0 h) in
     omega (arith, lines)
 
-place_and_parts_are_hashed : fed_entry both ≡ fed.u32 1 ++ fed.u32 1 ++ fed.slice fed.usize (0 ∷ 0 ∷ [])
+place_and_parts_are_hashed : fed_entry both ≡ fed.u64 4294967297 ++ fed.usize 0 ++ fed.usize 0
 place_and_parts_are_hashed = refl
 
 a_tree_has_its_form : root_form (node conjunction here (tree leaf (tree leaf no_trees))) ≡ conjunction

@@ -71,6 +71,9 @@ impl Eq for Node {
     ghost laws = { same_equivalence };
 }
 
+// A place is hashed as one number; its column is below this.
+const PAST_COLUMNS: u64 = 1 << 32;
+
 impl Hash for Node {
     ghost use Rattle.tla_tree.specs.PoolEquality.{fed_entry, fed_same};
 
@@ -79,8 +82,9 @@ impl Hash for Node {
     ghost respects_eq = { fed_same };
 
     fn hash<H: Hasher>(&self, state: &mut H) {
-        self.place.line.hash(state);
-        self.place.col.hash(state);
-        self.parts.hash(state);
+        let Place { line, col } = self.place;
+        let place = u64::from(line) * PAST_COLUMNS + u64::from(col);
+        place.hash(state);
+        usize::hash_slice(&self.parts, state);
     }
 }

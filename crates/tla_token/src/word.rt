@@ -9,7 +9,7 @@ ghost use Rattle.tla_token.specs.Words as words;
 ghost use Rattle.tla_token.specs.ReservedWords.{pluscal_spelling, tla_spelling, all_pluscal_words, all_tla_words, pluscal_word_of, tla_word_of};
 
 /// A reserved word of PlusCal.
-#[derive(Clone, Copy, PartialEq, Eq)]
+#[derive(Clone, Copy)]
 pub enum PluscalWord {
     /// `algorithm`
     Algorithm,

@@ -1,6 +1,7 @@
 -- The test for equal nodes, and what is hashed of one.
-use Rattle.std.specs.Prelude.{◌++◌, ◌≡◌, true}
+use Rattle.std.specs.Prelude.{◌++◌, ◌≡◌, ◌+◌, ◌*◌, ◌^◌, true}
 use Rattle.std.specs.Bool.{Decides}
+use Rattle.std.specs.List.{flat_map}
 use Rattle.std.specs.Cmp.{IsEquivalence, IsPartialEquivalence}
 use Rattle.std.specs.Hash as fed
 use Rattle.std.proofs.Common.{ap}
@@ -17,9 +18,9 @@ same_equivalence = equivalence_by same_entry same_entry-Decides
 pub same_partial : IsPartialEquivalence same_entry
 same_partial = partial_by same_entry same_entry-Decides
 
--- what is hashed: the place and the parts
+-- what is hashed: the place as one number, and the parts
 abbrev pub fed_entry : Entry → fed.HashWrites
-fed_entry n = fed.u32 n.place.line ++ fed.u32 n.place.col ++ fed.slice fed.usize n.parts
+fed_entry n = fed.u64 (n.place.line * 2 ^ 32 + n.place.col) ++ flat_map fed.usize n.parts
 
 pub fed_same : (a b : Entry) → same_entry a b ≡ true → fed_entry a ≡ fed_entry b
 fed_same a b h = ap fed_entry ((same_entry-Decides a b).0 h)

@@ -5,7 +5,7 @@ ghost use Rattle.tla_tree.specs.Rank.{rank as rank_of};
 
 /// A prefix or infix operator of TLA+ ("Specifying Systems", Table 6). `\in` and `\notin` are
 /// infix operators here as well.
-#[derive(Clone, Copy, PartialEq, Eq, Debug)]
+#[derive(Clone, Copy, PartialEq, Eq)]
 pub enum Op {
     Implies,
     Equivalent,
@@ -40,7 +40,7 @@ pub enum Op {
 }
 
 /// A form that binds names over sets: the set of each name, and then a body.
-#[derive(Clone, Copy, PartialEq, Eq, Debug)]
+#[derive(Clone, Copy, PartialEq, Eq)]
 pub enum Binder {
     /// `\A x \in S : p`
     ForAll,

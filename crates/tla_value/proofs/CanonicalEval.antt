@@ -7,7 +7,7 @@ use Rattle.tla_tree.specs.Tree.{Word, Name, Form, number, string, truth as liter
 use Rattle.tla_value.specs.Value.{Value, Values, no_values, and, Outcome, Sense, values_in, in_order}
 use Rattle.tla_value.specs.Order.{IsCanonical, AreCanonical, ArePairsCanonical}
 use Rattle.tla_value.specs.Stops.{Check, truth_at, members_at, one_of, two_of, three_of}
-use Rattle.tla_value.specs.Meaning.{Env, Denotation, bind, just, part_values, test, Row, with_first, at_members, at_group, at_choices, suited, at_body, key, is_true, where_true, results, table, gathered, sources, local_value, first_arm, called, meaning_of, eval, evals}
+use Rattle.tla_value.specs.Meaning.{Env, Denotation, bind, just, part_values, test, Row, with_first, at_members, at_group, at_choices, suited, at_body, key, is_true, where_true, results, table, gathered, sources, local_value, first_arm, meaning_of, eval, evals}
 use Rattle.tla_value.specs.laws.CanonicalNames.{Has, Proper, Keeping, Sound}
 use Rattle.tla_value.proofs.OrderFuns.{fun_from_canonical, seq_from_canonical}
 use Rattle.tla_value.proofs.Canonical.{then_has, any_has, has_cond, EachList, IsSet, set_canonical}

@@ -30,12 +30,12 @@ AreAll vs = AreCanonical (values_in vs)
 abbrev pub IsFunction : Values × Values → Type 0
 IsFunction f = IsCanonical (fun f.0 f.1)
 
-one_proper : (at : Place) (vs : List Value) → AreAll vs → Proper (one_of at vs)
+pub one_proper : (at : Place) (vs : List Value) → AreAll vs → Proper (one_of at vs)
 one_proper at [] h = tt
 one_proper at (v ∷ []) h = h.0
 one_proper at (v ∷ w ∷ vs) h = tt
 
-two_proper : (at : Place) (vs : List Value) → AreAll vs → Has AreBoth (two_of at vs)
+pub two_proper : (at : Place) (vs : List Value) → AreAll vs → Has AreBoth (two_of at vs)
 two_proper at [] h = tt
 two_proper at (v ∷ []) h = tt
 two_proper at (v ∷ w ∷ []) h = (h.0, h.1.0)

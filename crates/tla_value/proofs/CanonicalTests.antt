@@ -1,14 +1,14 @@
 -- Names whose senses differ only in how values out of order are tested give an expression one value, and such a sense again.
-use Rattle.std.proofs.Common.{◌≡◌, Bool, true, false, cond, bytes_eq, List, [], ◌∷◌, ◌++◌, map, refl, sym, ap, ◌∙◌, Ok, Err}
+use Rattle.std.proofs.Common.{◌≡◌, Bool, true, false, cond, bytes_eq, List, [], ◌∷◌, ◌++◌, map, refl, ap, ◌∙◌, Ok, Err}
 use Rattle.tla_token.specs.declared.place.Place.{Place}
 use Rattle.tla_tree.specs.declared.op.Binder.{Binder}
 use Rattle.tla_tree.specs.Tree.{Word, Name, Strict, Form, number, string, truth as literal, booleans, strings, name, next, strict, operator_call, conjunction, disjunction, implication, member, if_then_else, cases, binding, local, Tree, node, Trees, no_trees, tree}
-use Rattle.tla_value.specs.Value.{Value, Values, truth, no_values, and, Outcome, Sense, values_in, ◌>>=◌, in_order}
+use Rattle.tla_value.specs.Value.{Value, Values, truth, no_values, and, Outcome, Sense, ◌>>=◌, in_order}
 use Rattle.tla_value.specs.Order.{IsCanonical, AreCanonical}
-use Rattle.tla_value.specs.Stops.{Check, plain, truth_at, members_at, tested, misshapen, one_of, two_of, three_of, sense_of}
+use Rattle.tla_value.specs.Stops.{Check, plain, truth_at, members_at, tested, misshapen, one_of, sense_of}
 use Rattle.tla_value.specs.Strict.{strict_value, strict_test, same_truth}
-use Rattle.tla_value.specs.Meaning.{Env, Denotation, bind, just, part_values, test, Row, with_first, at_members, at_group, at_choices, suited, at_body, gathered, sources, bound_value, local_value, first_arm, called, value_of, meaning_of, eval, evals}
-use Rattle.tla_value.specs.laws.CanonicalNames.{Has, Proper, Keeping, Sound, MeansAlike, TestsByValue}
+use Rattle.tla_value.specs.Meaning.{Env, Denotation, bind, just, part_values, test, Row, with_first, at_members, at_group, at_choices, suited, at_body, gathered, sources, bound_value, local_value, first_arm, called, meaning_of, eval, evals}
+use Rattle.tla_value.specs.laws.CanonicalNames.{Has, Keeping, Sound, MeansAlike, TestsByValue}
 use Rattle.tla_value.proofs.Canonical.{then_has, EachList, IsSet}
 use Rattle.tla_value.proofs.CanonicalForms.{AreAll, sets_proper}
 use Rattle.tla_value.proofs.CanonicalEval.{SoundDen, SoundDens, sound_bind, eval_canonical, evals_canonical, sound_values}
@@ -204,7 +204,7 @@ strict_means : (o : Strict) (at : Place) (v : Value) (vs : List Value) → AreAl
     → MeansAlike (record { value = strict_value plain o at vs; test = λ p w. strict_test plain o at p w vs }) (just v)
 strict_means o at v vs c q = record { value = q; test = λ p w k. strict_tested o at p w vs k c ∙ ap (tested p w) q }
 
-made_means : (o : Outcome Value) (v : Value) → o ≡ Ok v → MeansAlike (sense_of o) (just v)
+pub made_means : (o : Outcome Value) (v : Value) → o ≡ Ok v → MeansAlike (sense_of o) (just v)
 made_means o v q = sense_alike o (Ok v) q
 
 -- without limits, where its names and operators do and are canonical

@@ -48,3 +48,4 @@ pub mod CanonicalEval
 pub mod CanonicalTests
 pub mod NeverOver
 pub mod Untitled
+pub mod ScopesSound

@@ -1,6 +1,5 @@
 -- An expression whose tests of values out of order are not those of its value, and which means its value for all others: SUBSET {1}.
 use Rattle.std.proofs.Common.{◌≡◌, pos, true, false, Ok, ◌∷◌, [], refl}
-use Rattle.tla_token.specs.declared.place.Place.{Place}
 use Rattle.tla_token.specs.Places.{start}
 use Rattle.tla_tree.specs.declared.op.Op.TheVariants.{Subset}
 use Rattle.tla_tree.specs.Tree.{number, strict, operator, set_of, Tree, node, no_trees, tree}

@@ -1,7 +1,7 @@
 //! Why an expression or a statement has no value.
 
 /// Why an expression or a statement has no value.
-#[derive(Clone, Copy, PartialEq, Eq, Debug)]
+#[derive(Clone, Copy, Debug)]
 pub enum FaultKind {
     /// A truth value is needed and there is another.
     NotBoolean,

@@ -39,7 +39,7 @@ no_offence false r at e = refl
 
 -- ---- names declared twice
 
-apart_from : (seen : List Word) (ns : List Name) → repeated seen ns ≡ [] → Each (λ x. is_among seen x ≡ false) (words ns)
+pub apart_from : (seen : List Word) (ns : List Name) → repeated seen ns ≡ [] → Each (λ x. is_among seen x ≡ false) (words ns)
 apart_from seen [] e = tt
 apart_from seen (n ∷ ns) e =
     let p = both_none _ (repeated (n.word ∷ seen) ns) e in
@@ -59,7 +59,7 @@ each_once seen (n ∷ ns) e =
     first [] h = tt
     first (x ∷ xs) h = ((or_parts (bytes_eq n.word x) (is_among seen x) h.0).0, first xs h.1)
 
-words_declared : (ds : List Declaration) → words (names_of ds) ≡ declared ds
+pub words_declared : (ds : List Declaration) → words (names_of ds) ≡ declared ds
 words_declared [] = refl
 words_declared (d ∷ ds) = ap (λ xs. d.name.word ∷ xs) (words_declared ds)
 
@@ -109,11 +109,11 @@ definition_names o (d ∷ ds) e =
     rest [] q = q
     rest (x ∷ xs) q = rest xs (both_none (reserved_name o x) _ q).1
 
-after : (o : Outside) (xs ys : List Name) → flat_map (reserved_name o) (xs ++ ys) ≡ [] → flat_map (reserved_name o) ys ≡ []
+pub after : (o : Outside) (xs ys : List Name) → flat_map (reserved_name o) (xs ++ ys) ≡ [] → flat_map (reserved_name o) ys ≡ []
 after o [] ys e = e
 after o (x ∷ xs) ys e = after o xs ys (both_none (reserved_name o x) _ e).1
 
-before : (o : Outside) (xs ys : List Name) → flat_map (reserved_name o) (xs ++ ys) ≡ [] → flat_map (reserved_name o) xs ≡ []
+pub before : (o : Outside) (xs ys : List Name) → flat_map (reserved_name o) (xs ++ ys) ≡ [] → flat_map (reserved_name o) xs ≡ []
 before o [] ys e = refl
 before o (x ∷ xs) ys e = (let p = both_none (reserved_name o x) _ e in (λ i. p.0 i ++ before o xs ys p.1 i))
 

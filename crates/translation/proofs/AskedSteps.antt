@@ -32,7 +32,7 @@ use Rattle.translation.specs.laws.StepParts.{Asked, AskedOne, AskedIn, AskedSome
 use Rattle.translation.specs.laws.StepsOnce.{set_by, set_in, set_in_some, none_set, SetsOnceOne, SetsOnce, SetsOnceSome, JumpsOnceOne, JumpsOnce, JumpsOnceSome}
 use Rattle.translation.specs.laws.WritableAlgorithm.{AreWritableAssignments, AreWritableBinds, IsWritableStatement, AreWritableStatements, AreWritableBranches}
 use Rattle.translation.proofs.StepsOnce.{In, OnPath, IsReached, Has, apart_of}
-use Rattle.translation.proofs.UsedNames.{AllOf, both_of, BindsOf, names_free, all_free}
+use Rattle.translation.proofs.NamesFree.{AllOf, both_of, BindsOf, names_free, all_free}
 
 -- ---- what a path has after statements that don't jump
 

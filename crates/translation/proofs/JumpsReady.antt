@@ -40,7 +40,7 @@ use Rattle.translation.proofs.ReadiedSteps.{Became}
 use Rattle.translation.proofs.StepNames.{not_true, GlobalsOf, became_global, became_variables, variable_apart, fresh_globals, unused_fresh, variable_fresh, named_reads, named_trees}
 use Rattle.translation.proofs.StepsOnce as steps
 use Rattle.translation.proofs.StraightSteps.{all_roots, ReadsAnyhow, WritesAnyhow, AllAnyhow, straight_ready}
-use Rattle.translation.proofs.UsedNames.{AllOf, both_of}
+use Rattle.translation.proofs.NamesFree.{AllOf, both_of}
 
 -- ---- lists of names
 

@@ -43,7 +43,9 @@ pub mod AcceptedAlgorithms
 pub mod TypedLabels
 pub mod SameProgram
 pub mod PromiseKept
-pub mod LeftOfMacros
+pub mod VariableNames
+pub mod NamesOfRules
+pub mod NamesInSight
 pub mod PlacedStatements
 pub mod ReadiedSteps
 pub mod UsedNames
@@ -56,3 +58,10 @@ pub mod JumpsReady
 pub mod RoutineReady
 pub mod PairsReady
 pub mod LabelReady
+pub mod PairsApart
+pub mod NamesApart
+pub mod BoundOf
+pub mod MacrosSound
+pub mod FromLabels
+pub mod NamesGiven
+pub mod NamesFree

@@ -46,7 +46,7 @@ use Rattle.translation.proofs.PutTrees.{IfEvery, every_put}
 use Rattle.translation.proofs.ReadiedSteps.{Became}
 use Rattle.translation.proofs.StepNames.{not_true, became_variables, fresh_globals, named_trees, own_reads, side_reads, fine_of}
 use Rattle.translation.proofs.StraightSteps.{all_roots, WritesAnyhow, AllAnyhow}
-use Rattle.translation.proofs.UsedNames.{AllOf, BindsOf}
+use Rattle.translation.proofs.NamesFree.{AllOf, BindsOf}
 
 -- ---- a fact of all trees of a right side
 

@@ -8,7 +8,7 @@ use Rattle.pcal_tree.specs.Algorithm.{Assignments, no_assignments, assignment}
 use Rattle.pcal_tree.specs.Expand.{placed_at, graft_left, graft_assignments}
 use Rattle.pcal_tree.specs.Paths.{root_form, root, root_of_first}
 use Rattle.action_builder.specs.laws.Ready.{LeftIn, IsLeft, LeftFirst}
-use Rattle.translation.proofs.UsedNames.{tree_wider}
+use Rattle.translation.proofs.NamesFree.{tree_wider}
 
 -- ---- a fact of each node
 

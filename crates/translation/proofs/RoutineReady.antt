@@ -34,7 +34,7 @@ use Rattle.translation.proofs.JumpsReady.{used_in, used_called, goto_ready, retu
 use Rattle.translation.proofs.PairsReady.{pair_ready}
 use Rattle.translation.proofs.ReadiedSteps.{From, Became, PartsFit, list_ready}
 use Rattle.translation.proofs.StepNames.{assigned_from, assignments_fine, assignments_apart, tree_fine, binds_fine, binds_new}
-use Rattle.translation.proofs.UsedNames.{AllOf}
+use Rattle.translation.proofs.NamesFree.{AllOf}
 
 all_of_fresh : (ds : List Reading) (A : Names) (ns : List Name) → AllFresh ds A ns → AllOf (λ x. fresh ds A x ≡ true) ns
 all_of_fresh ds A [] h = tt

@@ -43,20 +43,20 @@ one_each_of Q [] h x k = absurd k
 one_each_of Q (y ∷ ys) h x (inl e) = subst Q (sym e) h.0
 one_each_of Q (y ∷ ys) h x (inr k) = one_each_of Q ys h.1 x k
 
-each_map : (Q : Word → Type 0) (f : Word → Word) (xs : List Word) → ((x : Word) → OneOf x xs → Q (f x)) → Each Q (map f xs)
+pub each_map : (Q : Word → Type 0) (f : Word → Word) (xs : List Word) → ((x : Word) → OneOf x xs → Q (f x)) → Each Q (map f xs)
 each_map Q f [] h = tt
 each_map Q f (x ∷ xs) h = (h x (inl refl), each_map Q f xs (λ y k. h y (inr k)))
 
-one_among : (xs ys : List Word) (x : Word) → OneOf x xs → is_among (xs ++ ys) x ≡ true
+pub one_among : (xs ys : List Word) (x : Word) → OneOf x xs → is_among (xs ++ ys) x ≡ true
 one_among [] ys x h = absurd h
 one_among (z ∷ xs) ys x (inl e) = or_left (bytes_eq z x) (is_among (xs ++ ys) x) ((bytes_eq-Decides z x).1 (sym e))
 one_among (z ∷ xs) ys x (inr h) = or_right (bytes_eq z x) (is_among (xs ++ ys) x) (one_among xs ys x h)
 
-among_later : (xs ys : List Word) (x : Word) → is_among ys x ≡ true → is_among (xs ++ ys) x ≡ true
+pub among_later : (xs ys : List Word) (x : Word) → is_among ys x ≡ true → is_among (xs ++ ys) x ≡ true
 among_later [] ys x e = e
 among_later (z ∷ xs) ys x e = or_right (bytes_eq z x) (is_among (xs ++ ys) x) (among_later xs ys x e)
 
-among_before : (xs ys : List Word) (x : Word) → is_among xs x ≡ true → is_among (xs ++ ys) x ≡ true
+pub among_before : (xs ys : List Word) (x : Word) → is_among xs x ≡ true → is_among (xs ++ ys) x ≡ true
 among_before [] ys x e = absurd (true_false (sym e))
 among_before (z ∷ xs) ys x e = by (bytes_eq z x) (among_before xs ys x) e
   where
@@ -131,7 +131,7 @@ module _ (o : Outside) (a : Algorithm) (h : IsWritableAlgorithm o a) where
   main_all (alone b) f = all_flat (λ w. IsIdentifier w.word) wanted_within (main_routines a (alone b)) (λ u k. within_all u (f u k))
   main_all (processes ps) f = all_flat (λ w. IsIdentifier w.word) wanted_by (main_routines a (processes ps)) (λ u k. by_all u (f u k))
 
-  all_wanted : AllByRecursion (λ w. IsIdentifier w.word) (wanted a)
+  pub all_wanted : AllByRecursion (λ w. IsIdentifier w.word) (wanted a)
   all_wanted =
       every_both (λ w. IsIdentifier w.word) (flat_map wanted_by (procedure_routines a)) (wanted_by_main a a.main)
       (all_flat (λ w. IsIdentifier w.word) wanted_by (procedure_routines a) (λ u k. by_all u (one_left u (procedure_routines a) (main_routines a a.main) k)))
@@ -145,20 +145,20 @@ module _ (o : Outside) (a : Algorithm) (h : IsWritableAlgorithm o a) where
 
   -- ---- of a routine
 
-  local_wanted : (u : Routine) (x : Word) → OneOf u (routines a) → OneOf x (declared (locals u)) → OneOf (want_of u.number variable x) (wanted a)
+  pub local_wanted : (u : Routine) (x : Word) → OneOf u (routines a) → OneOf x (declared (locals u)) → OneOf (want_of u.number variable x) (wanted a)
   local_wanted u x k l =
       within_wanted a u (want_of u.number variable x) k
       (one_left (want_of u.number variable x) (wants u.number variable (declared (locals u))) (wants u.number label (label_words u.body)) (one_wants u.number variable x (declared (locals u)) l))
 
-  local_free : (u : Routine) (x : Word) → OneOf u (routines a) → OneOf x (declared (locals u)) → IsFree (written program u x)
+  pub local_free : (u : Routine) (x : Word) → OneOf u (routines a) → OneOf x (declared (locals u)) → IsFree (written program u x)
   local_free u x k l = written_one IsFree o.extended (taken_at_start a o) (wanted a) u.number variable x (local_wanted u x k l) all_free
 
-  local_new : (u : Routine) (x : Word) → OneOf u (routines a) → OneOf x (declared (locals u)) → is_among (taken_at_start a o) (written program u x) ≡ false
+  pub local_new : (u : Routine) (x : Word) → OneOf u (routines a) → OneOf x (declared (locals u)) → is_among (taken_at_start a o) (written program u x) ≡ false
   local_new u x k l =
       written_one (λ w. is_among (taken_at_start a o) w ≡ false) o.extended (taken_at_start a o) (wanted a) u.number variable x (local_wanted u x k l)
       (given_untaken o.extended (taken_at_start a o) (wanted a) h.few)
 
-  no_global : (w : Word) → is_among (taken_at_start a o) w ≡ false → declares a.globals w ≡ false
+  pub no_global : (w : Word) → is_among (taken_at_start a o) w ≡ false → declares a.globals w ≡ false
   no_global w e =
       false_from_ne_true (declares a.globals w)
       (λ d. true_false (sym (among_later (taken_outside o) (kept a) w (among_before (declared a.globals) _ w d)) ∙ e))

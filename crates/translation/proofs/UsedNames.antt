@@ -1,107 +1,105 @@
--- The names that an expression uses are those that it reads free, and where its bound names are of N, all names and operators that it reads are.
-use Rattle.std.proofs.Common.{◌≡◌, ℕ, ◌+◌, List, [], ◌∷◌, ◌++◌, Bool, true, false, ◌||◌, cond, bytes_eq, refl, ap, subst, arith}
+-- The names that an expression reads free are those that it uses, which the rule on the order of initial values looks at.
+use Rattle.std.proofs.Common.{◌≡◌, List, [], ◌∷◌, ◌++◌, Bool, true, false, ◌||◌, cond, bytes_eq, ◌⊎◌, inl, inr, refl, sym, ap, ◌∙◌, arith}
+use Rattle.std.specs.List.{flat_map, list_any, AllByRecursion}
+use Rattle.std.proofs.lemmas.Bool.{or_parts}
+use Rattle.std.proofs.lemmas.Slice.Eq.{bytes_eq-Decides}
 use Rattle.tla_token.specs.declared.place.Place.{Place}
 use Rattle.tla_token.specs.Signs.{is_among}
-use Rattle.tla_token.proofs.Spelled.{same_bytes}
-use Rattle.tla_tree.specs.Tree.{Word, Form, number, string, truth, booleans, strings, name, next, operator_call, Tree, node, Trees, no_trees, tree, Each, Every, EveryOf, binders, seen_names}
+use Rattle.tla_tree.specs.Tree.{Word, Name, Form, name, operator_call, Tree, node, Trees, no_trees, tree, seen_names}
 use Rattle.tla_tree.specs.Shapes.{Shaped}
-use Rattle.tla_tree.specs.laws.Writable.{IsWritable, AreWritable, count}
-use Rattle.tla_value.specs.laws.FreeNames.{Also, FormReads, FreeNames, FreeInParts}
-use Rattle.tla_value.proofs.JoinedEval.{EachList, each_seen}
-use Rattle.pcal_tree.specs.Algorithm.{Name}
-use Rattle.pcal_tree.specs.Reads.{named, if_free, used_by_form, used, used_by_parts, used_by_all}
-use Rattle.pcal_tree.proofs.CallsFine.{also_weaker, in_also}
-use Rattle.translation.proofs.StepsOnce.{In}
+use Rattle.tla_tree.specs.laws.Writable.{count, IsWritable, AreWritable}
+use Rattle.tla_value.specs.laws.FreeNames.{Or, Also, FormReads, FreeNames, FreeInParts, Any}
+use Rattle.pcal_tree.specs.Reads.{named, if_free, used_by_form, used, used_by_parts, Reading, looked_at}
+use Rattle.pcal_tree.proofs.CallsFine.{in_also, free_weaker}
 
--- the word of each name is of N
-abbrev pub AllOf : (Word → Type 0) → List Name → Type 0
-AllOf N [] = Unit {0}
-AllOf N (n ∷ ns) = N n.word × AllOf N ns
+-- ---- lists
 
-pub both_of : (N : Word → Type 0) (xs ys : List Name) → AllOf N (xs ++ ys) → AllOf N xs × AllOf N ys
-both_of N [] ys h = (tt, h)
-both_of N (x ∷ xs) ys h = (let k = both_of N xs ys h.1 in ((h.0, k.0), k.1))
+pub all_parts : {X : Type 0} (Q : X → Type 0) (xs ys : List X) → AllByRecursion Q (xs ++ ys) → AllByRecursion Q xs × AllByRecursion Q ys
+all_parts Q [] ys h = (tt, h)
+all_parts Q (x ∷ xs) ys h = (let k = all_parts Q xs ys h.1 in ((h.0, k.0), k.1))
 
--- the names that a form binds are of N
-abbrev pub BindsOf : (Word → Type 0) → Form → Place → Type 0
-BindsOf N m at = Each N (binders m)
+any_later : {X : Type 0} (f : X → Bool) (xs ys : List X) → list_any f (xs ++ ys) ≡ false → list_any f ys ≡ false
+any_later f [] ys e = e
+any_later f (x ∷ xs) ys e = any_later f xs ys (or_parts (f x) (list_any f (xs ++ ys)) e).1
 
--- ---- more names may be read
+-- each name is among what is looked at for it
+pub none_looked_at : (f : Word → Bool) (R : List Reading) (ns : List Name) → list_any f (flat_map (looked_at R) ns) ≡ false → AllByRecursion (λ n. f n.word ≡ false) ns
+none_looked_at f R [] e = tt
+none_looked_at f R (n ∷ ns) e = ((or_parts (f n.word) _ e).0, none_looked_at f R ns (any_later f (looked_at R n) (flat_map (looked_at R) ns) e))
 
-mutual
-  pub tree_wider : (N N' M : Word → Type 0) → ((y : Word) → N y → N' y) → (t : Tree) → FreeNames N M t → FreeNames N' M t
-  tree_wider N N' M f (node m at ts) h = (form_wider m h.0, parts_wider N N' M f (seen_names m) ts h.1)
+-- ---- names of N, and those that are bound around
+
+abbrev Around : List Word → (Word → Type 0) → Word → Type 0
+Around xs N y = (is_among xs y ≡ true) ⊎ N y
+
+among_also : (N : Word → Type 0) (xs : List Word) (y : Word) → is_among xs y ≡ true → Also xs N y
+among_also N [] y e = cc
+among_also N (x ∷ xs) y e = by (bytes_eq x y) refl (among_also (Or x N) xs y)
+  where
+    by : (b : Bool) → bytes_eq x y ≡ b → (is_among xs y ≡ true → Also xs (Or x N) y) → Also xs (Or x N) y
+    by true q h = in_also (Or x N) xs y (inl ((bytes_eq-Decides x y).0 q))
+    by false q h = h (sym (ap (λ b. b || is_among xs y) q) ∙ e)
+
+among_both : (xs ys : List Word) (y : Word) → is_among (xs ++ ys) y ≡ true → (is_among xs y ≡ true) ⊎ (is_among ys y ≡ true)
+among_both [] ys y e = inr e
+among_both (x ∷ xs) ys y e = by (bytes_eq x y) e (among_both xs ys y)
+  where
+    by : (b : Bool) → (b || is_among (xs ++ ys) y) ≡ true → (is_among (xs ++ ys) y ≡ true → (is_among xs y ≡ true) ⊎ (is_among ys y ≡ true)) → ((b || is_among xs y) ≡ true) ⊎ (is_among ys y ≡ true)
+    by true q h = inl refl
+    by false q h = h q
+
+around_also : (N : Word → Type 0) (xs ys : List Word) (y : Word) → Around (ys ++ xs) N y → Also ys (Around xs N) y
+around_also N xs ys y (inr n) = in_also (Around xs N) ys y (inr n)
+around_also N xs ys y (inl e) = by (among_both ys xs y e)
+  where
+    by : (is_among ys y ≡ true) ⊎ (is_among xs y ≡ true) → Also ys (Around xs N) y
+    by (inl q) = among_also (Around xs N) ys y q
+    by (inr q) = in_also (Around xs N) ys y (inl q)
+
+-- ---- expressions
+
+module _ (N : Word → Type 0) where
+  abbrev Have : List Name → Type 0
+  Have ns = AllByRecursion (λ n. N n.word) ns
+
+  name_around : (xs : List Word) (x : Word) (at : Place) → Have (if_free xs (named x at)) → Around xs N x
+  name_around xs x at h = by (is_among xs x) refl h
     where
-      form_wider : (m : Form) → FormReads N M m → FormReads N' M m
-      form_wider (name x) k = f x k
-      form_wider (operator_call x) k = k
-      form_wider _ k = tt
+      by : (b : Bool) → is_among xs x ≡ b → Have (cond b [] (named x at ∷ [])) → Around xs N x
+      by true q k = inl q
+      by false q k = inr k.0
 
-  pub parts_wider : (N N' M : Word → Type 0) → ((y : Word) → N y → N' y) → (names : List (List Word)) (ts : Trees) → FreeInParts N M names ts → FreeInParts N' M names ts
-  parts_wider N N' M f names no_trees h = tt
-  parts_wider N N' M f [] (tree t ts) h = (tree_wider N N' M f t h.0, parts_wider N N' M f [] ts h.1)
-  parts_wider N N' M f (xs ∷ names) (tree t ts) h = (tree_wider (Also xs N) (Also xs N') M (also_weaker N N' f xs) t h.0, parts_wider N N' M f names ts h.1)
+  form_around : (xs : List Word) (m : Form) (at : Place) (ns : List Name) → Have (used_by_form m at xs ns) → FormReads (Around xs N) Any m
+  form_around xs (name x) at ns h = name_around xs x at h
+  form_around xs (operator_call f) at ns h = tt
+  form_around xs m at ns h = tt
 
--- ---- names that are used
+  -- a name has no parts that could be read
+  no_parts : (xs : List Word) (ts : Trees) → count ts ≡ 0 → FreeInParts (Around xs N) Any [] ts
+  no_parts xs no_trees e = tt
+  no_parts xs (tree t ts) e = absurd (omega (arith, e))
 
-among_each : (N : Word → Type 0) (xs : List Word) → Each N xs → (x : Word) → In xs x → N x
-among_each N [] h x m = absurd cc
-among_each N (y ∷ ys) h x m = by (bytes_eq y x) refl m (among_each N ys h.1 x)
-  where
-    by : (b : Bool) → bytes_eq y x ≡ b → (b || is_among ys x) ≡ true → (In ys x → N x) → N x
-    by true e k f = subst N (same_bytes y x e) h.0
-    by false e k f = f k
+  parts_free : (m : Form) (at : Place) (ts : Trees) → Shaped m (count ts) → (xs : List Word) → ((names : List (List Word)) → Have (used_by_parts names ts xs) → FreeInParts (Around xs N) Any names ts)
+      → Have (used_by_form m at xs (used_by_parts (seen_names m) ts xs)) → FreeInParts (Around xs N) Any (seen_names m) ts
+  parts_free (name x) at ts q xs f h = no_parts xs ts q
+  parts_free (operator_call g) at ts q xs f h = f [] (all_parts (λ n. N n.word) (if_free xs (named g at)) (used_by_parts [] ts xs) h).1
+  parts_free m at ts q xs f h = f (seen_names m) h
 
-among_more : (N : Word → Type 0) (xs ys : List Word) → Each N xs → ((x : Word) → In ys x → N x) → (x : Word) → In (xs ++ ys) x → N x
-among_more N [] ys h k x m = k x m
-among_more N (y ∷ xs) ys h k x m = by (bytes_eq y x) refl m (among_more N xs ys h.1 k x)
-  where
-    by : (b : Bool) → bytes_eq y x ≡ b → (b || is_among (xs ++ ys) x) ≡ true → (In (xs ++ ys) x → N x) → N x
-    by true e n f = subst N (same_bytes y x e) h.0
-    by false e n f = f n
+  mutual
+    pub used_free : (t : Tree) → IsWritable t → (xs : List Word) → Have (used t xs) → FreeNames (Around xs N) Any t
+    used_free (node m at ts) w xs h = (form_around xs m at (used_by_parts (seen_names m) ts xs) h, parts_free m at ts w.0 xs (λ names k. free_in_parts names ts w.4 xs k) h)
 
-free_one : (N : Word → Type 0) (xs : List Word) → ((x : Word) → In xs x → N x) → (n : Name) → AllOf N (if_free xs n) → N n.word
-free_one N xs k n h = by (is_among xs n.word) refl h
-  where
-    by : (b : Bool) → is_among xs n.word ≡ b → AllOf N (cond b [] (n ∷ [])) → N n.word
-    by true e g = k n.word e
-    by false e g = g.0
+    free_in_parts : (names : List (List Word)) (ts : Trees) → AreWritable ts → (xs : List Word) → Have (used_by_parts names ts xs) → FreeInParts (Around xs N) Any names ts
+    free_in_parts names no_trees w xs h = tt
+    free_in_parts [] (tree t ts) w xs h = (let k = all_parts (λ n. N n.word) (used t xs) (used_by_parts [] ts xs) h in (used_free t w.0 xs k.0, free_in_parts [] ts w.1 xs k.1))
+    free_in_parts (ys ∷ names) (tree t ts) w xs h =
+        let k = all_parts (λ n. N n.word) (used t (ys ++ xs)) (used_by_parts names ts xs) h in
+        (free_weaker (Around (ys ++ xs) N) (Also ys (Around xs N)) (around_also N xs ys) t (used_free t w.0 (ys ++ xs) k.0), free_in_parts names ts w.1 xs k.1)
 
-form_free : (N : Word → Type 0) (xs : List Word) → ((x : Word) → In xs x → N x) → (m : Form) (at : Place) (ns : List Name) → AllOf N (used_by_form m at xs ns) → FormReads N N m
-form_free N xs k (name x) at ns h = free_one N xs k (named x at) h
-form_free N xs k (operator_call f) at ns h = free_one N xs k (named f at) (both_of N (if_free xs (named f at)) ns h).0
-form_free N xs k _ at ns h = tt
-
--- those of its parts
-form_parts : (N : Word → Type 0) (xs : List Word) (m : Form) (at : Place) (ns : List Name) → AllOf N (used_by_form m at xs ns) → ((x : Word) → m ≡ name x → AllOf N ns) → AllOf N ns
-form_parts N xs (name x) at ns h k = k x refl
-form_parts N xs (operator_call f) at ns h k = (both_of N (if_free xs (named f at)) ns h).1
-form_parts N xs _ at ns h k = h
-
--- a name has no parts
-name_alone : (x : Word) (ts : Trees) → Shaped (name x) (count ts) → (names : List (List Word)) (xs : List Word) (N : Word → Type 0) → AllOf N (used_by_parts names ts xs)
-name_alone x no_trees h names xs N = tt
-name_alone x (tree t ts) h names xs N = absurd (no_one (count ts) h)
-  where
-    no_one : (n : ℕ) → n + 1 ≡ 0 → ⊥
-    no_one n e = omega (arith, e)
-
-mutual
-  pub names_free : (N : Word → Type 0) (t : Tree) (xs : List Word) → IsWritable t → Every (BindsOf N) t → ((x : Word) → In xs x → N x) → AllOf N (used t xs) → FreeNames N N t
-  names_free N (node m at ts) xs w b k h = (
-    form_free N xs k m at (used_by_parts (seen_names m) ts xs) h,
-    parts_free N (seen_names m) ts xs w.4 b.1 (each_seen N m b.0) k
-    (form_parts N xs m at (used_by_parts (seen_names m) ts xs) h (λ x e. name_alone x ts (subst (λ (f : Form). Shaped f (count ts)) e w.0) (seen_names m) xs N)),
-  )
-
-  pub parts_free : (N : Word → Type 0) (names : List (List Word)) (ts : Trees) (xs : List Word) → AreWritable ts → EveryOf (BindsOf N) ts → EachList N names → ((x : Word) → In xs x → N x) → AllOf N (used_by_parts names ts xs) → FreeInParts N N names ts
-  parts_free N names no_trees xs w b l k h = tt
-  parts_free N [] (tree t ts) xs w b l k h =
-      let p = both_of N (used t xs) (used_by_parts [] ts xs) h in
-      (names_free N t xs w.0 b.0 k p.0, parts_free N [] ts xs w.1 b.1 l k p.1)
-  parts_free N (ys ∷ names) (tree t ts) xs w b l k h =
-      let p = both_of N (used t (ys ++ xs)) (used_by_parts names ts xs) h in
-      (tree_wider N (Also ys N) N (in_also N ys) t (names_free N t (ys ++ xs) w.0 b.0 (among_more N ys xs l.0 k) p.0), parts_free N names ts xs w.1 b.1 l.1 k p.1)
-
-pub all_free : (N : Word → Type 0) (ts : Trees) (xs : List Word) → AreWritable ts → EveryOf (BindsOf N) ts → ((x : Word) → In xs x → N x) → AllOf N (used_by_all ts xs) → FreeInParts N N [] ts
-all_free N ts xs w b k h = parts_free N [] ts xs w b tt k h
+  -- outside binders
+  pub reads_used : (t : Tree) → IsWritable t → Have (used t []) → FreeNames N Any t
+  reads_used t w h = free_weaker (Around [] N) N none_around t (used_free t w [] h)
+    where
+      none_around : (y : Word) → Around [] N y → N y
+      none_around y (inl e) = cc
+      none_around y (inr n) = n

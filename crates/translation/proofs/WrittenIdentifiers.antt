@@ -135,11 +135,11 @@ written_any Q (g ∷ gs) n r x h k = by (is_for n r g.want && bytes_eq g.want.wo
     by true f = k.0
     by false f = f
 
-record Looked (gs : List Given) (n : ℕ) (r : Role) (x : Word) : Type 0 where
-  found : Given
-  listed : OneOf found gs
-  is : found.want ≡ want_of n r x
-  written : written_for gs n r x ≡ found.written
+pub record Looked (gs : List Given) (n : ℕ) (r : Role) (x : Word) : Type 0 where
+  pub found : Given
+  pub listed : OneOf found gs
+  pub is : found.want ≡ want_of n r x
+  pub written : written_for gs n r x ≡ found.written
 
 want_is : (w : Want) (n : ℕ) (r : Role) (x : Word) → (is_for n r w && bytes_eq w.word x) ≡ true → w ≡ want_of n r x
 want_is w n r x e =
@@ -147,7 +147,7 @@ want_is w n r x e =
     let q = and_parts (nat_eq w.unit n) (same_role w.role r) p.0 in
     λ i. record { unit = eqb-true w.unit n q.0 i; role = role_is w.role r q.1 i; word = (bytes_eq-Decides w.word x).0 p.1 i }
 
-looked : (extended taken : List Word) (ws : List Want) (n : ℕ) (r : Role) (x : Word) → OneOf (want_of n r x) ws → Looked (give extended taken ws) n r x
+pub looked : (extended taken : List Word) (ws : List Want) (n : ℕ) (r : Role) (x : Word) → OneOf (want_of n r x) ws → Looked (give extended taken ws) n r x
 looked extended taken [] n r x h = absurd h
 looked extended taken (w ∷ ws) n r x h = by (looked extended (first_free extended taken w.word ∷ taken) ws n r x) (is_for n r w && bytes_eq w.word x) refl h
   where
@@ -194,7 +194,7 @@ title_any Q (g ∷ gs) n h k = by (is_for n title g.want) (title_any Q gs n h k.
     by false f = f
 
 -- names that are given apart are of one want
-one_given : (gs : List Given) (g h : Given) → Apart gs → OneOf g gs → OneOf h gs → g.written ≡ h.written → g ≡ h
+pub one_given : (gs : List Given) (g h : Given) → Apart gs → OneOf g gs → OneOf h gs → g.written ≡ h.written → g ≡ h
 one_given [] g h a k l e = absurd k
 one_given (f ∷ gs) g h a (inl p) (inl q) e = p ∙ sym q
 one_given (f ∷ gs) g h a (inl p) (inr q) e = absurd (every_one (λ d. f.written ≡ d.written → ⊥) h gs a.0 q (sym (ap (λ u. u.written) p) ∙ e))

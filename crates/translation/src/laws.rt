@@ -26,7 +26,7 @@ ghost use Rattle.pcal_tree.specs.Programs.{program_in};
 ghost use Rattle.tla_value.specs.Stops.{plain};
 ghost use Rattle.tla_value.specs.Definitions.{Valuation};
 ghost use Rattle.promise.specs.ConstantsAndStates.{program};
-ghost use Rattle.translation.specs.laws.LeftToProve.{NextOfRegionLaw, InitOfRegionLaw, RegionPlaced, PromiseKept};
+ghost use Rattle.translation.specs.laws.LeftToProve.{NamesApartLaw, NamesGivenLaw, NextOfRegionLaw, InitOfRegionLaw, RegionPlaced, PromiseKept};
 ghost use Rattle.pcal_tree.specs.Variables.{declared, vars};
 ghost use Rattle.pcal_tree.specs.Labelled.{labelled};
 ghost use Rattle.module_tree.specs.Around.{Around};
@@ -168,4 +168,12 @@ pub fn other_lines_outside_change_no_program()
 /// without places, each module with the written region, in which the file's outside is in other lines, has a Next and an Init that say so too.
 pub fn the_promise_rests_on_regions()
     ensures { NextOfRegionLaw IsAcceptedInFile → InitOfRegionLaw IsAcceptedInFile → RegionPlaced → PromiseKept IsAcceptedInFile }
+{}
+
+/// The written names of an accepted algorithm, in the module that it stands in, are apart from each other and from all that has a name there, and definitions, also
+/// those outside, read none of them but globals: so what is written has one scope, that of the module, for the routines of each process. And from each label of a routine on,
+/// its macro calls capture nothing, no name that is bound is the routine's own or a written one, and only what is seen in the routine is read.
+pub fn written_names_stand_for_the_names_of_routines()
+    ensures apart { NamesApartLaw IsAcceptedInFile }
+    ensures given { NamesGivenLaw IsAcceptedInFile }
 {}

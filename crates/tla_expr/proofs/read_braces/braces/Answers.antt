@@ -4,9 +4,9 @@ use Rattle.std.proofs.lemmas.Result.{err_from_is_err_and}
 use Rattle.tla_tree.specs.Reader.{peek, braces, room}
 use Rattle.tla_tree.specs.Whole.{whole}
 use Rattle.expr_nodes.specs.Ahead.{ahead}
-use Rattle.tla_expr.specs.HasRead.{HasRead}
-use Rattle.tla_expr.proofs.ReadFirst.{read_lost}
-use Rattle.tla_expr.proofs.ReadPrimaries.{opened_on, read_as}
+use Rattle.expr_rows.specs.HasRead.{HasRead}
+use Rattle.expr_rows.proofs.ReadFirst.{read_lost}
+use Rattle.expr_rows.proofs.ReadPrimaries.{opened_on, read_as}
 use Rattle.tla_expr.proofs.ReadBraces.{brace_more}
 use Rattle.tla_expr.proofs.read_braces.braces.Goals as goal
 

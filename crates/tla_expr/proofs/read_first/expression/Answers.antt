@@ -5,8 +5,8 @@ use Rattle.tla_tree.specs.Whole.{whole}
 use Rattle.tla_tree.proofs.Whole.{expr_is}
 use Rattle.expr_nodes.specs.ShapeOf.{context_seen}
 use Rattle.expr_nodes.specs.Ahead.{ahead}
-use Rattle.tla_expr.proofs.ReadFirst.{read_same, read_lost}
-use Rattle.tla_expr.proofs.ReadNames.{read_on}
+use Rattle.expr_rows.proofs.ReadFirst.{read_same, read_lost}
+use Rattle.expr_rows.proofs.ReadNames.{read_on}
 use Rattle.tla_expr.proofs.read_first.expression.Goals as goal
 
 pub returns : goal.returns

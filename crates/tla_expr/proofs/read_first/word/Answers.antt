@@ -3,8 +3,8 @@ use Rattle.std.proofs.Common.{Some, arith, sym, ap}
 use Rattle.tla_token.specs.TokensSeen.{span_bytes}
 use Rattle.tla_tree.specs.Reader.{from_name, room}
 use Rattle.tla_tree.specs.Whole.{whole}
-use Rattle.tla_expr.proofs.ReadFirst.{read_same}
-use Rattle.tla_expr.proofs.ReadPrimaries.{read_as}
+use Rattle.expr_rows.proofs.ReadFirst.{read_same}
+use Rattle.expr_rows.proofs.ReadPrimaries.{read_as}
 use Rattle.tla_expr.proofs.read_first.word.Goals as goal
 
 pub returns : goal.returns

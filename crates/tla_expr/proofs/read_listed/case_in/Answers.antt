@@ -2,7 +2,7 @@
 use Rattle.std.proofs.Common.{arith, refl}
 use Rattle.tla_tree.specs.Spelling.{cases}
 use Rattle.tla_tree.proofs.PoolNumbers.{Keeps-then}
-use Rattle.tla_expr.proofs.ReadLemmas.{told_then}
+use Rattle.expr_rows.proofs.ReadLemmas.{told_then}
 use Rattle.tla_expr.proofs.read_listed.case_in.Goals as goal
 
 pub returns : goal.returns

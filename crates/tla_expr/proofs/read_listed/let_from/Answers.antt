@@ -2,8 +2,8 @@
 use Rattle.std.proofs.Common.{◌≡◌, suc, ◌+◌, ◌≤◌, Some, arith}
 use Rattle.tla_tree.specs.Whole.{whole}
 use Rattle.expr_nodes.specs.Ahead.{ahead}
-use Rattle.tla_expr.specs.HasRead.{defined}
-use Rattle.tla_expr.proofs.ReadPrimaries.{opened_as}
+use Rattle.expr_rows.specs.HasRead.{defined}
+use Rattle.expr_rows.proofs.ReadPrimaries.{opened_as}
 use Rattle.tla_expr.proofs.ReadListed.{let_more}
 use Rattle.tla_expr.proofs.read_listed.let_from.Goals as goal
 

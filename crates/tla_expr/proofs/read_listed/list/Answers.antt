@@ -5,9 +5,9 @@ use Rattle.tla_tree.specs.Reader.{Out, ◌>>=◌, gives}
 use Rattle.tla_tree.specs.Whole.{whole}
 use Rattle.expr_nodes.specs.declared.make.Read.{Read}
 use Rattle.expr_nodes.specs.Ahead.{ahead}
-use Rattle.tla_expr.specs.HasRead.{HasRead}
-use Rattle.tla_expr.proofs.ReadLemmas.{told_then}
-use Rattle.tla_expr.proofs.ReadNames.{read_on}
+use Rattle.expr_rows.specs.HasRead.{HasRead}
+use Rattle.expr_rows.proofs.ReadLemmas.{told_then}
+use Rattle.expr_rows.proofs.ReadNames.{read_on}
 use Rattle.tla_expr.proofs.ReadListed.{list_more, list_in}
 use Rattle.tla_expr.proofs.read_listed.list.Goals as goal
 

@@ -2,7 +2,7 @@
 use Rattle.std.proofs.Common.{Some}
 use Rattle.tla_tree.specs.Whole.{whole}
 use Rattle.expr_nodes.specs.Ahead.{ahead}
-use Rattle.tla_expr.proofs.ReadElement.{refused_at, told_same}
+use Rattle.expr_operands.proofs.ReadElement.{refused_at, told_same}
 use Rattle.tla_expr.proofs.ReadMembers.{from_fits, from_deep}
 use Rattle.tla_expr.proofs.read_member.element_in.Goals as goal
 

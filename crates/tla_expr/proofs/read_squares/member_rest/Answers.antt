@@ -4,7 +4,7 @@ use Rattle.tla_token.specs.TokensSeen.{span_bytes}
 use Rattle.tla_token.specs.declared.rule.Rule.TheVariants.{TooDeep}
 use Rattle.tla_tree.specs.Whole.{whole}
 use Rattle.expr_nodes.specs.Ahead.{ahead}
-use Rattle.tla_expr.proofs.ReadElement.{refused_at, told_same}
+use Rattle.expr_operands.proofs.ReadElement.{refused_at, told_same}
 use Rattle.tla_expr.proofs.ReadSquares.{function_fits, function_deep}
 use Rattle.tla_expr.proofs.read_squares.member_rest.Goals as goal
 

@@ -1,0 +1,110 @@
+-- Fields, as the code reads them: what was read goes before what is still to come.
+use Rattle.std.proofs.Common.{◌≡◌, ℕ, max, true, false, List, [], ◌∷◌, ◌++◌, Ok, Some, refl, sym, ap, ◌∙◌, subst, arith}
+use Rattle.std.proofs.lemmas.List.{append_assoc}
+use Rattle.tla_token.specs.declared.place.Place.{Place}
+use Rattle.tla_token.specs.declared.token.Tokens.{Tokens}
+use Rattle.tla_tree.specs.Tree.{Tree, no_trees, tree, Word}
+use Rattle.tla_tree.specs.Pool.{Keeps}
+use Rattle.tla_tree.specs.Lexical.{Mark, TokenView, Token}
+use Rattle.tla_tree.specs.Lexical as tk
+use Rattle.tla_tree.specs.Spelling.{Field, Phrase, Fields, last_field, field}
+use Rattle.tla_tree.specs.Reader.{Out, then_read, ◌>>=◌, gives, peek, next, tail, free, is_mark, a_mark, a_field, fields_by}
+use Rattle.tla_tree.specs.Whole.{whole}
+use Rattle.tla_tree.proofs.Whole.{fields_is}
+use Rattle.tla_tree.proofs.SoundTokens.{mark_is}
+use Rattle.tla_tree.proofs.PoolNumbers.{Keeps-then}
+use Rattle.expr_nodes.specs.declared.cursor.Halt.{Halt}
+use Rattle.expr_nodes.specs.declared.make.Read.{Read}
+use Rattle.expr_nodes.specs.declared.shape.Shape.{Shape}
+use Rattle.expr_nodes.specs.ReadIn.{IsIn, AreFields, Reads, Fails}
+use Rattle.expr_nodes.specs.Ahead.{ahead}
+use Rattle.expr_nodes.proofs.MakeLemmas.{kept_in}
+use Rattle.expr_rows.proofs.ReadLemmas.{fails_then, fails_on}
+use Rattle.expr_lists.proofs.ReadPut.{then_gives, put_on, put_fails}
+
+-- ---- one of them, and one before others
+field_alone : {ts : List Tree} {x : Read} {a : Phrase} (f : Field) (p : Place) → IsIn ts x a → AreFields ts (f.text ∷ []) (x.id ∷ []) x.shape.nesting (last_field f p a)
+field_alone f p h = record {
+  below = (h.below, tt);
+  names = refl;
+  trees = ap (λ (t : Tree). tree t no_trees) h.tree;
+  nesting = ap (λ (s : Shape). s.nesting) h.shape;
+}
+
+field_before : {ts : List Tree} {x : Read} {a : Phrase} {xs : List Word} {js : List ℕ} {n : ℕ} {fs : Fields} (f : Field) (p q : Place) → IsIn ts x a → AreFields ts xs js n fs
+    → AreFields ts (f.text ∷ xs) (x.id ∷ js) (max x.shape.nesting n) (field f p a q fs)
+field_before f p q h g = record {
+  below = (h.below, g.below);
+  names = ap (λ (xs : List Word). f.text ∷ xs) g.names;
+  trees = (λ i. tree (h.tree i) (g.trees i));
+  nesting = (λ i. max (h.shape i).nesting (g.nesting i));
+}
+
+-- ---- the fields so far, reading being behind the name of the next one
+pub record FieldsSoFar (v : Tokens) (ts : List Tree) (b e : ℕ) (m : Mark) (i : ℕ) (xs : List Word) (ids : List ℕ) (n : ℕ) (f : Field) (o : Out Fields) : Type 0 where
+  pub before : Fields → Fields
+  pub is : o ≡ then_read ((whole (Some b)).fields e m f (ahead v i)) (λ fs. gives (before fs))
+  pub others : (us : List Tree) (ys : List Word) (js : List ℕ) (k : ℕ) (fs : Fields) → Keeps ts us → AreFields us ys js k fs → AreFields us (xs ++ ys) (ids ++ js) (max n k) (before fs)
+
+module _ (v : Tokens) (b e : ℕ) (m : Mark) where
+  pub fields_first : (ts : List Tree) (i : ℕ) (f : Field) → FieldsSoFar v ts b e m i [] [] 0 f ((whole (Some b)).fields e m f (ahead v i))
+  fields_first ts i f = record {
+    before = (λ fs. fs);
+    is = sym (then_gives ((whole (Some b)).fields e m f (ahead v i)));
+    others = (λ us ys js k fs l g. (let z : k ≡ max 0 k = omega arith in subst (λ (w : ℕ). AreFields us ys js w fs) z g));
+  }
+
+  rest_none : (f : Field) (p : Place) (a : Phrase) (q : Place) (k : TokenView) (ts : List Token) → is_mark tk.comma k ≡ false → fields_by (whole (Some b)) e m f p a q k ts ≡ Ok (last_field f p a, ts)
+  rest_none f p a q (tk.mark tk.comma) ts h = (let no : true ≡ false = h in absurd cc)
+  rest_none f p a q k ts h = refl
+
+  rest_comma : (f : Field) (p : Place) (a : Phrase) (q : Place) (k : TokenView) (ts : List Token) → is_mark tk.comma k ≡ true
+      → fields_by (whole (Some b)) e m f p a q k ts ≡ then_read (a_field e (tail ts)) (λ g. (whole (Some b)).fields e m g >>= λ fs. gives (field f p a q fs))
+  rest_comma f p a q k ts h = ap (λ (k : TokenView). fields_by (whole (Some b)) e m f p a q k ts) (mark_is tk.comma k h)
+
+  module _ {ts : List Tree} {i : ℕ} {xs : List Word} {ids : List ℕ} {n : ℕ} {f : Field} {o : Out Fields} (s : FieldsSoFar v ts b e m i xs ids n f o) where
+    pub mark_lost : (w : Halt) → Fails w (a_mark e m (ahead v i)) → Fails w o
+    mark_lost w h = put_fails w s.before _ s.is (subst (Fails w) (sym (fields_is (Some b) e m f (ahead v i))) (fails_then w (a_mark e m (ahead v i)) _ h))
+
+    module _ (j : ℕ) (p : Place) (at : a_mark e m (ahead v i) ≡ Ok (p, ahead v j)) where
+      pub part_lost : (w : Halt) → Fails w ((whole (Some b)).expr e free (ahead v j)) → Fails w o
+      part_lost w h =
+          put_fails w s.before _ s.is
+          (subst (Fails w) (sym (fields_is (Some b) e m f (ahead v i))) (fails_on w (a_mark e m (ahead v i)) _ (p, ahead v j) at (fails_then w ((whole (Some b)).expr e free (ahead v j)) _ h)))
+
+      module _ {us : List Tree} {x : Read} (k : ℕ) (l : Keeps ts us) (h : Reads (IsIn us x) (ahead v k) ((whole (Some b)).expr e free (ahead v j))) where
+        rest_at : (whole (Some b)).fields e m f (ahead v i) ≡ peek e (fields_by (whole (Some b)) e m f p h.what) (ahead v k)
+        rest_at =
+            fields_is (Some b) e m f (ahead v i)
+            ∙ ap (λ (o : Out Place). then_read o (λ p. (whole (Some b)).expr e free >>= λ a. peek e (fields_by (whole (Some b)) e m f p a))) at
+            ∙ ap (λ (o : Out Phrase). then_read o (λ a. peek e (fields_by (whole (Some b)) e m f p a))) h.is
+
+        pub fields_end : is_mark tk.comma (next e (ahead v k)).kind ≡ false → Reads (AreFields us (xs ++ f.text ∷ []) (ids ++ x.id ∷ []) (max n x.shape.nesting)) (ahead v k) o
+        fields_end c = record {
+          what = s.before (last_field f p h.what);
+          is = s.is ∙ ap (λ (p : Out Fields). then_read p (λ fs. gives (s.before fs))) (rest_at ∙ rest_none f p h.what (next e (ahead v k)).place (next e (ahead v k)).kind (ahead v k) c);
+          told = s.others us _ _ _ _ l (field_alone f p h.told);
+        }
+
+        module _ (d : ℕ) (c : is_mark tk.comma (next e (ahead v k)).kind ≡ true) (t : ahead v d ≡ tail (ahead v k)) where
+          more_at : (whole (Some b)).fields e m f (ahead v i) ≡ then_read (a_field e (ahead v d)) (λ g. (whole (Some b)).fields e m g >>= λ fs. gives (field f p h.what (next e (ahead v k)).place fs))
+          more_at =
+              rest_at ∙ rest_comma f p h.what (next e (ahead v k)).place (next e (ahead v k)).kind (ahead v k) c
+              ∙ ap (λ (ts : List Token). then_read (a_field e ts) (λ g. (whole (Some b)).fields e m g >>= λ fs. gives (field f p h.what (next e (ahead v k)).place fs))) (sym t)
+
+          pub field_lost : (w : Halt) → Fails w (a_field e (ahead v d)) → Fails w o
+          field_lost w g = put_fails w s.before _ s.is (subst (Fails w) (sym more_at) (fails_then w (a_field e (ahead v d)) _ g))
+
+          pub fields_next : (r : ℕ) (g : Field) → a_field e (ahead v d) ≡ Ok (g, ahead v r) → FieldsSoFar v us b e m r (xs ++ f.text ∷ []) (ids ++ x.id ∷ []) (max n x.shape.nesting) g o
+          fields_next r g y =
+              let q = (next e (ahead v k)).place in
+              let on : (whole (Some b)).fields e m f (ahead v i) ≡ then_read ((whole (Some b)).fields e m g (ahead v r)) (λ fs. gives (field f p h.what q fs)) =
+              more_at ∙ ap (λ (o : Out Field). then_read o (λ g. (whole (Some b)).fields e m g >>= λ fs. gives (field f p h.what q fs))) y in
+              record {
+                before = (λ fs. s.before (field f p h.what q fs));
+                is = put_on s.before (field f p h.what q) _ s.is on;
+                others = (λ ws ys js w fs u z.
+                    let all = s.others ws _ _ _ _ (Keeps-then _ _ _ l u) (field_before f p q (kept_in u h.told) z) in
+                    let big : max n (max x.shape.nesting w) ≡ max (max n x.shape.nesting) w = omega arith in
+                    rw (append_assoc xs (f.text ∷ []) ys, append_assoc ids (x.id ∷ []) js, sym big) all);
+              }

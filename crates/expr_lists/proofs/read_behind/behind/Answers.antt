@@ -1,0 +1,9 @@
+-- Proves what is asked of `behind`.
+use Rattle.std.proofs.Common.{arith, refl}
+use Rattle.expr_rows.proofs.ReadLemmas.{told_then, told_on}
+use Rattle.expr_lists.proofs.read_behind.behind.Goals as goal
+
+pub returns-clause-read : goal.returns-clause-read
+returns-clause-read g c =
+    let one = c.requires.given.reads _ _ _ _ _ (omega arith) c.in_ok-at.ensures.inside c.in_ok-a.ensures in
+    told_on _ _ _ c.in_ok-at.ensures.value (told_then _ _ one.read (λ i is. record { what = (c.in_ok-at.field-0-0, i); is = refl; told = is }))

@@ -1,0 +1,4 @@
+pub mod Grouped
+pub mod Routed
+pub mod InSquares
+pub mod InBraces

@@ -1,0 +1,76 @@
+//! Reading fields: `a |-> e, b |-> f`, and `a : S, b : T`.
+
+ghost use Rattle.std.specs.Prelude.{◌≡◌, ◌<◌, ◌≤◌, suc, length, IfOk, Some};
+ghost use Rattle.tla_tree.specs.Pool.{AllBelow, Keeps};
+ghost use Rattle.tla_tree.specs.Whole.{whole};
+ghost use Rattle.expr_nodes.specs.Ahead.{ahead};
+ghost use Rattle.expr_nodes.specs.ReadIn.{AreFields, Told, field_seen};
+ghost use Rattle.expr_nodes.specs.ViewSeen.{mark_seen};
+ghost use Rattle.expr_rows.specs.MayRead.{MayRead};
+
+use expr_nodes::cursor::{FieldName, Halt};
+use expr_nodes::make::{Read, name_of};
+use expr_nodes::shape::{Context, larger};
+use expr_nodes::spot::{Spot, after_mark, past_field, past_mark};
+use expr_nodes::view::Mark;
+use std::alloc::Global;
+use tla_pool::Pool;
+use tla_token::Tokens;
+use tla_tree::{NameList, NodeId};
+
+/// Fields that were read: their names, the numbers of what is in them, and what they open.
+#[derive(Drop)]
+pub struct Labelled {
+    pub labels: NameList,
+    pub ids: Vec<NodeId>,
+    pub nesting: u32,
+}
+
+/// `|-> e, b |-> f` behind the name of a field, or with colons: by the mark.
+///
+/// # Errors
+///
+/// The rule by which it is refused, and how many tokens are left from there on; or want of memory.
+pub fn fields<F: Fn(&mut Pool, Context, Spot) -> Result<(Read, usize), Halt>>(
+    alloc: Global,
+    tokens: &Tokens,
+    inner: &F,
+    pool: &mut Pool,
+    s: Spot,
+    mark: Mark,
+    first: FieldName,
+) -> Result<(Labelled, usize), Halt>
+    requires given { MayRead tokens.now s (suc s.left) (F.pre inner.now) (F.post inner.now) }
+    ensures read { Told (λ x fs. AreFields pool.new x.0.labels x.0.ids.items x.0.nesting fs) (λ x. ahead tokens.now x.1) result ((whole (Some s.left)).fields s.edge (mark_seen mark) (field_seen tokens.now.bytes.items first) (ahead tokens.now s.at)) }
+    ensures kept { Keeps pool.old pool.new }
+    ensures below { IfOk result (λ x. AllBelow (length pool.new) x.0.ids.items) }
+    ensures some { IfOk result (λ x. 1 ≤ length x.0.ids.items) }
+    ensures as_many { IfOk result (λ x. length x.0.ids.items ≡ length x.0.labels) }
+    ensures small { IfOk result (λ x. x.0.nesting ≤ s.left) }
+    ensures inside { IfOk result (λ x. x.1 ≤ length tokens.now.items.items) }
+    ensures further { IfOk result (λ x. s.at ≤ x.1) }
+{
+    let mut labels = NameList::new(alloc);
+    let mut ids = Vec::new(alloc);
+    let mut nesting = 0;
+    let mut field = first;
+    let mut at = s.at;
+    loop {
+        let (_, from) = past_mark(tokens, Spot { at, ..s }, mark)?;
+        let (a, next) = inner(pool, Context::Free, Spot { at: from, ..s })?;
+        labels.push(name_of(alloc, tokens, field.span)?)?;
+        ids.push(a.id)?;
+        nesting = larger(nesting, a.shape.nesting);
+        let Some(from) = after_mark(tokens, Spot { at: next, ..s }, Mark::Comma) else {
+            let all = Labelled {
+                labels,
+                ids,
+                nesting,
+            };
+            return Ok((all, next));
+        };
+        let (other, behind) = past_field(tokens, Spot { at: from, ..s })?;
+        field = other;
+        at = behind;
+    }
+}

@@ -1,0 +1,104 @@
+//! Reading the path of a setting: `[a, b].c`.
+
+ghost use Rattle.std.specs.Prelude.{◌<◌, ◌≤◌, suc, length, IfOk, Some};
+ghost use Rattle.tla_tree.specs.Pool.{Keeps};
+ghost use Rattle.tla_tree.specs.Whole.{whole};
+ghost use Rattle.tla_pool.specs.FormOf.{steps_of};
+ghost use Rattle.expr_nodes.specs.Ahead.{ahead};
+ghost use Rattle.expr_nodes.specs.ReadIn.{Told};
+ghost use Rattle.expr_rows.specs.MayRead.{MayRead};
+ghost use Rattle.expr_lists.specs.Routed.{indexed, IsSubscript, IsPath};
+
+use expr_nodes::cursor::Halt;
+use expr_nodes::make::{Read, name_of, subscript};
+use expr_nodes::shape::{Context, larger};
+use expr_nodes::spot::{Spot, after_mark, deeper, past_field, past_mark};
+use expr_nodes::view::Mark;
+use expr_rows::read_row::phrases;
+use std::alloc::Global;
+use tla_pool::Pool;
+use tla_pool::form::Step;
+use tla_token::Tokens;
+use tla_tree::NodeId;
+
+/// A path that was read: its steps, the numbers of its subscripts, and what they open.
+#[derive(Drop)]
+pub struct Route {
+    pub steps: Vec<Step>,
+    pub ids: Vec<NodeId>,
+    pub nesting: u32,
+}
+
+/// `a, b]` behind `[` in a path: the number of the subscript, and what is open in it.
+///
+/// # Errors
+///
+/// The rule by which it is refused, and how many tokens are left from there on; or want of memory.
+pub fn subscript_in<F: Fn(&mut Pool, Context, Spot) -> Result<(Read, usize), Halt>>(
+    alloc: Global,
+    tokens: &Tokens,
+    inner: &F,
+    pool: &mut Pool,
+    s: Spot,
+) -> Result<(NodeId, u32, usize), Halt>
+    requires given { MayRead tokens.now s (suc s.left) (F.pre inner.now) (F.post inner.now) }
+    ensures read { Told (λ x a. IsSubscript pool.new x.0 x.1 a.0) (λ x. ahead tokens.now x.2) result (indexed (whole (Some s.left)) s.edge (ahead tokens.now s.at)) }
+    ensures kept { Keeps pool.old pool.new }
+    ensures small { IfOk result (λ x. x.1 ≤ s.left) }
+    ensures inside { IfOk result (λ x. x.2 ≤ length tokens.now.items.items) }
+    ensures further { IfOk result (λ x. s.at ≤ x.2) }
+{
+    let (many, at) = phrases(alloc, tokens, inner, pool, s)?;
+    let (_, at) = past_mark(tokens, Spot { at, ..s }, Mark::CloseSquare)?;
+    let nesting = many.row.nesting;
+    let id = subscript(pool, many.ids, many.row)?;
+    Ok((id, nesting, at))
+}
+
+/// `[a, b].c`, which may be empty.
+///
+/// # Errors
+///
+/// The rule by which it is refused, and how many tokens are left from there on; or want of memory.
+pub fn path<F: Fn(&mut Pool, Context, Spot) -> Result<(Read, usize), Halt>>(
+    alloc: Global,
+    tokens: &Tokens,
+    inner: &F,
+    pool: &mut Pool,
+    s: Spot,
+) -> Result<(Route, usize), Halt>
+    requires given { MayRead tokens.now s s.left (F.pre inner.now) (F.post inner.now) }
+    ensures read { Told (λ x p. IsPath pool.new (steps_of x.0.steps.items) x.0.ids.items x.0.nesting p) (λ x. ahead tokens.now x.1) result ((whole (Some s.left)).path s.edge (ahead tokens.now s.at)) }
+    ensures kept { Keeps pool.old pool.new }
+    ensures small { IfOk result (λ x. x.0.nesting ≤ s.left) }
+    ensures inside { IfOk result (λ x. x.1 ≤ length tokens.now.items.items) }
+    ensures further { IfOk result (λ x. s.at ≤ x.1) }
+{
+    let mut steps = Vec::new(alloc);
+    let mut ids = Vec::new(alloc);
+    let mut nesting = 0;
+    let mut at = s.at;
+    loop {
+        if let Some(from) = after_mark(tokens, Spot { at, ..s }, Mark::OpenSquare) {
+            let d = deeper(tokens, Spot { at, ..s }, 0)?;
+            let d = Spot { at: from, ..d };
+            let (id, opened, next) = subscript_in(alloc, tokens, inner, pool, d)?;
+            steps.push(Step::Index)?;
+            ids.push(id)?;
+            nesting = larger(nesting, 1 + opened);
+            at = next;
+            continue;
+        }
+        let Some(from) = after_mark(tokens, Spot { at, ..s }, Mark::Dot) else {
+            let route = Route {
+                steps,
+                ids,
+                nesting,
+            };
+            return Ok((route, at));
+        };
+        let (field, next) = past_field(tokens, Spot { at: from, ..s })?;
+        steps.push(Step::Field(name_of(alloc, tokens, field.span)?))?;
+        at = next;
+    }
+}

@@ -1,0 +1,3 @@
+pub mod ReadShort
+pub mod ReadElement
+mod RowsShort

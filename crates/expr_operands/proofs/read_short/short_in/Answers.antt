@@ -1,0 +1,19 @@
+-- Proves what is asked of `short_in`.
+use Rattle.std.proofs.Common.{arith, refl}
+use Rattle.tla_tree.specs.Spelling.{prefix_of}
+use Rattle.tla_tree.proofs.PoolNumbers.{Keeps-then}
+use Rattle.expr_rows.proofs.ReadLemmas.{told_then}
+use Rattle.expr_operands.proofs.read_short.short_in.Goals as goal
+
+pub returns : goal.returns
+returns g c =
+    let one = c.in_ok-a.ensures in
+    let made = c.in_ok-whole.ensures in
+    record {
+      read = told_then _ _ one.read (λ i is. record { what = prefix_of c.args.place c.args.op i; is = refl; told = made.read i is });
+      kept = Keeps-then _ _ _ one.kept made.kept;
+      within = made.within;
+      small = grind (arith, made.shape, one.small);
+      inside = one.inside;
+      further = one.further;
+    }

@@ -1,0 +1,11 @@
+pub mod ReadLemmas
+pub mod ReadSteps
+pub mod ReadCode
+pub mod ReadRows
+pub mod ReadLinks
+pub mod ReadGrown
+pub mod ReadNames
+pub mod ReadPrimaries
+pub mod ReadFirst
+mod RowsHasRead
+mod RowsLists

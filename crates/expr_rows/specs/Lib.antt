@@ -1,0 +1,2 @@
+pub mod HasRead
+pub mod MayRead
