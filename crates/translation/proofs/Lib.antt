@@ -65,3 +65,13 @@ pub mod MacrosSound
 pub mod FromLabels
 pub mod NamesGiven
 pub mod NamesFree
+pub mod PlacelessItems
+pub mod PlacelessJumps
+pub mod PlacesTwice
+pub mod PlacelessUnits
+pub mod RegionPlaced
+pub mod BoundSettled
+pub mod ProcedureStarts
+pub mod TidySteps
+pub mod FramesAccepted
+pub mod PreparedSteps

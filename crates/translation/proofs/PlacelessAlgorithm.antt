@@ -54,7 +54,7 @@ macros_reversed (d ∷ ms) =
     bare : Macro
     bare = record { name = name_placeless d.name; params = names_placeless d.params; body = statements_placeless d.body }
 
-expanded_bare : (ms : List Macro) (ss : Statements) → statements_placeless (expanded (reverse ms) ss) ≡ expanded (reverse (macros_placeless ms)) (statements_placeless ss)
+pub expanded_bare : (ms : List Macro) (ss : Statements) → statements_placeless (expanded (reverse ms) ss) ≡ expanded (reverse (macros_placeless ms)) (statements_placeless ss)
 expanded_bare ms ss =
     expand_bare (written_out (reverse ms)) (written_out (macros_placeless (reverse ms))) (written_out_bare (reverse ms)) ss
     ∙ ap (λ es. expand (written_out es) (statements_placeless ss)) (sym (macros_reversed ms))

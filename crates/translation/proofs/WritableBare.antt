@@ -104,7 +104,7 @@ form_root (strict s) o = refl
 form_root m o = refl
 
 mutual
-  root_bare : (t : Tree) → root (tree_placeless t) ≡ root t
+  pub root_bare : (t : Tree) → root (tree_placeless t) ≡ root t
   root_bare (node m at ts) = form_root m (root_of_first (trees_placeless ts)) ∙ ap (root_form m) (first_bare ts)
 
   first_bare : (ts : Trees) → root_of_first (trees_placeless ts) ≡ root_of_first ts
@@ -182,7 +182,7 @@ module _ (g k : Graft) (same : (x : Word) (at : Place) → k x nowhere ≡ optio
   node_bare m at ts us e = ap (λ vs. node (form_placeless m) nowhere vs) e
 
   mutual
-    graft_bare : (t : Tree) → tree_placeless (graft g t) ≡ graft k (tree_placeless t)
+    pub graft_bare : (t : Tree) → tree_placeless (graft g t) ≡ graft k (tree_placeless t)
     graft_bare (node m at ts) = node_bare m at (grafts g ts) (grafts k (trees_placeless ts)) (grafts_bare ts)
 
     grafts_bare : (ts : Trees) → trees_placeless (grafts g ts) ≡ grafts k (trees_placeless ts)
@@ -224,7 +224,7 @@ module _ (g k : Graft) (same : (x : Word) (at : Place) → k x nowhere ≡ optio
     grafted_one (call p ts) = ap (call (name_placeless p)) (grafts_bare ts)
     grafted_one return = refl
 
-    grafted_all : (ss : Statements) → statements_placeless (graft_all g ss) ≡ graft_all k (statements_placeless ss)
+    pub grafted_all : (ss : Statements) → statements_placeless (graft_all g ss) ≡ graft_all k (statements_placeless ss)
     grafted_all done = refl
     grafted_all (then at st rest) = λ i. then no_span (grafted_one st i) (grafted_all rest i)
     grafted_all (mark l m rest) = ap (mark (name_placeless l) m) (grafted_all rest)
