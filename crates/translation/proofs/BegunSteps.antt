@@ -341,7 +341,8 @@ module _ (a : Algorithm) (u : Routine) (E : Effects) (r : Bool) (N : Word → Ty
     (calls : JumpsOnce E none_set (expanded (reverse a.macros) u.body)) (placed : Placed r false false (expanded (reverse a.macros) u.body))
     (written : AreWritableStatements (is_procedure a) (is_variable a u) (expanded (reverse a.macros) u.body)) (fine : BodyFine a u)
     (unread : (x : Word) → N x → through (readings_of a) x ≡ []) (own : Unread (readings_of a) (declared (locals u))) where
-  step_asked : (l : Word) (b : Begin) → at_label u l ≡ Some b → Throughout (Plain N) N (expanded (reverse a.macros) b.items)
+  step_asked : (l : Word) (b : Begin) → at_label u l ≡ Some b
+      → (AreWritableStatements (is_procedure a) (is_variable a u) (expanded (reverse a.macros) b.items) → Throughout (Plain N) N (expanded (reverse a.macros) b.items))
       → AskedIn (asked (readings_of a) a.procedures (is_procedure a) (is_variable a u) N E r) none_set (expanded (reverse a.macros) b.items)
   step_asked l b q t =
       let h = begun (readings_of a) (jumps_use a.procedures) E r (is_procedure a) (is_variable a u) (declared (locals u)) (written_out (reverse a.macros)) false (declared (locals u)) (λ e. refl) l unlabelled u.body u.exit
@@ -354,7 +355,7 @@ module _ (a : Algorithm) (u : Routine) (E : Effects) (r : Bool) (N : Word → Ty
             fine = (false, Some [], fine);
           }) b q in
       list_asked (readings_of a) a.procedures (is_procedure a) (is_variable a u) N E r unread false true none_set (Some []) (declared (locals u)) (expanded (reverse a.macros) b.items)
-      has_none (λ x e. absurd (never e)) (λ e x. refl) own h.sets h.calls h.placed h.ends h.written t h.fine
+      has_none (λ x e. absurd (never e)) (λ e x. refl) own h.sets h.calls h.placed h.ends h.written (t h.written) h.fine
     where
       never : false ≡ true → ⊥
       never e = cc
@@ -377,7 +378,8 @@ routine_one a false u k = one_right u (procedure_routines a) (main_routines a a.
 pub label_asked : (a : Algorithm) (r : Bool) (u : Routine) → IsRoutine a r u → (N : Word → Type 0) → IsTypedAlgorithm a → label_offences a ≡ [] → stale_offences a ≡ []
     → AreWritableStatements (is_procedure a) (is_variable a u) (expanded (reverse a.macros) u.body)
     → ((x : Word) → N x → through (readings_of a) x ≡ []) → Unread (readings_of a) (declared (locals u))
-    → (l : Word) (b : Begin) → at_label u l ≡ Some b → Throughout (Plain N) N (expanded (reverse a.macros) b.items)
+    → (l : Word) (b : Begin) → at_label u l ≡ Some b
+    → (AreWritableStatements (is_procedure a) (is_variable a u) (expanded (reverse a.macros) b.items) → Throughout (Plain N) N (expanded (reverse a.macros) b.items))
     → AskedIn (asked (readings_of a) a.procedures (is_procedure a) (is_variable a u) N (effects_of a r u) r) none_set (expanded (reverse a.macros) b.items)
 label_asked a true u k N typed labels stale written unread own =
     let one = routine_one a true u k in

@@ -30,7 +30,7 @@ use Rattle.translation.proofs.BegunSteps.{IsRoutine, label_asked}
 use Rattle.translation.proofs.RoutineReady.{step_ready}
 
 -- what is asked of names, and of the definitions that are in sight
-pub record Sound (P : Program) (extra : List Definition) (v : Actor) (u : Routine) (N : Word → Type 0) (r : Bool) : Type 0 where
+pub record NamesSound (P : Program) (extra : List Definition) (v : Actor) (u : Routine) (N : Word → Type 0) (r : Bool) : Type 0 where
   pub names : StepNames P u N
   pub frames : (q : Routine) → OneOf q (procedure_routines P.algorithm) → Frames P u N r
   pub local : (x : Word) → declares (locals u) x ≡ true → Unused P x
@@ -41,10 +41,11 @@ pub record Sound (P : Program) (extra : List Definition) (v : Actor) (u : Routin
   pub assert : (s t : State) → (pair_env P extra v s t).defs (codes "Assert") ≡ Some (standard_sense plain asserted)
 
 -- of a procedure where r is true
-pub label_ready : (P : Program) (extra : List Definition) (v : Actor) (d : Stand) (r : Bool) (N : Word → Type 0) (names : Word → Bool) (callable : Callable) → IsRoutine P.algorithm r d.routine → Sound P extra v d.routine N r
+pub label_ready : (P : Program) (extra : List Definition) (v : Actor) (d : Stand) (r : Bool) (N : Word → Type 0) (names : Word → Bool) (callable : Callable) → IsRoutine P.algorithm r d.routine → NamesSound P extra v d.routine N r
     → IsTypedAlgorithm P.algorithm → label_offences P.algorithm ≡ [] → stale_offences P.algorithm ≡ []
     → AreWritableStatements (is_procedure P.algorithm) (is_variable P.algorithm d.routine) (expanded (reverse P.algorithm.macros) d.routine.body)
-    → at_label d.routine d.label ≡ Some d.begins → Throughout (Plain N) N (expanded (reverse P.algorithm.macros) d.begins.items)
+    → at_label d.routine d.label ≡ Some d.begins
+    → (AreWritableStatements (is_procedure P.algorithm) (is_variable P.algorithm d.routine) (expanded (reverse P.algorithm.macros) d.begins.items) → Throughout (Plain N) N (expanded (reverse P.algorithm.macros) d.begins.items))
     → IsReady (fresh (readings_of P.algorithm)) (vars P) (pair_env P extra v) none (step_of P extra v d names callable)
 label_ready P extra v d r N names callable one k typed labels stale written begins bound =
     let a = P.algorithm in

@@ -75,3 +75,5 @@ pub mod ProcedureStarts
 pub mod TidySteps
 pub mod FramesAccepted
 pub mod PreparedSteps
+pub mod ReadyNames
+pub mod ReadyFrames
