@@ -77,3 +77,5 @@ pub mod FramesAccepted
 pub mod PreparedSteps
 pub mod ReadyNames
 pub mod ReadyFrames
+pub mod LocalNames
+pub mod ReadyAccepted

@@ -77,15 +77,15 @@ module _ (o : Outside) (a : Algorithm) (h : IsAcceptedInFile o a) (values : Valu
 
   -- ---- names of the translation
 
-  reserved_unused : (x : Word) → (is_own x || is_standard o.extended x) ≡ true → Unused P x
+  pub reserved_unused : (x : Word) → (is_own x || is_standard o.extended x) ≡ true → Unused P x
   reserved_unused x e =
       unused_of a x (λ d m. false_among (bytes_eq d.name.word x)
       (λ q. never (sym e ∙ (ap (λ w. is_own w || is_standard o.extended w) (sym ((bytes_eq-Decides d.name.word x).0 q)) ∙ (free o a h).definitions d m))))
 
-  own_global : (x : Word) → is_own x ≡ true → declares a.globals x ≡ false
+  pub own_global : (x : Word) → is_own x ≡ true → declares a.globals x ≡ false
   own_global x e = none_among (declared a.globals) x (each_from (λ y. bytes_eq y x ≡ false) (declared a.globals) (λ y m. turned x y (own_differs x y e (not_own o y (one_each_of (Unreserved o) (declared a.globals) (free o a h).globals y m)))))
 
-  own_apart : (u : Routine) → OneOf u (routines a) → (w : Word) → is_own w ≡ true → (x : Word) → is_variable a u x ≡ true → name_of P u x ≡ w → ⊥
+  pub own_apart : (u : Routine) → OneOf u (routines a) → (w : Word) → is_own w ≡ true → (x : Word) → is_variable a u x ≡ true → name_of P u x ≡ w → ⊥
   own_apart u k w e x v q = by (declares (locals u) x) refl v q
     where
       one : (b : Bool) → (b || false) ≡ true → b ≡ true

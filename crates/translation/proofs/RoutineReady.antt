@@ -72,7 +72,7 @@ named_is (v ∷ us) x q e = by (bytes_eq v.name.word x) refl e (named_is us x q)
     by true c f k = subst (λ (w : Routine). bytes_eq w.name.word x ≡ true) (same_Some v q f) c
     by false c f k = k f
 
-named_one : (us : List Routine) (x : Word) (q : Routine) → routine_named x us ≡ Some q → OneOf q us
+pub named_one : (us : List Routine) (x : Word) (q : Routine) → routine_named x us ≡ Some q → OneOf q us
 named_one [] x q e = cc
 named_one (v ∷ us) x q e = by (bytes_eq v.name.word x) e (named_one us x q)
   where
