@@ -12,12 +12,15 @@ use Rattle.pcal_tree.specs.Processes.{OneOf, IsActor}
 use Rattle.pcal_tree.specs.Program.{Program, Actor}
 use Rattle.pcal_tree.specs.Programs.{program_in}
 use Rattle.pcal_tree.specs.OffencesStale.{stale_offences}
-use Rattle.pcal_tree.specs.OffencesOfNames.{name_offences}
+use Rattle.pcal_tree.specs.OffencesOfNames.{offences_of_uses, offences_of_declarations, offences_of_reads, through_each_call, name_offences}
+use Rattle.pcal_tree.specs.OffencesReads.{process_offences, own_offences, order_offences}
+use Rattle.pcal_tree.specs.OffencesSelf.{self_offences}
 use Rattle.pcal_tree.specs.Reads.{readings_of}
 use Rattle.pcal_tree.specs.Step.{Stand, routines_of}
 use Rattle.pcal_tree.specs.StepStart.{Begin, at_label}
 use Rattle.pcal_tree.specs.Variables.{vars}
 use Rattle.pcal_tree.proofs.ClearLabels.{both_none}
+use Rattle.pcal_tree.proofs.OneStand.{runs_routine}
 use Rattle.pcal_tree.proofs.RoutineNames.{one_either}
 use Rattle.action_builder.specs.Prepared.{none}
 use Rattle.action_builder.specs.laws.LabelSteps.{IsReady}
@@ -26,7 +29,7 @@ use Rattle.action_builder.specs.laws.StepsOfLabels.{step_of, pair_env, AllUnprim
 use Rattle.action_builder.specs.laws.WrittenScope.{definitions_of}
 use Rattle.translation.specs.laws.AcceptedAlgorithm.{IsAcceptedInFile}
 use Rattle.translation.specs.laws.FreshReads.{fresh}
-use Rattle.translation.specs.laws.LeftToProve.{extra_of, Stance, bindable, callable_for, ReadyLaw}
+use Rattle.translation.specs.laws.LeftToProve.{extra_of, Stance, may_bind, callable_for, ReadyLaw}
 use Rattle.translation.proofs.BegunSteps.{IsRoutine}
 use Rattle.translation.proofs.FramesAccepted.{untitled, bound_defs, defs_through}
 use Rattle.translation.proofs.LabelReady.{NamesSound, label_ready}
@@ -47,7 +50,11 @@ pub record Unprimed (o : Outside) (a : Algorithm) (h : IsAcceptedInFile o a) (va
   pub definitions : AllUnprimed (definitions_of (program_in plain o a values) ++ extra_of a)
 
 stale_none : (a : Algorithm) (o : Outside) → name_offences a o ≡ [] → stale_offences a ≡ []
-stale_none a o e = (let r = both_none _ _ (both_none _ _ e).1 in let s = both_none _ _ (both_none _ _ (both_none _ _ r.1).1).1 in (both_none (stale_offences a) _ s.1).0)
+stale_none a o e =
+    let F = through_each_call a o in
+    let r = (both_none (offences_of_declarations F a o) (offences_of_reads F a) (both_none (offences_of_uses F a o) _ e).1).1 in
+    let s = (both_none (own_offences a) _ (both_none (process_offences a) _ r).1).1 in
+    (both_none (stale_offences a) (self_offences a) (both_none (order_offences a) _ s).1).0
 
 module _ (o : Outside) (a : Algorithm) (h : IsAcceptedInFile o a) (values : Valuation) (primes : Unprimed o a h values) (settled : AllSettledFor (program_in plain o a values) (extra_of a) (readable a)) where
   abbrev P : Program
@@ -67,19 +74,19 @@ module _ (o : Outside) (a : Algorithm) (h : IsAcceptedInFile o a) (values : Valu
         assert = λ s t. bound_defs v.self _ (codes "Assert") ∙ defs_through plain (definitions_of P ++ extra_of a) _ (codes "Assert") (untitled o a h values v actor (codes "Assert") refl refl);
       }
 
-  pub step_is_ready : (v : Actor) (d : Stand) → Stance P v d → IsReady (readable a) (vars P) (pair_env P (extra_of a) v) none (step_of P (extra_of a) v d (bindable o P) (callable_for P))
+  pub step_is_ready : (v : Actor) (d : Stand) → Stance P v d → IsReady (readable a) (vars P) (pair_env P (extra_of a) v) none (step_of P (extra_of a) v d (may_bind o P) (callable_for P))
   step_is_ready v d stance =
       let u = d.routine in
       let j = runs_routine P v u stance.actor stance.routine in
       by j (one_either u (procedure_routines a) (main_routines a a.main) j)
     where
-      ready : (r : Bool) → OneOf d.routine (routines a) → IsRoutine a r d.routine → IsReady (readable a) (vars P) (pair_env P (extra_of a) v) none (step_of P (extra_of a) v d (bindable o P) (callable_for P))
+      ready : (r : Bool) → OneOf d.routine (routines a) → IsRoutine a r d.routine → IsReady (readable a) (vars P) (pair_env P (extra_of a) v) none (step_of P (extra_of a) v d (may_bind o P) (callable_for P))
       ready r j one =
-          label_ready P (extra_of a) v d r (BoundName o a h values) (bindable o P) (callable_for P) one (sound v stance.actor r d.routine stance.routine j one) (typed o a h.accepted) h.accepted.labels (stale_none a o h.accepted.names)
+          label_ready P (extra_of a) v d r (BoundName o a h values) (may_bind o P) (callable_for P) one (sound v stance.actor r d.routine stance.routine j one) (typed o a h.accepted) h.accepted.labels (stale_none a o h.accepted.names)
           ((writable o a h).routines d.routine j).body stance.label
           (λ w. items_plain o a h values d.routine j d.label d.begins stance.label _ _ w (primes.items d.routine j d.label d.begins stance.label))
 
-      by : OneOf d.routine (routines a) → OneOf d.routine (procedure_routines a) ⊎ OneOf d.routine (main_routines a a.main) → IsReady (readable a) (vars P) (pair_env P (extra_of a) v) none (step_of P (extra_of a) v d (bindable o P) (callable_for P))
+      by : OneOf d.routine (routines a) → OneOf d.routine (procedure_routines a) ⊎ OneOf d.routine (main_routines a a.main) → IsReady (readable a) (vars P) (pair_env P (extra_of a) v) none (step_of P (extra_of a) v d (may_bind o P) (callable_for P))
       by j (inl k) = ready true j k
       by j (inr k) = ready false j k
 
