@@ -61,5 +61,4 @@ pub mod RegionPlaced
 pub mod BoundSettled
 pub mod PlacedStatements
 pub mod ReadiedSteps
-pub mod UsedNames
-pub mod PairsApart
+pub mod InitScopes
