@@ -62,3 +62,4 @@ pub mod BoundSettled
 pub mod PlacedStatements
 pub mod ReadiedSteps
 pub mod InitScopes
+pub mod InitNames
