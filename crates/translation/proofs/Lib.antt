@@ -63,3 +63,4 @@ pub mod PlacedStatements
 pub mod ReadiedSteps
 pub mod InitScopes
 pub mod InitNames
+pub mod InitSets
