@@ -54,11 +54,11 @@ pub bound_ok : {X Y : Type 0} (o : Outcome X) (go : X → Outcome Y) (y : Y) →
 bound_ok (Ok x) go y e = (x, refl, e)
 bound_ok (Err k) go y e = cc
 
-untitled_joined : (x : Word) (ds es : List Definition) → Untitled x ds → Untitled x es → Untitled x (ds ++ es)
+pub untitled_joined : (x : Word) (ds es : List Definition) → Untitled x ds → Untitled x es → Untitled x (ds ++ es)
 untitled_joined x [] es h k = k
 untitled_joined x (d ∷ ds) es h k = (h.0, untitled_joined x ds es h.1 k)
 
-untitled_mapped : {X : Type 0} (x : Word) (f : X → Definition) (xs : List X) → ((y : X) → OneOf y xs → bytes_eq (f y).title x ≡ false) → Untitled x (map f xs)
+pub untitled_mapped : {X : Type 0} (x : Word) (f : X → Definition) (xs : List X) → ((y : X) → OneOf y xs → bytes_eq (f y).title x ≡ false) → Untitled x (map f xs)
 untitled_mapped x f [] h = tt
 untitled_mapped x f (y ∷ ys) h = (h y (inl refl), untitled_mapped x f ys (λ z k. h z (inr k)))
 

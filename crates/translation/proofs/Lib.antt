@@ -64,3 +64,4 @@ pub mod ReadiedSteps
 pub mod InitScopes
 pub mod InitNames
 pub mod InitSets
+pub mod InitValues
