@@ -83,7 +83,7 @@ OfStart A unset = Unit {0}
 OfStart A (equals e) = A e
 OfStart A (among e) = A e
 
-in_is : (x : Word) (e : Tree) (env : Env) (v : Value) (b : Bool) → env.now x nowhere ≡ just v → (eval plain e env).test nowhere v ≡ Ok b → truth_in plain env (is_in true (named x) e) ≡ Ok b
+pub in_is : (x : Word) (e : Tree) (env : Env) (v : Value) (b : Bool) → env.now x nowhere ≡ just v → (eval plain e env).test nowhere v ≡ Ok b → truth_in plain env (is_in true (named x) e) ≡ Ok b
 in_is x e env v b d f = (λ i. ((d i).value >>= (λ w. (eval plain e env).test nowhere w >>= (λ c. Ok (truth (same_truth true c))))) >>= (truth_at nowhere)) ∙ (λ i. (f i >>= (λ c. Ok (truth (same_truth true c)))) >>= (truth_at nowhere))
 
 is_set : (at : Place) (w : Value) (ws : Values) → members_at at w ≡ Ok ws → w ≡ set ws

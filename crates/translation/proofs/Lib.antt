@@ -65,3 +65,4 @@ pub mod InitScopes
 pub mod InitNames
 pub mod InitSets
 pub mod InitValues
+pub mod InitLabels
