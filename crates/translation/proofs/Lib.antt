@@ -66,3 +66,4 @@ pub mod InitNames
 pub mod InitSets
 pub mod InitValues
 pub mod InitLabels
+pub mod InitFollows
