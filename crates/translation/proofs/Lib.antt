@@ -67,3 +67,5 @@ pub mod InitSets
 pub mod InitValues
 pub mod InitLabels
 pub mod InitFollows
+pub mod InitTroubles
+pub mod InitOfRegion
