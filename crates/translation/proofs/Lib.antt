@@ -80,3 +80,13 @@ pub mod ReadyNames
 pub mod ReadyFrames
 pub mod LocalNames
 pub mod ReadyAccepted
+pub mod PlacedStatements
+pub mod ReadiedSteps
+pub mod InitScopes
+pub mod InitNames
+pub mod InitSets
+pub mod InitValues
+pub mod InitLabels
+pub mod InitFollows
+pub mod InitTroubles
+pub mod InitOfRegion

@@ -192,3 +192,9 @@ pub fn written_names_stand_for_the_names_of_routines()
     ensures apart { NamesApartLaw IsAcceptedInFile }
     ensures given { NamesGivenLaw IsAcceptedInFile }
 {}
+
+/// Init of what is written of an accepted algorithm, with the algorithm's own places, is true exactly of the initial states: for all constants that give the processes
+/// different identifiers, and all states from which no initial value is a fault. Else it is false, and never a fault.
+pub fn init_is_true_of_the_initial_states()
+    ensures { InitOfRegionLaw IsAcceptedInFile }
+{}
