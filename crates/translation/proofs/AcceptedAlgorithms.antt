@@ -1,8 +1,8 @@
 -- An algorithm that has what its text gives, and breaks no rule on names and labels, can be written where no statement, its macro calls written out, assigns a variable beside a part of it.
-use Rattle.std.proofs.Common.{◌≡◌, ℕ, suc, ◌≤◌, length, List, [], ◌∷◌, not, ◌⊎◌, inl, inr, sym, subst}
+use Rattle.std.proofs.Common.{◌≡◌, ℕ, suc, ◌<◌, length, List, [], ◌∷◌, not, ◌⊎◌, inl, inr, sym, subst}
 use Rattle.std.specs.Bool.{IsTrue}
 use Rattle.std.specs.List.{AllByRecursion}
-use Rattle.tla_token.specs.Limits.{most_bytes}
+use Rattle.tla_token.specs.Limits.{past_text}
 use Rattle.tla_token.specs.Words.{is_own}
 use Rattle.tla_tree.specs.laws.Writable.{IsIdentifier, IsWritable}
 use Rattle.tla_value.specs.Outside.{Outside}
@@ -92,6 +92,6 @@ accepted_writable o a h few names labels =
     }
 
 -- of a file within the limits, with labels added
-pub text_writable : (x : Text) (o : Outside) (a : Algorithm) → IsAccepted o a → length x ≤ most_bytes → HasOutside (walk x) o → IsWritableAlgorithm o a
+pub text_writable : (x : Text) (o : Outside) (a : Algorithm) → IsAccepted o a → length x < past_text → HasOutside (walk x) o → IsWritableAlgorithm o a
 text_writable x o a h size out =
     accepted_writable o a (subst IsTypedAlgorithm h.labels_added (labelled_typed h.forced h.typed (text_typed h.syntax h.text h.from h.to h.tokens h.typed h.tok (tokens_within h.tokens h.rules).0 h.spelled))) (few_names x o a h size out) h.names h.labels

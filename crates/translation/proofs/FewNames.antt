@@ -1,12 +1,12 @@
 -- An algorithm that is read from a file within the limits has few names.
-use Rattle.std.proofs.Common.{◌≡◌, ℕ, ◌+◌, ◌*◌, ◌-◌, ◌≤◌, List, [], ◌∷◌, length, drop, Bool, true, false, refl, sym, ap, subst, ◌∙◌, arith, length-append}
+use Rattle.std.proofs.Common.{◌≡◌, ℕ, ◌+◌, ◌*◌, ◌-◌, ◌≤◌, ◌<◌, List, [], ◌∷◌, length, drop, Bool, true, false, refl, sym, ap, subst, ◌∙◌, arith, length-append}
 use Rattle.std.proofs.lemmas.Bool.{leb-false}
 use Rattle.std.proofs.lemmas.List.{length-map, length-drop}
 use Rattle.std.specs.Prelude.{nat_le}
 use Rattle.tla_token.specs.declared.rule.Rule.TheVariants.{NumberTooBig, TooMany}
 use Rattle.tla_token.specs.AlgorithmOffences.{left_out, number_offences, too_many_tokens, algorithm_offences}
 use Rattle.tla_token.specs.Lexemes.{Kind, number}
-use Rattle.tla_token.specs.Limits.{past_numbers, most_bytes, most_tokens}
+use Rattle.tla_token.specs.Limits.{past_numbers, past_text, most_tokens}
 use Rattle.tla_token.specs.Offences.{Offence, offence_if, kind_offences}
 use Rattle.tla_token.specs.Tokens.{Token}
 use Rattle.tla_tree.specs.Lexical as tk
@@ -56,7 +56,7 @@ tokens_within ts e =
 
 -- ---- names
 
-pub few_names : (x : Text) (o : Outside) (a : Algorithm) → IsAccepted o a → length x ≤ most_bytes → HasOutside (walk x) o → FewNames a o
+pub few_names : (x : Text) (o : Outside) (a : Algorithm) → IsAccepted o a → length x < past_text → HasOutside (walk x) o → FewNames a o
 few_names x o a h size out =
     let t = h.spelled.0 in
     let n = subst (λ (b : Algorithm). length (kept b) + length (wanted b) ≤ 2 * length (spell t [])) (ap (labelled h.forced) h.spelled.3 ∙ h.labels_added) (names_of_labelled h.forced t) in

@@ -1,8 +1,8 @@
 -- Init of each module that a translated file is read as is true exactly of the initial states of the algorithm in the file, where no initial value faults.
-use Rattle.std.proofs.Common.{◌≡◌, List, ◌∷◌, Bool, false, codes, length, ◌≤◌, sym, ◌∙◌, subst}
+use Rattle.std.proofs.Common.{◌≡◌, List, ◌∷◌, Bool, false, codes, length, ◌<◌, sym, ◌∙◌, subst}
 use Rattle.std.specs.Bool.{IsTrue}
 use Rattle.std.specs.Prelude.{is_some}
-use Rattle.tla_token.specs.Limits.{most_bytes}
+use Rattle.tla_token.specs.Limits.{past_text}
 use Rattle.tla_token.specs.Signs.{is_among}
 use Rattle.tla_tree.specs.Tree.{Each}
 use Rattle.tla_value.specs.Value.{TrueExactly}
@@ -65,7 +65,7 @@ module _ (b : Bool) (o : Outside) (g : Algorithm) (m : Module) (accepted : IsAcc
       (λ kind at h. fine kind at (subst (λ (P : Program). InitFault P s kind at) q h))))
 
 -- of a file with its translation
-pub init_of_files : (b : Bool) (x w : Text) (o : Outside) (g : Algorithm) → IsAccepted o g → length x ≤ most_bytes → IsFine x → HasOutside (walk x) o → WithTranslation x (layout (written_region b o g)) w
+pub init_of_files : (b : Bool) (x w : Text) (o : Outside) (g : Algorithm) → IsAccepted o g → length x < past_text → IsFine x → HasOutside (walk x) o → WithTranslation x (layout (written_region b o g)) w
     → (m : Module) → Reads w m → InitIs g m
 init_of_files b x w o g h short fine out t m reads =
     let k = written_file x w o (written_region b o g) (written_is_region b o g (text_writable x o g h short out)) fine out t in

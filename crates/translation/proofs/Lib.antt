@@ -90,3 +90,5 @@ pub mod InitTroubles
 pub mod InitOfRegion
 pub mod InitKept
 pub mod InitRows
+pub mod KeptAccepted
+pub mod KeptPromise

@@ -1,8 +1,8 @@
 -- An algorithm with a procedure that calls itself is accepted in its file, by computation; so what the laws of accepted algorithms say of each step holds of its steps.
-use Rattle.std.proofs.Common.{◌≡◌, ◌≤◌, length, List, [], ◌∷◌, true, false, cond, bytes_eq, codes, Option, Some, None, inl, inr, refl, arith}
+use Rattle.std.proofs.Common.{◌≡◌, ◌<◌, length, List, [], ◌∷◌, true, false, cond, bytes_eq, codes, Option, Some, None, inl, inr, refl, arith}
 use Rattle.std.proofs.lemmas.Option.{same_Some}
 use Rattle.tla_token.specs.AlgorithmOffences as tokens
-use Rattle.tla_token.specs.Limits.{most_bytes}
+use Rattle.tla_token.specs.Limits.{past_text}
 use Rattle.tla_value.specs.Definitions.{Valuation}
 use Rattle.tla_value.specs.Outside.{Outside}
 use Rattle.tla_value.specs.Stops.{plain}
@@ -37,7 +37,7 @@ use Rattle.translation.proofs.RowsStands.{add_text, add_good, add_has}
 -- an algorithm that the tokens of a file spell, and that breaks no rule
 accepted_by : (x : front.Text) (t : Text) (o : Option AlgorithmText) (u : Outside) → algorithm_in x ≡ o → Good p_syntax t → offences_of (walk x) ≡ [] → only_large (algorithm_offences o) ≡ true
     → front.on_some o (λ a. Some (views (algorithm_tokens x a))) ≡ Some (spell t []) → front.on_some o (λ a. Some (tokens.algorithm_offences (algorithm_tokens x a))) ≡ Some []
-    → labelled false (algorithm_of t) ≡ algorithm_of t → name_offences (algorithm_of t) u ≡ [] → label_offences (algorithm_of t) ≡ [] → length x ≤ most_bytes → HasOutside (walk x) u → IsAcceptedInFile u (algorithm_of t)
+    → labelled false (algorithm_of t) ≡ algorithm_of t → name_offences (algorithm_of t) u ≡ [] → label_offences (algorithm_of t) ≡ [] → length x < past_text → HasOutside (walk x) u → IsAcceptedInFile u (algorithm_of t)
 accepted_by x t (Some a) u is good fine large told rules labels_added names labels short outside = record {
   file = x;
   accepted = record {

@@ -1,6 +1,6 @@
 //! Laws of the written module, stated as what functions without a body ensure.
 
-ghost use Rattle.std.specs.Prelude.{◌≡◌, ℕ, List, [], Bool, false, not, Some, map, reverse, length, ◌≤◌};
+ghost use Rattle.std.specs.Prelude.{◌≡◌, ℕ, List, [], Bool, false, not, Some, map, reverse, length, ◌<◌};
 ghost use Rattle.tla_tree.specs.Tree.{Word};
 ghost use Rattle.tla_value.specs.Outside.{Outside};
 ghost use Rattle.module_tree.specs.Module.{test, item, Module};
@@ -49,7 +49,7 @@ ghost use Rattle.module_tree.specs.Layout.{layout};
 ghost use Rattle.module_tree.specs.TextFront.{Text};
 ghost use Rattle.module_tree.specs.Walk.{walk};
 ghost use Rattle.module_tree.specs.WithTranslation.{WithTranslation};
-ghost use Rattle.tla_token.specs.Limits.{most_bytes};
+ghost use Rattle.tla_token.specs.Limits.{past_text};
 ghost use Rattle.tla_token.specs.Tokens as text;
 ghost use Rattle.tla_token.specs.Tokens.{TokAlgorithm};
 ghost use Rattle.tla_tree.specs.laws.Writable.{AreSmall};
@@ -136,10 +136,10 @@ pub fn accepted_algorithms_can_be_written()
 /// be written and read back: a file within the limits that is not refused is one module with it, around that file, with what the file has outside. Its names
 /// are few.
 pub fn accepted_modules_read_back()
-    ensures few { (x : Text) (o : Outside) (a : Algorithm) → IsAccepted o a → length x ≤ most_bytes → HasOutside (walk x) o → FewNames a o }
-    ensures regions { (no_terminating : Bool) (x : Text) (o : Outside) (a : Algorithm) → IsAccepted o a → length x ≤ most_bytes → HasOutside (walk x) o
+    ensures few { (x : Text) (o : Outside) (a : Algorithm) → IsAccepted o a → length x < past_text → HasOutside (walk x) o → FewNames a o }
+    ensures regions { (no_terminating : Bool) (x : Text) (o : Outside) (a : Algorithm) → IsAccepted o a → length x < past_text → HasOutside (walk x) o
         → IsRegion (written_region no_terminating o a) }
-    ensures files { (no_terminating : Bool) (x w : Text) (o : Outside) (a : Algorithm) → IsAccepted o a → length x ≤ most_bytes → IsFine x → HasOutside (walk x) o
+    ensures files { (no_terminating : Bool) (x w : Text) (o : Outside) (a : Algorithm) → IsAccepted o a → length x < past_text → IsFine x → HasOutside (walk x) o
         → WithTranslation x (layout (written_region no_terminating o a)) w → IsWritten x w o (written_region no_terminating o a) }
 {}
 
@@ -199,6 +199,6 @@ pub fn written_names_stand_for_the_names_of_routines()
 /// that the translated file is read as.
 pub fn init_is_true_of_the_initial_states()
     ensures region { InitOfRegionLaw IsAcceptedInFile }
-    ensures files { (no_terminating : Bool) (x w : Text) (o : Outside) (a : Algorithm) → IsAccepted o a → length x ≤ most_bytes → IsFine x → HasOutside (walk x) o
+    ensures files { (no_terminating : Bool) (x w : Text) (o : Outside) (a : Algorithm) → IsAccepted o a → length x < past_text → IsFine x → HasOutside (walk x) o
         → WithTranslation x (layout (written_region no_terminating o a)) w → (m : Module) → Reads w m → InitIs a m }
 {}

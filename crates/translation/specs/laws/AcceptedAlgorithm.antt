@@ -1,5 +1,5 @@
 -- An algorithm of a text, with labels added, that breaks no rule on tokens, names and labels ("A PlusCal User's Manual", section 3).
-use Rattle.std.specs.Prelude.{◌≡◌, ◌≤◌, ℕ, List, [], Bool, length, reverse}
+use Rattle.std.specs.Prelude.{◌≡◌, ◌<◌, ℕ, List, [], Bool, length, reverse}
 use Rattle.tla_token.specs.AlgorithmOffences.{algorithm_offences}
 use Rattle.tla_token.specs.Tokens.{Token, TokAlgorithm}
 use Rattle.tla_value.specs.Outside.{Outside}
@@ -11,7 +11,7 @@ use Rattle.pcal_tree.specs.OffencesLabels.{label_offences}
 use Rattle.pcal_tree.specs.OffencesOfNames.{name_offences}
 use Rattle.pcal_tree.specs.Processes.{OneOf}
 use Rattle.translation.specs.laws.AssignedOnce.{AssignOnce}
-use Rattle.tla_token.specs.Limits.{most_bytes}
+use Rattle.tla_token.specs.Limits.{past_text}
 use Rattle.module_tree.specs.TextFront.{Text}
 use Rattle.module_tree.specs.Walk.{walk}
 use Rattle.module_tree.specs.laws.Outsides.{HasOutside}
@@ -36,7 +36,7 @@ pub record IsAccepted (o : Outside) (a : Algorithm) : Type 0 where
 pub record IsAcceptedInFile (o : Outside) (a : Algorithm) : Type 0 where
   pub file : Text
   pub accepted : IsAccepted o a
-  pub short : length file ≤ most_bytes
+  pub short : length file < past_text
   pub outside : HasOutside (walk file) o
 
 -- no statement of a body, its macro calls written out, assigns a variable beside a part of it

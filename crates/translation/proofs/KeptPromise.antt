@@ -1,0 +1,74 @@
+-- What is written for a text with which nothing is wrong keeps the promise for the algorithm that is in it.
+use Rattle.std.proofs.Common.{◌≡◌, ◌<◌, Bool, List, length, map, None, refl, sym, ap, subst, ◌∙◌}
+use Rattle.tla_token.specs.Limits.{past_text}
+use Rattle.tla_value.specs.Definitions.{Definition, no_state}
+use Rattle.tla_value.specs.Outside.{Outside}
+use Rattle.pcal_tree.specs.Algorithm.{Algorithm}
+use Rattle.pcal_tree.specs.Labelled.{labelled}
+use Rattle.pcal_tree.specs.Program.{Program}
+use Rattle.pcal_tree.specs.Variables.{vars}
+use Rattle.module_tree.specs.Layout.{layout}
+use Rattle.module_tree.specs.Module.{Region, Module}
+use Rattle.module_tree.specs.TextFront.{Text}
+use Rattle.module_tree.specs.Walk.{walk}
+use Rattle.module_tree.specs.WithTranslation.{begin_line, end_line, line_end_if_new, WithTranslation}
+use Rattle.module_tree.specs.laws.Outsides.{HasOutside, SameOutside}
+use Rattle.module_tree.specs.laws.PlacelessRegion.{region_placeless}
+use Rattle.module_tree.specs.laws.WritableRegion.{IsWritten}
+use Rattle.module_tree.proofs.WrittenRegion.{written_file}
+use Rattle.promise.specs.ConstantsAndStates.{variables_of}
+use Rattle.promise.specs.Headline.{Stands, Headline}
+use Rattle.promise.specs.Options.{Options}
+use Rattle.promise.specs.Translates.{Translates}
+use Rattle.file_answer.specs.Checking.{AnswersChecking}
+use Rattle.action_builder.specs.WrittenNames.{with_names}
+use Rattle.translation.specs.PromiseWhole.{WrittenWhole}
+use Rattle.translation.specs.Region.{region_of, written_region}
+use Rattle.translation.specs.laws.AcceptedAlgorithm.{IsAcceptedInFile}
+use Rattle.translation.specs.laws.LeftToProve.{NextOfRegionLaw}
+use Rattle.translation.proofs.AcceptedAlgorithms.{text_writable}
+use Rattle.translation.proofs.InitOfRegion.{init_of_region_law}
+use Rattle.translation.proofs.KeptAccepted.{checked_is_fine, stands_in_file}
+use Rattle.translation.proofs.NoPlaces.{variables_bare}
+use Rattle.translation.proofs.PromiseKept.{promise_kept}
+use Rattle.translation.proofs.RegionPlaced.{region_placed}
+use Rattle.translation.proofs.SameProgram.{same_program}
+use Rattle.translation.proofs.WritableRegions.{written_is_region}
+
+module _ (next_law : NextOfRegionLaw IsAcceptedInFile) where
+  -- an accepted algorithm of a file that is written so
+  module _ (b : Bool) (x w : Text) (o : Outside) (g : Algorithm) (accepted : IsAcceptedInFile o g) (k : IsWritten x w o (written_region b o g)) where
+    abbrev m : Module
+    m = k.is.written
+
+    same : region_placeless m.region ≡ region_placeless (written_region b o g)
+    same = ap region_placeless k.is.region ∙ k.same
+
+    own_vars : vars (with_names o g) ≡ variables_of g m
+    own_vars = ap vars (same_program o g m k.is.outside no_state)
+
+    pub kept_in_module : Translates b x g w
+    kept_in_module = record {
+      module_of = m;
+      around = k.around;
+      reads = k.is.reads;
+      only = k.only;
+      variables = ap (λ (r : Region). r.variables) same ∙ variables_bare o g ∙ own_vars;
+      vars = ap (λ (r : Region). r.vars) same ∙ variables_bare o g ∙ own_vars;
+      definitions = ap (λ (r : Region). r.definitions) (same ∙ sym (region_placed b o g));
+      next = (promise_kept IsAcceptedInFile next_law init_of_region_law region_placed b o g m accepted k.is.outside same).0;
+      init = (promise_kept IsAcceptedInFile next_law init_of_region_law region_placed b o g m accepted k.is.outside same).1;
+    }
+
+  pub promise_of_texts : (options : Options) (x w : Text) → AnswersChecking options.label x None → length x < past_text → WrittenWhole options x w → Headline options x w
+  promise_of_texts options x w right short whole =
+      let g = labelled options.label whole.algorithm in
+      let accepted = stands_in_file options.label x right whole.algorithm whole.stands whole.outside whole.has short in
+      let r = written_region options.no_terminating whole.outside g in
+      let is_region = written_is_region options.no_terminating whole.outside g (text_writable x whole.outside g accepted.accepted short whole.has) in
+      let k = written_file x w whole.outside r is_region (checked_is_fine options.label x right) whole.has whole.is in
+      record {
+        algorithm = whole.algorithm;
+        stands = whole.stands;
+        translates = kept_in_module options.no_terminating x w whole.outside g accepted k;
+      }
