@@ -92,3 +92,4 @@ pub mod InitKept
 pub mod InitRows
 pub mod KeptAccepted
 pub mod KeptPromise
+mod RowsKept

@@ -90,7 +90,7 @@ file = codes "---- MODULE M ----\nEXTENDS Integers, Sequences\n(*\n--algorithm R
 abbrev pub translated : Text
 translated = codes "---- MODULE M ----\nEXTENDS Integers, Sequences\n(*\n--algorithm R\nvariables r = 0;\nprocedure Add(n = 0)\nvariable k = n + 1;\nbegin\n  P: r := r + k;\n  if n > 0 then call Add(n - 1); end if;\n  Q: return;\nend procedure\nbegin\n  A: call Add(1);\nend algorithm\n*)\n\\* BEGIN TRANSLATION\nVARIABLES r, pc, stack, n, k\n\nvars == <<r, pc, stack, n, k>>\n\nInit ==\n  /\\ r = 0\n  /\\ n = 0\n  /\\ k = (n + 1)\n  /\\ stack = <<>>\n  /\\ pc = \"A\"\n\nP ==\n  /\\ (pc = \"P\")\n  /\\ r' = (r + k)\n  /\\ IF n > 0\n     THEN\n       /\\ stack' = (<<[procedure |-> \"Add\", pc |-> \"Q\", n |-> n, k |-> k]>> \\o stack)\n       /\\ n' = (n - 1)\n       /\\ k' = (n' + 1)\n       /\\ pc' = \"P\"\n     ELSE\n       /\\ pc' = \"Q\"\n       /\\ UNCHANGED <<stack, n, k>>\n\nQ ==\n  /\\ (pc = \"Q\")\n  /\\ pc' = Head(stack).pc\n  /\\ n' = Head(stack).n\n  /\\ k' = Head(stack).k\n  /\\ stack' = Tail(stack)\n  /\\ UNCHANGED <<r>>\n\nAdd ==\n  \\/ P\n  \\/ Q\n\nA ==\n  /\\ (pc = \"A\")\n  /\\ stack' = (<<[procedure |-> \"Add\", pc |-> \"Done\", n |-> n, k |-> k]>> \\o stack)\n  /\\ n' = 1\n  /\\ k' = (n' + 1)\n  /\\ pc' = \"P\"\n  /\\ UNCHANGED <<r>>\n\nTerminating ==\n  /\\ (pc = \"Done\")\n  /\\ UNCHANGED vars\n\nNext ==\n  \\/ Add\n  \\/ A\n  \\/ Terminating\n\nSpec ==\n  /\\ Init\n  /\\ [][Next]_vars\n\nTermination == <>(pc = \"Done\")\n\\* END TRANSLATION\n====\n"
 
-put : WithTranslation file (layout (written_region false sequences add_one)) translated
+pub put : WithTranslation file (layout (written_region false sequences add_one)) translated
 unfolding digits
 put = record { at = record { from = 254; to = 254 }; is_spot = refl; is = refl }
 

@@ -94,11 +94,11 @@ add_text = record {
 pub add_good : Good p_syntax add_text
 add_good = search
 
-add_stands : Stands procedures.file (algorithm_of add_text)
+pub add_stands : Stands procedures.file (algorithm_of add_text)
 add_stands = stands_by procedures.file add_text (algorithm_in procedures.file) refl add_good refl refl refl
 
 -- it is the algorithm whose translation the file has, in its places
-add_same : placeless (algorithm_of add_text) ≡ placeless procedures.add_one
+pub add_same : placeless (algorithm_of add_text) ≡ placeless procedures.add_one
 add_same = refl
 
 -- ---- the first file, and the one with an old translation
