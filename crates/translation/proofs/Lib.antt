@@ -55,11 +55,11 @@ pub mod BoundOf
 pub mod MacrosSound
 pub mod FromLabels
 pub mod NamesGiven
-pub mod UsedNames
-pub mod PairsApart
 pub mod PlacelessItems
 pub mod PlacelessJumps
 pub mod PlacesTwice
 pub mod PlacelessUnits
 pub mod RegionPlaced
 pub mod BoundSettled
+pub mod NextFound
+pub mod NextTrue
