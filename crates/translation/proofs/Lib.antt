@@ -63,3 +63,6 @@ pub mod RegionPlaced
 pub mod BoundSettled
 pub mod NextFound
 pub mod NextTrue
+pub mod NextSteps
+pub mod NextEnds
+pub mod NextHolds

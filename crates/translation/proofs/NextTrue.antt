@@ -47,6 +47,16 @@ all_from Q (x ∷ xs) h = (h x (inl refl), all_from Q xs (λ y k. h y (inr k)))
 
 -- ---- one label, one routine
 
+-- the procedures, of an algorithm with this main part
+abbrev pub procedures_taken : Program → Main → List Taken
+procedures_taken P m = map (λ u. record { takers = procedure_takers m; routine = u }) (procedure_routines P.algorithm)
+
+-- the processes that take a routine of the main part, among these
+abbrev pub takers_among : List Actor → Main → Taken → List Actor
+takers_among vs (alone ss) r = vs
+takers_among vs (processes ps) r = running r.routine vs
+
+
 module _ (P : Program) (s t : State) where
   -- process v steps from the label l of u
   abbrev pub FromLabel : Actor → Routine → Word → Type 0
@@ -57,6 +67,9 @@ module _ (P : Program) (s t : State) where
 
   abbrev pub FromTaken : Taken → List Actor → Type 0
   FromTaken r vs = AnyOf (λ v. FromRoutine v r.routine) vs
+
+  abbrev pub FromMain : List Actor → Main → Type 0
+  FromMain vs m = AnyOf (λ r. FromTaken r (takers_among vs m r)) (taken_main P.algorithm m)
 
   module _ (S T : Valuation) (env : Env) where
     -- what is called with a process's identifier has it for self
@@ -110,15 +123,6 @@ module _ (P : Program) (s t : State) where
 
     -- ---- all of them
 
-    -- the procedures, of an algorithm with this main part
-    abbrev pub procedures_taken : Main → List Taken
-    procedures_taken m = map (λ u. record { takers = procedure_takers m; routine = u }) (procedure_routines P.algorithm)
-
-    -- the processes that take a routine, among these
-    abbrev pub takers_among : List Actor → Main → Taken → List Actor
-    takers_among vs (alone ss) r = vs
-    takers_among vs (processes ps) r = running r.routine vs
-
     -- of each procedure and process the action is there, and true of the steps of who takes it
     pub record RoutineTrue (acts : Acts) (r : Taken) (vs : List Actor) : Type 0 where
       pub taken : TakenBy r.takers vs
@@ -130,18 +134,10 @@ module _ (P : Program) (s t : State) where
     routines_true acts by rs h = ways_true env acts (own_way P) (λ r. FromTaken r (by r)) rs (all_from _ rs (λ r m. way_true acts r.takers r.routine (by r) (h r m).taken (h r m).found (h r m).labels))
 
     -- the labels of the one body stand in Next themselves
-    pub record BodyTrue (acts : Acts) (r : Taken) (v : Actor) : Type 0 where
-      pub is : r.takers ≡ lone
-      pub found : FindsLabels S T env P acts r
-      pub labels : LabelTrue r v
-
     abbrev pub MainTrue : Acts → List Actor → Main → Type 0
     MainTrue acts vs (alone ss) =
         (v : Actor) × (vs ≡ v ∷ []) × FindsLabels S T env P acts (record { takers = lone; routine = alone_routine P.algorithm ss }) × LabelTrue (record { takers = lone; routine = alone_routine P.algorithm ss }) v
     MainTrue acts vs (processes ps) = (r : Taken) → OneOf r (taken_main P.algorithm (processes ps)) → RoutineTrue acts r (running r.routine vs)
-
-    abbrev pub FromMain : List Actor → Main → Type 0
-    FromMain vs m = AnyOf (λ r. FromTaken r (takers_among vs m r)) (taken_main P.algorithm m)
 
     main_true : (acts : Acts) (vs : List Actor) (m : Main) → MainTrue acts vs m → TrueExactly (some_way_holds plain env acts (main_ways P m)) (FromMain vs m)
     main_true acts vs (processes ps) h = routines_true acts (λ r. running r.routine vs) (taken_main P.algorithm (processes ps)) h
@@ -160,7 +156,7 @@ module _ (P : Program) (s t : State) where
         from (inl (inr k)) = absurd k
         from (inr k) = absurd k
 
-    pub steps_true : (acts : Acts) (vs : List Actor) (m : Main) → ((r : Taken) → OneOf r (procedures_taken m) → RoutineTrue acts r vs) → MainTrue acts vs m
-        → TrueExactly (some_way_holds plain env acts (map (own_way P) (procedures_taken m) ++ main_ways P m)) (AnyOf (λ r. FromTaken r vs) (procedures_taken m) ⊎ FromMain vs m)
+    pub steps_true : (acts : Acts) (vs : List Actor) (m : Main) → ((r : Taken) → OneOf r (procedures_taken P m) → RoutineTrue acts r vs) → MainTrue acts vs m
+        → TrueExactly (some_way_holds plain env acts (map (own_way P) (procedures_taken P m) ++ main_ways P m)) (AnyOf (λ r. FromTaken r vs) (procedures_taken P m) ⊎ FromMain vs m)
     steps_true acts vs m h k =
-        ways_both env acts (map (own_way P) (procedures_taken m)) (main_ways P m) _ _ (routines_true acts (λ r. vs) (procedures_taken m) h) (main_true acts vs m k)
+        ways_both env acts (map (own_way P) (procedures_taken P m)) (main_ways P m) _ _ (routines_true acts (λ r. vs) (procedures_taken P m) h) (main_true acts vs m k)
