@@ -1,5 +1,5 @@
 -- What holds of all names that a body and its macros bind holds of those that the body binds with macro calls written out.
-use Rattle.std.proofs.Common.{◌≡◌, List, [], ◌∷◌, ◌++◌, Bool, true, false, cond, bytes_eq, Option, Some, None, flat_map, inl, inr, refl, sym, subst}
+use Rattle.std.proofs.Common.{List, [], ◌∷◌, ◌++◌, Bool, true, false, cond, bytes_eq, Option, Some, None, flat_map, inl, inr, refl, sym, subst}
 use Rattle.tla_token.specs.declared.place.Place.{Place}
 use Rattle.tla_tree.specs.Tree.{Word, Name, words, Form, binding, local, Tree, node, Trees, no_trees, tree, Each, Every, EveryOf, binders}
 use Rattle.pcal_tree.specs.Algorithm.{Span, Assignments, no_assignments, assignment, Binds, no_binds, one_of, is, Statement, assign, await, print, assert, skip, branch, either, with, while, goto, macro, call, return, Statements, done, then, mark, Branches, no_branches, or, Macro}
@@ -7,7 +7,7 @@ use Rattle.pcal_tree.specs.BoundNames.{Lists, all_of, lists_of, lists_in, lists_
 use Rattle.pcal_tree.specs.Expand.{graft_all, Writing, expand_one, expand, expand_some, written_out}
 use Rattle.pcal_tree.specs.Processes.{OneOf}
 use Rattle.pcal_tree.specs.Run.{arguments}
-use Rattle.pcal_tree.specs.laws.Expansion.{ThroughoutAssignments, ThroughoutBinds, ThroughoutOne, Throughout, ThroughoutSome}
+use Rattle.pcal_tree.specs.laws.Expansion.{ThroughoutAssignments, ThroughoutBinds, Throughout, ThroughoutSome}
 use Rattle.pcal_tree.specs.laws.ReadNames.{BindsIn, WithsInOne, WithsIn, WithsInSome, WithsInMacros}
 use Rattle.pcal_tree.proofs.NothingCaptured.{Has, pub_keeps, followed_keep}
 use Rattle.translation.proofs.NamesOfRules.{split}

@@ -1,23 +1,21 @@
 -- Of an accepted algorithm each macro's text binds nothing again and no name of the translation, begins with a statement and jumps nowhere; and what may be used in a
 -- routine's body is in scope there, or may never be bound.
-use Rattle.std.proofs.Common.{◌≡◌, List, [], ◌∷◌, ◌++◌, Bool, true, false, not, ◌||◌, map, reverse, ◌⊎◌, inl, inr, refl, sym, ◌∙◌, ap, subst}
-use Rattle.std.specs.List.{flat_map, AllByRecursion}
+use Rattle.std.proofs.Common.{◌≡◌, List, [], ◌∷◌, ◌++◌, true, false, not, map, reverse, ◌⊎◌, inl, inr, refl, ◌∙◌, ap, subst}
+use Rattle.std.specs.List.{flat_map}
 use Rattle.std.proofs.lemmas.Bool.{or_left, or_right}
 use Rattle.tla_token.specs.Signs.{is_among}
 use Rattle.tla_token.specs.Words.{is_own, is_standard, standard_names}
-use Rattle.tla_tree.specs.Tree.{Word, words, Each, binders}
+use Rattle.tla_tree.specs.Tree.{Word, words}
 use Rattle.tla_value.specs.Outside.{Outside, ReadDefinition}
-use Rattle.pcal_tree.specs.Algorithm.{Statements, done, then, mark, Definition, Macro, Procedure, Routine, locals, routines, Algorithm}
-use Rattle.pcal_tree.specs.BoundNames.{all_of, lists_in, lists_in_body, lists_in_declared, lists_in_procedure, lists_in_main, bound_lists}
-use Rattle.pcal_tree.specs.Expand.{expand, written_out}
+use Rattle.pcal_tree.specs.Algorithm.{Definition, Macro, Routine, locals, Algorithm}
+use Rattle.pcal_tree.specs.BoundNames.{all_of, lists_in, lists_in_body, lists_in_declared, bound_lists}
 use Rattle.pcal_tree.specs.NameUses.{knowing, variable, seeing_variables}
-use Rattle.pcal_tree.specs.OffencesLabels.{label_offences}
 use Rattle.pcal_tree.specs.OffencesNames.{sight_inside}
 use Rattle.pcal_tree.specs.OffencesRebind.{Standings, naming, in_scope, may_rebind, rebound_all, starts_rebind, any_name, body_rebinds, macro_rebinds, texts_rebind, definitions_rebind, standing_outside, standing_inside}
 use Rattle.pcal_tree.specs.Outside.{unit_names}
 use Rattle.pcal_tree.specs.Processes.{OneOf}
 use Rattle.pcal_tree.specs.Variables.{declared}
-use Rattle.pcal_tree.specs.laws.Expansion.{Throughout, BeginsUnlabelled, Stays}
+use Rattle.pcal_tree.specs.laws.Expansion.{BeginsUnlabelled, Stays}
 use Rattle.pcal_tree.proofs.CallsFine.{Sees, Kept, R, SoundMacros}
 use Rattle.pcal_tree.proofs.ClearLabels.{both_none}
 use Rattle.pcal_tree.proofs.PlainMacros.{macros_stay, macros_begin}
@@ -26,7 +24,7 @@ use Rattle.pcal_tree.proofs.RoutineNames.{every_one}
 use Rattle.translation.specs.laws.AcceptedAlgorithm.{IsAccepted, IsAcceptedInFile}
 use Rattle.translation.specs.laws.TypedAlgorithm.{IsTypedMacro, IsTypedAlgorithm}
 use Rattle.translation.specs.laws.WritableAlgorithm.{IsStarted}
-use Rattle.translation.proofs.BoundOf.{AllIn, BindsAll, MacrosAll, in_both, in_flat, body_bound}
+use Rattle.translation.proofs.BoundOf.{AllIn, MacrosAll, in_both, in_flat, body_bound}
 use Rattle.translation.proofs.FewNames.{tokens_within}
 use Rattle.translation.proofs.NamesApart.{free, mapped_among}
 use Rattle.translation.proofs.NamesInSight.{one_reversed, UsedOutside, sees_map, sees_inside}

@@ -1,13 +1,13 @@
 -- The written names of an accepted algorithm are apart from each other and from all that has a name in its module, and definitions read none of them: the scope of the
 -- written names fits that of each routine.
-use Rattle.std.proofs.Common.{◌≡◌, ℕ, suc, List, [], ◌∷◌, ◌++◌, Bool, true, false, not, ◌||◌, cond, bytes_eq, codes, map, reverse, Option, Some, None, ◌⊎◌, inl, inr, refl, sym, ◌∙◌, ap, subst, Ok, Err}
+use Rattle.std.proofs.Common.{◌≡◌, ℕ, suc, List, [], ◌∷◌, ◌++◌, Bool, true, false, not, ◌||◌, cond, bytes_eq, codes, map, Some, None, inl, inr, refl, sym, ◌∙◌, ap, subst, Ok, Err}
 use Rattle.std.specs.Ordering.{is_lt}
 use Rattle.std.specs.List.{flat_map, AllByRecursion}
 use Rattle.std.proofs.lemmas.Bool.{both_ways, or_left, or_right, or_parts}
 use Rattle.std.proofs.lemmas.Slice.Eq.{bytes_eq-Decides}
 use Rattle.tla_token.specs.declared.place.Place.{Place}
 use Rattle.tla_token.specs.Signs.{is_among}
-use Rattle.tla_token.specs.Words.{is_reserved, is_own, is_standard, standard_names, sequence_names, tlc_names, begins_fairness}
+use Rattle.tla_token.specs.Words.{is_reserved, is_own, is_standard, standard_names, begins_fairness}
 use Rattle.tla_tree.specs.Tree.{Word, words, Each}
 use Rattle.tla_tree.specs.laws.Writable.{IsIdentifier}
 use Rattle.tla_value.specs.Value.{Value, Values, no_values, and, Outcome, ◌>>=◌}
@@ -22,17 +22,15 @@ use Rattle.module_tree.specs.ModuleTruth.{process_set_defined}
 use Rattle.module_tree.specs.Walk.{walk}
 use Rattle.pcal_tree.specs.Algorithm as tree
 use Rattle.pcal_tree.specs.Algorithm.{declares, locals, Process, Main, alone, processes, Routine, process_routine, numbered, first_process, procedure_routines, main_routines, routines, Algorithm}
-use Rattle.pcal_tree.specs.BoundNames.{all_of, bound_lists}
 use Rattle.pcal_tree.specs.Names.{taken_outside, kept, taken_at_start, is_taken, variable, Want, wanted, given}
 use Rattle.pcal_tree.specs.OffencesNames.{in_declared, in_definitions, seeing_variables, sight_outside, sight_inside}
 use Rattle.pcal_tree.specs.Outside.{unit_names, bound_outside}
 use Rattle.pcal_tree.specs.Processes.{identifiers_of, identifier, actors_of, all_actors, last_place, apart, united, placed, sorted, actors_in, OneOf, IsActor}
 use Rattle.pcal_tree.specs.Program.{Program, Actor, inner, index, local_index, written}
 use Rattle.pcal_tree.specs.Programs.{program_in}
-use Rattle.pcal_tree.specs.Step.{routines_of}
 use Rattle.pcal_tree.specs.Variables.{declared, pc, stack, stack_for, written_by_all, vars}
 use Rattle.pcal_tree.proofs.ClearLabels.{both_none}
-use Rattle.pcal_tree.proofs.FreeNames.{given_apart, every_map}
+use Rattle.pcal_tree.proofs.FreeNames.{given_apart}
 use Rattle.pcal_tree.proofs.FreeWords.{given_free}
 use Rattle.pcal_tree.proofs.OneStand.{every_both, runs_routine}
 use Rattle.pcal_tree.proofs.ProcessesInOrder.{apart_gives}
@@ -40,7 +38,7 @@ use Rattle.pcal_tree.proofs.RoutineNames.{every_one}
 use Rattle.action_builder.specs.OwnVariables.{own_under, own_variables, is_own_variable}
 use Rattle.action_builder.specs.ProcessSets.{process_set_of}
 use Rattle.action_builder.specs.laws.Scopes.{own_path}
-use Rattle.action_builder.specs.laws.WrittenScope.{definitions_of, titles, common, Common, Aside, AllRead, NamesApart}
+use Rattle.action_builder.specs.laws.WrittenScope.{definitions_of, titles, Common, Aside, AllRead, NamesApart}
 use Rattle.action_builder.proofs.Names.{each_name}
 use Rattle.translation.specs.laws.AcceptedAlgorithm.{IsAcceptedInFile}
 use Rattle.translation.specs.laws.LeftToProve.{extra_of, NamesApartLaw}
@@ -50,7 +48,7 @@ use Rattle.translation.proofs.NamedBodies.{among_one}
 use Rattle.translation.proofs.NamesInSight.{UsedOutside, inner_read, outside_read, read_joined}
 use Rattle.translation.proofs.NamesOfRules.{Unreserved, not_own, not_standard, turned, NamesFree, names_free, NamesOnce, kept_once, rules_of_names}
 use Rattle.translation.proofs.RoutinesNamed.{one_each_of, among_later, among_before, all_wanted, local_wanted, local_free, local_new, no_global}
-use Rattle.translation.proofs.VariableNames.{each_to, each_from, none_among, one_is_among, map_among, vars_each, own_each, stack_each, local_among, spread_among, one_variable, one_routine}
+use Rattle.translation.proofs.VariableNames.{each_to, each_from, none_among, one_is_among, vars_each, own_each, stack_each, local_among, spread_among, one_variable, one_routine}
 use Rattle.translation.proofs.WrittenIdentifiers.{no_fairness, written_one}
 
 -- ---- processes have identifiers

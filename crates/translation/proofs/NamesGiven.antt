@@ -1,22 +1,22 @@
 -- From each label of an accepted algorithm on, macro calls capture nothing, no name that is bound is a routine's or a written one, and what is read is seen in the routine.
-use Rattle.std.proofs.Common.{◌≡◌, ℕ, suc, List, [], ◌∷◌, ◌++◌, Bool, true, false, not, ◌||◌, ◌&&◌, cond, bytes_eq, codes, map, reverse, Option, Some, None, ◌⊎◌, inl, inr, refl, sym, ◌∙◌, ap, subst}
-use Rattle.std.specs.List.{flat_map, AllByRecursion}
+use Rattle.std.proofs.Common.{◌≡◌, ℕ, suc, List, [], ◌∷◌, ◌++◌, Bool, true, false, not, ◌||◌, ◌&&◌, cond, bytes_eq, codes, reverse, Some, None, ◌⊎◌, inl, inr, refl, sym, ◌∙◌, ap, subst}
+use Rattle.std.specs.List.{flat_map}
 use Rattle.std.proofs.lemmas.Bool.{or_left, or_right}
 use Rattle.std.proofs.lemmas.Slice.Eq.{bytes_eq-Decides}
 use Rattle.tla_token.specs.declared.place.Place.{Place}
 use Rattle.tla_token.specs.Signs.{is_among}
 use Rattle.tla_token.specs.Words.{is_own}
-use Rattle.tla_tree.specs.Tree.{Word, words, Form, binders, name, node, no_trees, Each}
+use Rattle.tla_tree.specs.Tree.{Word, words, binders, name, node, no_trees, Each}
 use Rattle.tla_value.specs.Stops.{plain}
-use Rattle.tla_value.specs.Definitions.{Valuation, Definition}
+use Rattle.tla_value.specs.Definitions.{Valuation}
 use Rattle.tla_value.specs.Outside.{Outside}
-use Rattle.tla_value.specs.laws.Grafting.{Apart, ApartForm, NotFreeIn}
+use Rattle.tla_value.specs.laws.Grafting.{Apart, NotFreeIn}
 use Rattle.pcal_tree.specs.Algorithm as tree
 use Rattle.pcal_tree.specs.Algorithm.{declares, Assignments, no_assignments, assignment, Binds, no_binds, one_of, is, Statement, assign, await, print, assert, skip, branch, either, with, while, goto, macro, call, return, Statements, done, then, mark, Branches, no_branches, or, Macro, Procedure, Process, Main, alone, processes, Routine, locals, procedure_routine, process_routine, alone_routine, numbered, first_procedure, first_process, procedure_routines, main_routines, routines, Algorithm}
 use Rattle.pcal_tree.specs.BoundNames.{all_of, lists_in, lists_in_body, lists_in_declared, lists_in_procedure, lists_in_process, lists_in_main, bound_lists}
-use Rattle.pcal_tree.specs.Expand.{expand, expanded, written_out}
+use Rattle.pcal_tree.specs.Expand.{expanded}
 use Rattle.pcal_tree.specs.Names.{kept}
-use Rattle.pcal_tree.specs.NameUses.{Sight, knowing, variable, seeing_variables}
+use Rattle.pcal_tree.specs.NameUses.{knowing, variable, seeing_variables}
 use Rattle.pcal_tree.specs.OffencesNames.{in_whole, in_declared, in_definitions, in_body, in_procedure, in_process, in_main, macro_offences, sight_outside, sight_inside, use_offences_of}
 use Rattle.pcal_tree.specs.OffencesRebind.{Standings, naming, stands_for, in_scope, may_rebind, whole_rebinds, starts_rebind, any_name, body_rebinds, macro_rebinds, texts_rebind, definitions_rebind, locals_rebind, procedure_rebinds, in_process_body, process_rebinds, main_rebinds, standing_outside, standing_inside, bound_by, rebind_offences_of}
 use Rattle.pcal_tree.specs.Processes.{OneOf}
@@ -26,9 +26,9 @@ use Rattle.pcal_tree.specs.Run.{unlabelled}
 use Rattle.pcal_tree.specs.Step.{Stand}
 use Rattle.pcal_tree.specs.StepStart.{at_label}
 use Rattle.pcal_tree.specs.Variables.{declared, pc, stack, vars}
-use Rattle.pcal_tree.specs.laws.Expansion.{Calls, CallsOne, CallsSome, FineCall, Clean, Throughout}
-use Rattle.pcal_tree.specs.laws.ReadNames.{ReadsOne, ReadsBody, ReadsBranches, ReadsOneAlways, ReadsAlways, ReadsSomeAlways, WithsIn, WithsInMacros}
-use Rattle.pcal_tree.proofs.CallsFine.{Sees, Kept, R, nothing_captured, throughout_both}
+use Rattle.pcal_tree.specs.laws.Expansion.{Calls, FineCall}
+use Rattle.pcal_tree.specs.laws.ReadNames.{ReadsOne, ReadsBody, ReadsBranches, ReadsOneAlways, ReadsAlways, ReadsSomeAlways}
+use Rattle.pcal_tree.proofs.CallsFine.{Sees, nothing_captured, throughout_both}
 use Rattle.pcal_tree.proofs.ClearLabels.{both_none}
 use Rattle.pcal_tree.proofs.NamesSeen.{body_reads, calls_read}
 use Rattle.pcal_tree.proofs.NothingCaptured.{Free, BindsFree, written_bare}
@@ -37,14 +37,14 @@ use Rattle.pcal_tree.proofs.RoutineNames.{one_either}
 use Rattle.pcal_tree.proofs.Uncaptured.{throughout_weaker, uncaptured}
 use Rattle.action_builder.specs.WrittenNames.{renames}
 use Rattle.action_builder.specs.laws.StepsOfLabels.{NamesGiven}
-use Rattle.action_builder.specs.laws.WrittenScope.{titles, common, seen, Common, Seen}
+use Rattle.action_builder.specs.laws.WrittenScope.{titles, common, Common, Seen}
 use Rattle.translation.specs.laws.AcceptedAlgorithm.{IsAcceptedInFile}
-use Rattle.translation.specs.laws.LeftToProve.{extra_of, Stance, NamesGivenLaw}
-use Rattle.translation.proofs.BoundOf.{AllIn, BindsAll, in_both, in_flat, body_bound, withs_in, macros_in}
-use Rattle.translation.proofs.FromLabels.{Passes, from_label, calls_pass, bound_pass, More, NoneAgain, again_pass, UsedIn, used_pass}
-use Rattle.translation.proofs.MacrosSound.{all_bound, macros_bound, macros_sound, in_named, InScope, seen_in_scope, kept_of}
+use Rattle.translation.specs.laws.LeftToProve.{extra_of, NamesGivenLaw}
+use Rattle.translation.proofs.BoundOf.{AllIn, BindsAll, in_both, body_bound, withs_in, macros_in}
+use Rattle.translation.proofs.FromLabels.{from_label, calls_pass, bound_pass, More, NoneAgain, again_pass, UsedIn, used_pass}
+use Rattle.translation.proofs.MacrosSound.{macros_bound, macros_sound, in_named, InScope, seen_in_scope, kept_of}
 use Rattle.translation.proofs.NamedBodies.{among_one}
-use Rattle.translation.proofs.NamesApart.{free, P, kept_differs, used_outside, global_common, defined_common, own_differs, extra_own, false_among, never}
+use Rattle.translation.proofs.NamesApart.{free, kept_differs, used_outside, global_common, defined_common, own_differs, extra_own, false_among, never}
 use Rattle.translation.proofs.NamesInSight.{sees_map, sees_inside}
 use Rattle.translation.proofs.NamesOfRules.{Unreserved, not_own, turned, rules_of_names}
 use Rattle.translation.proofs.RoutinesNamed.{one_each_of, among_later}

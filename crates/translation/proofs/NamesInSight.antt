@@ -1,20 +1,20 @@
 -- Which names may be used outside an algorithm and in it: constants, definitions, `self`, names of standard modules, and globals; and those that a definition outside reads.
-use Rattle.std.proofs.Common.{◌≡◌, ℕ, suc, List, [], ◌∷◌, ◌++◌, Bool, true, false, not, ◌||◌, ◌&&◌, ◌⊎◌, cond, bytes_eq, codes, length, map, reverse, nat_eq, nat_le, nat_lt, Option, Some, None, inl, inr, refl, sym, ap, subst, ◌∙◌}
+use Rattle.std.proofs.Common.{◌≡◌, ℕ, List, [], ◌∷◌, ◌++◌, Bool, true, false, not, ◌||◌, ◌&&◌, ◌⊎◌, cond, bytes_eq, codes, map, reverse, nat_le, Option, Some, None, inl, inr, refl, sym, ap, subst, ◌∙◌}
 use Rattle.std.specs.List.{flat_map, AllByRecursion}
-use Rattle.std.proofs.lemmas.Bool.{and_parts, or_left, or_right, or_cases}
+use Rattle.std.proofs.lemmas.Bool.{and_parts, or_left, or_right}
 use Rattle.std.proofs.lemmas.Grind.{reverse_onto}
 use Rattle.std.proofs.lemmas.Slice.Eq.{bytes_eq-Decides}
-use Rattle.tla_token.specs.Limits.{past_numbers, deepest_definition}
+use Rattle.tla_token.specs.Limits.{deepest_definition}
 use Rattle.tla_token.specs.Signs.{is_among}
 use Rattle.tla_token.specs.Words.{standard_names}
 use Rattle.tla_tree.specs.Lexical.{Token}
-use Rattle.tla_tree.specs.Tree.{Word, Name, words, Form, number, strings, name, next, strict, operator, operator_call, binding, local, Tree, node, Trees, no_trees, tree, seen_names}
+use Rattle.tla_tree.specs.Tree.{Word, Name, words, Form, name, Tree, node, Trees, no_trees, tree, seen_names}
 use Rattle.tla_value.specs.Definitions.{Definition}
 use Rattle.tla_value.specs.DefinitionNesting.{definition_nests, depths}
 use Rattle.tla_value.specs.Outside.{Outside, ReadDefinition, found}
 use Rattle.tla_value.specs.StandardModules.{StandardName, standard_table, standard_in, extends_one, is_member, is_last}
 use Rattle.tla_value.specs.laws.FreeNames.{Or, Also, Any, FormReads, FreeNames, FreeInParts}
-use Rattle.module_tree.specs.Module.{OutsideUnit, extends, constants, defines, opaque, definitions_of, outside_of}
+use Rattle.module_tree.specs.Module.{OutsideUnit, extends, constants, defines, opaque, definitions_of}
 use Rattle.module_tree.specs.Outside as read
 use Rattle.module_tree.specs.Outside.{AllOutside}
 use Rattle.module_tree.specs.Reading.{sight_in}
@@ -24,7 +24,7 @@ use Rattle.module_tree.specs.FileParts.{before_spot, after_spot}
 use Rattle.module_tree.specs.FileUnits.{units_in}
 use Rattle.pcal_tree.specs.Algorithm as tree
 use Rattle.pcal_tree.specs.Algorithm.{Algorithm}
-use Rattle.pcal_tree.specs.NameUses.{Use, takes, variable, argument, standard, unread, Known, Sight, knowing, taking, plain, hidden_name, known_standard, seeing_plain, seeing_variables, use_of}
+use Rattle.pcal_tree.specs.NameUses.{variable, standard, Known, Sight, knowing, plain, hidden_name, known_standard, seeing_plain, seeing_variables, use_of}
 use Rattle.pcal_tree.specs.OffencesNames.{in_whole, in_definitions, always_known, defined_inside, defined_outside, sight_outside, sight_inside}
 use Rattle.pcal_tree.specs.Processes.{OneOf}
 use Rattle.pcal_tree.specs.Program.{inner}

@@ -1,17 +1,16 @@
 -- What rules say of the names that an algorithm declares and binds, and of those of units outside: none is the translation's own or of a standard module, and globals and
 -- definitions are apart from each other and from units outside.
-use Rattle.std.proofs.Common.{◌≡◌, ℕ, suc, List, [], ◌∷◌, ◌++◌, map, Bool, true, false, ◌||◌, bytes_eq, ◌⊎◌, inl, inr, refl, sym, ap, subst, ◌∙◌}
+use Rattle.std.proofs.Common.{◌≡◌, ℕ, suc, List, [], ◌∷◌, ◌++◌, map, Bool, true, false, ◌||◌, bytes_eq, ◌⊎◌, inl, inr, refl, sym, subst, ◌∙◌}
 use Rattle.std.specs.List.{flat_map}
 use Rattle.std.proofs.lemmas.Bool.{or_parts}
 use Rattle.std.proofs.lemmas.Slice.Eq.{bytes_eq-Decides}
 use Rattle.tla_token.specs.declared.place.Place.{Place}
 use Rattle.tla_token.specs.declared.rule.Rule.TheVariants.{Reserved}
-use Rattle.tla_token.specs.declared.rule.Refusal.{Refusal}
 use Rattle.tla_token.specs.Signs.{is_among}
 use Rattle.tla_token.specs.Words.{is_own, is_standard}
 use Rattle.tla_tree.specs.Tree.{Word, Name, words, Each}
 use Rattle.tla_value.specs.Outside.{Outside, Opaque, ReadDefinition}
-use Rattle.pcal_tree.specs.Algorithm.{Declaration, locals, Definition, Macro, Procedure, Process, Main, alone, processes, Routine, procedure_routine, process_routine, numbered, first_procedure, first_process, procedure_routines, main_routines, routines, Algorithm}
+use Rattle.pcal_tree.specs.Algorithm.{locals, Definition, Procedure, Process, Main, alone, processes, Routine, procedure_routine, process_routine, numbered, first_procedure, first_process, procedure_routines, main_routines, routines, Algorithm}
 use Rattle.pcal_tree.specs.BoundNames.{all_of, bound_lists}
 use Rattle.pcal_tree.specs.Offences.{offence_if}
 use Rattle.pcal_tree.specs.OffencesNames.{use_offences_of, repeated, names_of, kept_names, repeated_names}
