@@ -66,3 +66,4 @@ pub mod NextTrue
 pub mod NextSteps
 pub mod NextEnds
 pub mod NextHolds
+pub mod InitScopes
