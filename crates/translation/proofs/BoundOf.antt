@@ -47,7 +47,7 @@ module _ (N : Word → Type 0) where
   form_bound m at h = tt
 
   mutual
-    tree_bound : (t : Tree) → AllIn (lists_in t) → Every BindsAll t
+    pub tree_bound : (t : Tree) → AllIn (lists_in t) → Every BindsAll t
     tree_bound (node m at ts) h = (let k = in_both (lists_of m) (lists_in_all ts) h in (form_bound m at k.0, trees_bound ts k.1))
 
     trees_bound : (ts : Trees) → AllIn (lists_in_all ts) → EveryOf BindsAll ts

@@ -46,7 +46,7 @@ module _ (g : Graft) where
     all_jumps (then at st rest) = λ i. one_jumps st i || all_jumps rest i
     all_jumps (mark l k rest) = refl
 
-    some_jumps : (bs : Branches) → jumps_some (graft_some g bs) ≡ jumps_some bs
+    pub some_jumps : (bs : Branches) → jumps_some (graft_some g bs) ≡ jumps_some bs
     some_jumps no_branches = refl
     some_jumps (or b bs) = λ i. all_jumps b i || some_jumps bs i
 
@@ -61,7 +61,7 @@ followed_jumps (then at st a) b h =
 followed_jumps (mark l k a) b h = cc
 
 -- what is written for a call never jumps
-abbrev IsStill : Writing → Type 0
+abbrev pub IsStill : Writing → Type 0
 IsStill X = (at : Span) (m : Word) (ts : Trees) → jumps (X at m ts) ≡ false
 
 module _ (X : Writing) (still : IsStill X) (targets : List Word) where
@@ -96,7 +96,7 @@ module _ (X : Writing) (still : IsStill X) (targets : List Word) where
     some_still w (or b bs) h =
         neither (jumps (expand X b)) (jumps_some (expand_some X bs)) (all_still w b (nothing_left (jump_offences (in_body targets w) b) _ h)) (some_still w bs (nothing_right (jump_offences (in_body targets w) b) _ h))
 
-macros_still : (ms : List Macro) → AllByRecursion IsPlain ms → IsStill (written_out ms)
+pub macros_still : (ms : List Macro) → AllByRecursion IsPlain ms → IsStill (written_out ms)
 macros_still [] h at m ts = refl
 macros_still (d ∷ older) h at m ts = by (bytes_eq d.name.word m) (macros_still older h.1)
   where

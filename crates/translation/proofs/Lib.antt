@@ -67,3 +67,7 @@ pub mod NextSteps
 pub mod NextEnds
 pub mod NextHolds
 pub mod InitScopes
+pub mod ProcedureStarts
+pub mod TidySteps
+pub mod FramesAccepted
+pub mod PreparedSteps

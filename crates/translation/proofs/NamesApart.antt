@@ -53,7 +53,7 @@ use Rattle.translation.proofs.WrittenIdentifiers.{no_fairness, written_one}
 
 -- ---- processes have identifiers
 
-abbrev IsNamed : Actor → Type 0
+abbrev pub IsNamed : Actor → Type 0
 IsNamed v = (w : Value) × (v.self ≡ Some w)
 
 named_of : (u : Routine) (vs : Values) → AllByRecursion IsNamed (actors_of u vs)
@@ -112,10 +112,10 @@ named_main P ps vs e = by_all (all_actors P (first_process P.algorithm) ps) (nam
     by_all (Err k) h e = cc
 
 -- with processes each has one, and a uniprocess algorithm's one body none
-self_some : (P : Program) (v : Actor) (ps : List Process) → P.algorithm.main ≡ processes ps → IsActor P v → IsNamed v
+pub self_some : (P : Program) (v : Actor) (ps : List Process) → P.algorithm.main ≡ processes ps → IsActor P v → IsNamed v
 self_some P v ps e h = every_one IsNamed v h.0 (named_main P ps h.0 (sym (ap (actors_in P) e) ∙ h.1)) h.2
 
-self_none : (P : Program) (v : Actor) (ss : tree.Statements) → P.algorithm.main ≡ alone ss → IsActor P v → v.self ≡ None
+pub self_none : (P : Program) (v : Actor) (ss : tree.Statements) → P.algorithm.main ≡ alone ss → IsActor P v → v.self ≡ None
 self_none P v ss e h = by h.0 (ok_is (sym (ap (actors_in P) e) ∙ h.1)) h.2
   where
     by : (vs : List Actor) → record { self = None; own = tree.alone_routine P.algorithm ss } ∷ [] ≡ vs → OneOf v vs → v.self ≡ None
@@ -167,7 +167,7 @@ extra_untitled : (x : Word) (m : Main) → is_own x ≡ false → Untitled x (pr
 extra_untitled x (alone ss) h = tt
 extra_untitled x (processes ps) h = (own_differs (codes "ProcSet") x refl h, tt)
 
-extra_untitled_by : (x : Word) (m : Main) → bytes_eq (codes "ProcSet") x ≡ false → Untitled x (process_set_defined (process_set_of m))
+pub extra_untitled_by : (x : Word) (m : Main) → bytes_eq (codes "ProcSet") x ≡ false → Untitled x (process_set_defined (process_set_of m))
 extra_untitled_by x (alone ss) h = tt
 extra_untitled_by x (processes ps) h = (h, tt)
 
@@ -175,11 +175,11 @@ self_no_extra : (m : Main) → is_among (titles (process_set_defined (process_se
 self_no_extra (alone ss) = refl
 self_no_extra (processes ps) = refl
 
-untitled_joined : (x : Word) (ds es : List Definition) → Untitled x ds → Untitled x es → Untitled x (ds ++ es)
+pub untitled_joined : (x : Word) (ds es : List Definition) → Untitled x ds → Untitled x es → Untitled x (ds ++ es)
 untitled_joined x [] es h k = k
 untitled_joined x (d ∷ ds) es h k = (h.0, untitled_joined x ds es h.1 k)
 
-untitled_mapped : {X : Type 0} (x : Word) (f : X → Definition) (xs : List X) → ((y : X) → OneOf y xs → bytes_eq (f y).title x ≡ false) → Untitled x (map f xs)
+pub untitled_mapped : {X : Type 0} (x : Word) (f : X → Definition) (xs : List X) → ((y : X) → OneOf y xs → bytes_eq (f y).title x ≡ false) → Untitled x (map f xs)
 untitled_mapped x f [] h = tt
 untitled_mapped x f (y ∷ ys) h = (h y (inl refl), untitled_mapped x f ys (λ z k. h z (inr k)))
 

@@ -207,27 +207,27 @@ each_two A B C f (x ∷ xs) h k = (f x h.0 k.0, each_two A B C f xs h.1 k.1)
 -- ---- an accepted algorithm
 
 module _ (o : Outside) (a : Algorithm) (h : IsAcceptedInFile o a) (values : Valuation) where
-  abbrev Q : Program
+  abbrev pub Q : Program
   Q = program_in plain o a values
 
-  abbrev ms : List Macro
+  abbrev pub ms : List Macro
   ms = reverse a.macros
 
   -- bound somewhere, and so no name of the translation
-  abbrev Bound : Word → Type 0
+  abbrev pub Bound : Word → Type 0
   Bound x = (is_among (words (all_of (bound_lists a))) x ≡ true) × Unreserved o x
 
-  bound_all : AllIn Bound (bound_lists a)
+  pub bound_all : AllIn Bound (bound_lists a)
   bound_all = each_from Bound (words (all_of (bound_lists a))) (λ x k. (one_is_among (words (all_of (bound_lists a))) x k, one_each_of (Unreserved o) (words (all_of (bound_lists a))) (free o a h).bound x k))
 
-  bound_kept : (x : Word) → is_among (words (all_of (bound_lists a))) x ≡ true → is_among (kept a) x ≡ true
+  pub bound_kept : (x : Word) → is_among (words (all_of (bound_lists a))) x ≡ true → is_among (kept a) x ≡ true
   bound_kept x e =
       among_later (declared a.globals) _ x
       (among_later (flat_map (λ (d : tree.Definition). d.name.word ∷ words d.params) a.definitions) _ x
       (among_later (flat_map (λ (d : Macro). words d.params) a.macros) (words (all_of (bound_lists a))) x e))
 
   -- a bound name is a global or no variable of the translation
-  bound_common : (x : Word) → Bound x → Common Q (extra_of a) x
+  pub bound_common : (x : Word) → Bound x → Common Q (extra_of a) x
   bound_common x b = by (declares a.globals x) refl
     where
       not_ours : is_own x ≡ false
@@ -246,10 +246,10 @@ module _ (o : Outside) (a : Algorithm) (h : IsAcceptedInFile o a) (values : Valu
       by false e = (λ i. not (no_variable e i || false_among (is_among (titles (extra_of a)) x) (λ q. never (sym (extra_own a.main x q) ∙ not_ours)) i))
 
   module _ (u : Routine) (k : OneOf u (routines a)) where
-    once : BoundOnce o a u
+    pub once : BoundOnce o a u
     once = routine_once o a (rules_of_names a o h.accepted.names).2 u k
 
-    used : in_body (macro_offences ms a.procedures) a.procedures u.body (seeing_variables (declared (locals u)) (sight_inside a o)) ≡ []
+    pub used : in_body (macro_offences ms a.procedures) a.procedures u.body (seeing_variables (declared (locals u)) (sight_inside a o)) ≡ []
     used = routine_used o a (rules_of_names a o h.accepted.names).0 u k
 
     calls_all : Calls (FineCall ms) u.body
@@ -269,7 +269,7 @@ module _ (o : Outside) (a : Algorithm) (h : IsAcceptedInFile o a) (values : Valu
         seen_again : declares (locals u) x ≡ true → (in_scope r x && may_rebind o.extended x) ≡ true
         seen_again q = (λ i. m x (once.scope x ∙ in_named (declared (locals u)) (standing_inside a o) x q) i && ap not b.1 i)
 
-    bound_apart : (r : Standings) → More o.extended a.procedures (macro_rebinds o.extended a.procedures ms) once.standings r → (x : Word) → Bound x → Free o.extended a.procedures r x → Apart (renames Q u) x
+    pub bound_apart : (r : Standings) → More o.extended a.procedures (macro_rebinds o.extended a.procedures ms) once.standings r → (x : Word) → Bound x → Free o.extended a.procedures r x → Apart (renames Q u) x
     bound_apart r m x b f = record {
       left = λ at. ap (λ c. cond c (Some (node (name (written Q u x)) at no_trees)) None) (no_local r m x b f);
       unread = λ y at. unread y at (declares (locals u) y) refl;
@@ -281,7 +281,7 @@ module _ (o : Outside) (a : Algorithm) (h : IsAcceptedInFile o a) (values : Valu
 
     -- ---- what is read
 
-    seen_all : Sees (seeing_variables (declared (locals u)) (sight_inside a o)) (Seen Q (extra_of a) u)
+    pub seen_all : Sees (seeing_variables (declared (locals u)) (sight_inside a o)) (Seen Q (extra_of a) u)
     seen_all =
         sees_map (knowing variable) (Seen Q (extra_of a) u) (declared (locals u)) (sight_inside a o)
         (λ x m n. or_left (declares (locals u) x) (common Q (extra_of a) x) (one_is_among (declared (locals u)) x m))

@@ -145,7 +145,7 @@ module _ (o : Outside) (a : Algorithm) where
       let d = procedures_declare (first_procedure a) a.procedures r4 s5 u k in
       subst (Each (λ x. declares a.globals x ≡ false)) (words_declared (locals u)) (no_globals (names_of (locals u)) d.0 d.1)
 
-named_one : (x : Word) (us : List Routine) (p : Routine) → routine_named x us ≡ Some p → OneOf p us
+pub named_one : (x : Word) (us : List Routine) (p : Routine) → routine_named x us ≡ Some p → OneOf p us
 named_one x [] p e = cc
 named_one x (u ∷ us) p e = by (named_one x us p) (bytes_eq u.name.word x) e
   where

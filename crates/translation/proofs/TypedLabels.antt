@@ -59,7 +59,7 @@ after_root true s r = r
 after_root false s r = r
 
 -- what takes the result holds for all that are so
-abbrev After : {R : Type 0} {B : Type 0} → (R → Type 0) → (B → Type 0) → (B → Supply → R) → Type 0
+abbrev pub After : {R : Type 0} {B : Type 0} → (R → Type 0) → (B → Type 0) → (B → Supply → R) → Type 0
 After {R = R} {B = B} Q C go = (b : B) (t : Supply) → t.root ≡ codes "Lbl_" → C b → Q (go b t)
 
 mutual
@@ -83,7 +83,7 @@ mutual
   typed_inside Q E p s (call m ts) go r h k = k (call m ts) s r h
   typed_inside Q E p s return go r h k = k return s r h
 
-  typed_add : {R : Type 0} (Q : R → Type 0) (E : Effects) (p : Before) (s : Supply) (b : Statements) (go : Statements → Supply → R)
+  pub typed_add : {R : Type 0} (Q : R → Type 0) (E : Effects) (p : Before) (s : Supply) (b : Statements) (go : Statements → Supply → R)
       → s.root ≡ codes "Lbl_" → AreTypedStatements b → After Q (Still b) go → Q (add E p s b go)
   typed_add Q E p s done go r h k = k done s r (tt, λ i. i)
   typed_add Q E p s (mark n m rest) go r h k = typed_add Q E at_label s rest _ r h.1 (λ b t q c. k (mark n m b) t q ((h.0, c.0), λ i. tt))
@@ -101,7 +101,7 @@ mutual
 
 -- ---- algorithms
 
-macros_through : {R : Type 0} (Q : R → Type 0) (s : Supply) (ds : List Macro) (go : List Macro → Supply → R) → s.root ≡ codes "Lbl_" → AllByRecursion IsTypedMacro ds → After Q (AllByRecursion IsTypedMacro) go → Q (add_to_macros s ds go)
+pub macros_through : {R : Type 0} (Q : R → Type 0) (s : Supply) (ds : List Macro) (go : List Macro → Supply → R) → s.root ≡ codes "Lbl_" → AllByRecursion IsTypedMacro ds → After Q (AllByRecursion IsTypedMacro) go → Q (add_to_macros s ds go)
 macros_through Q s [] go r h k = k [] s r tt
 macros_through Q s (d ∷ ds) go r h k =
     typed_add Q (λ st. nothing) (at_first None) s d.body _ r h.0.2.1 (λ b t q c.
@@ -119,7 +119,7 @@ processes_through Q C s (p ∷ ps) go r h k =
     typed_add Q (outer_effects C) (at_first (Some FirstLabel)) s p.body _ r h.0.3.1 (λ b t q c.
     processes_through Q C t ps _ q h.1 (λ qs d. k (record { name = p.name; fairness = p.fairness; several = p.several; identity = p.identity; variables = p.variables; body = b } ∷ qs) ((h.0.0, h.0.1, h.0.2, (c.1 h.0.3.0, c.0)), d)))
 
-main_through : {R : Type 0} (Q : R → Type 0) (C : Word → Trees → Effect) (s : Supply) (m : Main) (go : Main → R) → s.root ≡ codes "Lbl_" → IsTypedMain m → ((m' : Main) → IsTypedMain m' → Q (go m')) → Q (add_to_main C s m go)
+pub main_through : {R : Type 0} (Q : R → Type 0) (C : Word → Trees → Effect) (s : Supply) (m : Main) (go : Main → R) → s.root ≡ codes "Lbl_" → IsTypedMain m → ((m' : Main) → IsTypedMain m' → Q (go m')) → Q (add_to_main C s m go)
 main_through Q C s (alone b) go r h k = typed_add Q (outer_effects C) (at_first (Some FirstLabel)) s b _ r h.1 (λ c t q d. k (alone c) (d.1 h.0, d.0))
 main_through Q C s (processes []) go r h k = absurd h
 main_through Q C s (processes (p ∷ ps)) go r h k =

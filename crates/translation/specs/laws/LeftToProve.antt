@@ -1,6 +1,6 @@
 -- What is left of the promise for every algorithm, as statements: each is the type that a law would have. `Accepted o g` stands for what is known of an algorithm of a
 -- text with its labels added, in a file that has o outside (`IsAcceptedInFile`).
-use Rattle.std.specs.Prelude.{codes, ◌≡◌, ◌↔◌, List, [], ◌∷◌, Bool, cond, Some, None}
+use Rattle.std.specs.Prelude.{codes, ◌≡◌, ◌↔◌, List, [], ◌∷◌, Bool, ◌||◌, ◌&&◌, not, bytes_eq, cond, Some, None}
 use Rattle.tla_token.specs.Signs.{is_among}
 use Rattle.tla_tree.specs.Tree.{Word, words}
 use Rattle.pcal_tree.specs.BoundNames.{all_of, bound_lists}
@@ -16,6 +16,7 @@ use Rattle.pcal_tree.specs.Algorithm.{Routine, Algorithm, procedure_routines}
 use Rattle.pcal_tree.specs.Processes.{OneOf, IsActor, Proper}
 use Rattle.pcal_tree.specs.Program.{Program, Actor}
 use Rattle.pcal_tree.specs.Scope.{State}
+use Rattle.pcal_tree.specs.OffencesRebind.{in_scope, may_rebind, standing_inside}
 use Rattle.pcal_tree.specs.StepStart.{at_label}
 use Rattle.pcal_tree.specs.Step.{Stand, routines_of, StepFrom}
 use Rattle.pcal_tree.specs.Faults.{Sound, Troubled}
@@ -53,12 +54,17 @@ pub record Stance (P : Program) (v : Actor) (d : Stand) : Type 0 where
 abbrev pub bindable : Program → Word → Bool
 bindable P x = is_among (old_stack ∷ words (all_of (bound_lists P.algorithm))) x
 
+-- names that a `with` may bind: no variables, and nothing that is in scope in all routines; and the name of the old stack
+abbrev pub may_bind : Outside → Program → Word → Bool
+may_bind o P x = bytes_eq old_stack x || (may_rebind o.extended x && (not (in_scope (standing_inside P.algorithm o) x) && not (is_among (vars P) x)))
+
+-- with these procedures
+abbrev pub callable_of : Program → List Routine → Callable
+callable_of P [] = no_calls
+callable_of P (u ∷ us) = callable_in_pairs P
+
 abbrev pub callable_for : Program → Callable
-callable_for P = by (procedure_routines P.algorithm)
-  where
-    by : List Routine → Callable
-    by [] = no_calls
-    by (u ∷ us) = callable_in_pairs P
+callable_for P = callable_of P (procedure_routines P.algorithm)
 
 module _ (Accepted : Words) where
   -- written names are apart, and definitions read none of them
@@ -73,7 +79,7 @@ module _ (Accepted : Words) where
   -- jumps, calls and returns can be written out
   abbrev pub PreparedLaw : Type 0
   PreparedLaw = (o : Outside) (g : Algorithm) → Accepted o g → (values : Valuation) → values (codes "defaultInitValue") ≡ Some defaultInitValue → (v : Actor) (d : Stand) → Stance (program_in plain o g values) v d
-      → (let P = program_in plain o g values in IsPrepared (step_of P (extra_of g) v d (bindable P) (callable_for P)))
+      → (let P = program_in plain o g values in IsPrepared (step_of P (extra_of g) v d (may_bind o P) (callable_for P)))
 
   -- items can be written; which names may be read after what is assigned is the same for all steps
   abbrev pub ReadyLaw : (Algorithm → Readable) → Type 0
