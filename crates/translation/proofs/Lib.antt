@@ -66,6 +66,7 @@ pub mod NextTrue
 pub mod NextSteps
 pub mod NextEnds
 pub mod NextHolds
+pub mod NextLabels
 pub mod InitScopes
 pub mod ProcedureStarts
 pub mod TidySteps
