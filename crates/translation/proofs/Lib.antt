@@ -67,6 +67,7 @@ pub mod NextSteps
 pub mod NextEnds
 pub mod NextHolds
 pub mod NextLabels
+pub mod NextTitles
 pub mod InitScopes
 pub mod ProcedureStarts
 pub mod TidySteps
