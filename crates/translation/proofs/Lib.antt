@@ -73,3 +73,5 @@ pub mod ProcedureStarts
 pub mod TidySteps
 pub mod FramesAccepted
 pub mod PreparedSteps
+pub mod InitNames
+pub mod InitSets
