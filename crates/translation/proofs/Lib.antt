@@ -70,6 +70,8 @@ pub mod NextLabels
 pub mod NextTitles
 pub mod NextScopes
 pub mod NextOfRegion
+pub mod NextClear
+pub mod NextSingle
 pub mod InitScopes
 pub mod ProcedureStarts
 pub mod TidySteps
