@@ -30,7 +30,7 @@ pub fn begins_algorithm(text: &[u8]) -> bool
 }
 
 // The same, also where another byte is in front: few places come to this.
-#[inline(never)]
+#[cold]
 #[tactic(auto, using(crate::proofs::BeginningSteps::begun, crate::proofs::BeginningSteps::not_begun))]
 fn has_first_words(text: &[u8]) -> bool
     ensures { result ≡ pure.begins_algorithm text.now }
@@ -158,7 +158,7 @@ pub fn is_options(text: &[u8]) -> bool
 }
 
 // The same, also where another byte is in front: few places come to this.
-#[inline(never)]
+#[cold]
 #[tactic(auto, using(crate::proofs::BeginningSteps::options_no, crate::proofs::BeginningSteps::options_blankless, crate::proofs::BeginningSteps::options_yes))]
 fn has_options(text: &[u8]) -> bool
     ensures { result ≡ pure.is_options text.now }

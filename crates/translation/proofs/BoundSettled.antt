@@ -1,16 +1,16 @@
 -- What holds of all names that statements bind holds of those that they bind with their jumps, calls and returns written as assignments, which bind the name of the old
 -- stack and what initial values bind.
-use Rattle.std.proofs.Common.{◌≡◌, List, [], ◌∷◌, Bool, true, false, cond, ◌||◌, nat_eq, bytes_eq, codes, Option, Some, None, refl, sym, ap, ◌∙◌, inl, inr}
+use Rattle.std.proofs.Common.{◌≡◌, List, [], ◌∷◌, Bool, true, false, cond, ◌||◌, nat_eq, Option, Some, None, refl, inl, inr}
 use Rattle.tla_token.specs.declared.place.Place.{Place}
-use Rattle.tla_tree.specs.Tree.{Word, Form, Tree, node, Trees, no_trees, tree, Each, Every, EveryOf, binders, root_place}
-use Rattle.pcal_tree.specs.Algorithm.{nowhere, Name, Span, Assignments, no_assignments, assignment, Binds, no_binds, one_of, is, Statement, assign, await, print, assert, skip, branch, either, with, while, goto, macro, call, return, Statements, done, then, mark, Branches, no_branches, or, Declaration, Routine, locals, procedure_routines}
+use Rattle.tla_tree.specs.Tree.{Word, Form, Tree, Trees, no_trees, tree, Every, EveryOf, root_place}
+use Rattle.pcal_tree.specs.Algorithm.{nowhere, Name, Span, Assignments, no_assignments, Statement, assign, await, print, assert, skip, branch, either, with, while, goto, macro, call, return, Statements, done, then, mark, Branches, no_branches, or, Declaration, Routine, locals, procedure_routines}
 use Rattle.pcal_tree.specs.Calls.{label_name, first_label, routine_named}
 use Rattle.pcal_tree.specs.Processes.{OneOf}
 use Rattle.pcal_tree.specs.Program.{Program, written}
 use Rattle.pcal_tree.specs.Run.{unlabelled, label_of, Partner, no_partner, goto_partner, return_partner, partner_of}
 use Rattle.pcal_tree.specs.Variables.{written_all, pc, stack}
-use Rattle.pcal_tree.specs.laws.Expansion.{ThroughoutAssignments, ThroughoutBinds, ThroughoutOne, Throughout, ThroughoutSome}
-use Rattle.action_builder.specs.Jumps.{name_at, text_at, one_assignment, spot, jump_written, field_of, kept_field, stack_rest, fields_restored, return_assignments, return_written, names_at, pushed_on, stack_pushed, arguments_assigned, variables_written, call_written, kept_fields, values_kept, stack_replaced, fields_of, others_restored, pair_body, pair_written, call_with, call_to, written_jumps}
+use Rattle.pcal_tree.specs.laws.Expansion.{ThroughoutAssignments, ThroughoutOne, Throughout, ThroughoutSome}
+use Rattle.action_builder.specs.Jumps.{name_at, text_at, one_assignment, spot, jump_written, field_of, kept_field, stack_rest, fields_restored, names_at, pushed_on, arguments_assigned, variables_written, call_written, kept_fields, values_kept, fields_of, others_restored, pair_written, call_to, written_jumps}
 use Rattle.action_builder.specs.LabelActions.{no_jump_places, initial_tree, written_initials}
 use Rattle.action_builder.specs.Settled.{WrittenJumps, jumps, jumps_some, settled_one, settled, settled_some}
 use Rattle.action_builder.specs.Written.{old_stack}

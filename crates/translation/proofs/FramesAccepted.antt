@@ -1,20 +1,21 @@
 -- In an accepted algorithm a `with` binds no variable of the translation and nothing that an initial value reads; pc and the stack are where each process has them.
-use Rattle.std.proofs.Common.{◌≡◌, List, [], ◌∷◌, ◌++◌, map, Bool, true, false, ◌||◌, ◌&&◌, not, cond, bytes_eq, codes, Option, Some, None, ◌⊎◌, inl, inr, refl, sym, ap, subst, ◌∙◌, Ok}
-use Rattle.std.proofs.lemmas.Bool.{or_left, or_right, both_ways}
+use Rattle.std.proofs.Common.{◌≡◌, List, [], ◌∷◌, ◌++◌, map, Bool, true, false, ◌||◌, ◌&&◌, not, cond, bytes_eq, codes, Option, Some, None, inl, inr, refl, sym, ap, subst, ◌∙◌, Ok}
+use Rattle.std.specs.List.{AllByRecursion}
+use Rattle.std.proofs.lemmas.Bool.{or_right, both_ways}
 use Rattle.std.proofs.lemmas.Slice.Eq.{bytes_eq-Decides}
 use Rattle.tla_token.specs.declared.place.Place.{Place}
 use Rattle.tla_token.specs.Signs.{is_among}
 use Rattle.tla_token.specs.Words.{is_own, is_standard}
-use Rattle.tla_tree.specs.Tree.{Word, words, Each, Form, name, operator_call, Tree, node, Trees, no_trees, tree, seen_names, Graft, grafted_name, grafted_node, graft, grafts}
+use Rattle.tla_tree.specs.Tree.{Word, Each, Form, name, operator_call, Tree, node, Trees, no_trees, tree, seen_names, Graft, grafted_name, grafted_node, graft, grafts}
 use Rattle.tla_tree.specs.laws.Writable.{IsIdentifier, IsWritable, AreWritable, names_in}
-use Rattle.tla_value.specs.Definitions.{Valuation, Definition, base, body_sense, defined, with_definitions, scope_of, no_state}
+use Rattle.tla_value.specs.Definitions.{Valuation, Definition, or_sense, base, with_arguments, body_sense, defined, with_definitions, scope_of, no_state}
+use Rattle.tla_value.specs.Grafts.{own_part, read_tree}
 use Rattle.tla_value.specs.Meaning.{Env, just}
 use Rattle.tla_value.specs.Outside.{Outside, ReadDefinition, found}
-use Rattle.tla_value.specs.Standard.{first_of, rest_of, standard_sense}
+use Rattle.tla_value.specs.Standard.{standard_name}
 use Rattle.tla_value.specs.Stops.{Check, plain}
 use Rattle.tla_value.specs.Value.{Value}
 use Rattle.tla_value.specs.laws.FreeNames.{Or, Also, FormReads, FreeNames, FreeInParts, Any}
-use Rattle.tla_value.specs.laws.Grafting.{In}
 use Rattle.tla_value.specs.laws.Untitled.{Untitled}
 use Rattle.tla_value.proofs.Untitled.{looked_through}
 use Rattle.module_tree.specs.Formulas.{self, unset_value}
@@ -25,7 +26,7 @@ use Rattle.pcal_tree.specs.OffencesRebind.{in_scope, may_rebind, standing_inside
 use Rattle.pcal_tree.specs.Processes.{OneOf, IsActor, identifier}
 use Rattle.pcal_tree.specs.Program.{Program, Actor, index, inner, written}
 use Rattle.pcal_tree.specs.Programs.{program_in}
-use Rattle.pcal_tree.specs.Scope.{State, Scope, bound, value_of}
+use Rattle.pcal_tree.specs.Scope.{State, Scope, value_of}
 use Rattle.pcal_tree.specs.Variables.{declared, vars, pc, stack, stack_for, written_by_all}
 use Rattle.pcal_tree.proofs.CallsFine.{also_weaker, free_weaker}
 use Rattle.pcal_tree.proofs.NamesSeen.{HasFree, PutsIn}
@@ -33,7 +34,8 @@ use Rattle.action_builder.specs.OwnVariables.{own_under, own_variables, is_own_v
 use Rattle.action_builder.specs.Written.{old_stack}
 use Rattle.action_builder.specs.laws.Ready.{values_of}
 use Rattle.action_builder.specs.laws.Scopes.{own_path, own_scope, with_names, AllNamed}
-use Rattle.action_builder.specs.laws.WrittenScope.{self_bound, definitions_of, written_scope, titles}
+use Rattle.action_builder.specs.laws.StepsOfLabels.{PcStands}
+use Rattle.action_builder.specs.laws.WrittenScope.{self_bound, definitions_of, written_scope}
 use Rattle.action_builder.proofs.RoutinesStand.{FramesStand}
 use Rattle.translation.specs.laws.AcceptedAlgorithm.{IsAcceptedInFile}
 use Rattle.translation.specs.laws.LeftToProve.{extra_of, may_bind}
@@ -41,9 +43,8 @@ use Rattle.translation.proofs.NamesApart.{IsNamed, self_none, self_some, writabl
 use Rattle.translation.proofs.NamesOfRules.{Unreserved, not_own, turned}
 use Rattle.translation.proofs.RoutinesNamed.{one_each_of, among_later, among_before, local_free}
 use Rattle.translation.proofs.TidySteps.{no_old}
-use Rattle.translation.proofs.VariableNames.{each_to, each_from, none_among, one_is_among, vars_each, stack_each, own_each}
+use Rattle.translation.proofs.VariableNames.{each_from, none_among, vars_each, stack_each, own_each}
 use Rattle.translation.specs.laws.WritableAlgorithm.{IsWritableDeclaration}
-use Rattle.std.specs.List.{AllByRecursion}
 
 -- ---- names that are read free, and identifiers
 
@@ -106,13 +107,13 @@ mutual
 
 defs_passed : (c : Check) (d : Definition) (ps : List Word) (env : Env) (x : Word) → bytes_eq d.title x ≡ false → (defined c d ps env).defs x ≡ env.defs x
 defs_passed c d [] env x e = refl
-defs_passed c d (p ∷ ps) env x e = ap (λ (b : Bool). cond b (Some (λ at vs. body_sense c d (Rattle.tla_value.specs.Definitions.with_arguments (p ∷ ps) vs env) at)) (env.defs x)) e
+defs_passed c d (p ∷ ps) env x e = ap (λ (b : Bool). cond b (Some (λ at vs. body_sense c d (with_arguments (p ∷ ps) vs env) at)) (env.defs x)) e
 
-defs_through : (c : Check) (ds : List Definition) (env : Env) (x : Word) → Untitled x ds → (with_definitions c ds env).defs x ≡ env.defs x
+pub defs_through : (c : Check) (ds : List Definition) (env : Env) (x : Word) → Untitled x ds → (with_definitions c ds env).defs x ≡ env.defs x
 defs_through c [] env x h = refl
 defs_through c (d ∷ ds) env x h = defs_through c ds (defined c d d.params env) x h.1 ∙ defs_passed c d d.params env x h.0
 
-bound_defs : (w : Option Value) (e : Env) (x : Word) → (self_bound w e).defs x ≡ e.defs x
+pub bound_defs : (w : Option Value) (e : Env) (x : Word) → (self_bound w e).defs x ≡ e.defs x
 bound_defs (Some w) e x = refl
 bound_defs None e x = refl
 
@@ -233,15 +234,15 @@ module _ (o : Outside) (a : Algorithm) (h : IsAcceptedInFile o a) (values : Valu
     pub stack_path : (u : Routine) → OneOf u us → own_path (is_own_variable P stack) (identifier v.self) ≡ index v.self
     stack_path u k =
         path_of stack (λ ps.
-          or_right (bytes_eq pc stack) _
-          (among_before (stack_for us ++ written_by_all P us) _ stack (among_before (stack_for us) (written_by_all P us) stack (has_stack us u k)))) a.main refl
+        or_right (bytes_eq pc stack) _
+        (among_before (stack_for us ++ written_by_all P us) _ stack (among_before (stack_for us) (written_by_all P us) stack (has_stack us u k)))) a.main refl
 
     -- ---- what is reserved has no definition
 
     titled_other : (x : Word) → (is_own x || is_standard o.extended x) ≡ true → (t : Word) → Unreserved o t → bytes_eq t x ≡ false
     titled_other x e t u = false_among (bytes_eq t x) (λ q. never (sym e ∙ ap (λ w. is_own w || is_standard o.extended w) (sym ((bytes_eq-Decides t x).0 q)) ∙ u))
 
-    untitled : (x : Word) → (is_own x || is_standard o.extended x) ≡ true → bytes_eq (codes "ProcSet") x ≡ false → Untitled x (definitions_of P ++ extra_of a)
+    pub untitled : (x : Word) → (is_own x || is_standard o.extended x) ≡ true → bytes_eq (codes "ProcSet") x ≡ false → Untitled x (definitions_of P ++ extra_of a)
     untitled x e p =
         untitled_joined x (definitions_of P) (extra_of a)
         (untitled_joined x (found o.definitions) (map inner a.definitions)
@@ -286,8 +287,12 @@ module _ (o : Outside) (a : Algorithm) (h : IsAcceptedInFile o a) (values : Valu
         there : ((with_names bs O).env s).now x written_as.nowhere ≡ just defaultInitValue
         there =
             within_now bs k x (reserved_unbound x refl refl) written_as.nowhere s
-            ∙ ap (λ b. Rattle.tla_value.specs.Grafts.read_tree plain (cond b (Some (Rattle.tla_value.specs.Grafts.own_part self x written_as.nowhere)) None) x written_as.nowhere ((written_scope P (extra_of a) v).env s)) (own_no_own x refl refl refl)
+            ∙ ap (λ b. read_tree plain (cond b (Some (own_part self x written_as.nowhere)) None) x written_as.nowhere ((written_scope P (extra_of a) v).env s)) (own_no_own x refl refl refl)
             ∙ bound_now v.self (scope_of plain values (definitions_of P ++ extra_of a) (values_of (vars P) s) no_state) x written_as.nowhere refl
             ∙ looked_through plain (definitions_of P ++ extra_of a) _ x written_as.nowhere (untitled x refl refl)
-            ∙ ap (λ b. Rattle.tla_value.specs.Definitions.or_sense (cond b (Some (s x)) None) ((base plain values).now x written_as.nowhere)) (own_no_variable x refl refl refl)
-            ∙ ap (λ w. Rattle.tla_value.specs.Definitions.or_sense w (Rattle.tla_value.specs.Standard.standard_name x written_as.nowhere)) q
+            ∙ ap (λ b. or_sense (cond b (Some (s x)) None) ((base plain values).now x written_as.nowhere)) (own_no_variable x refl refl refl)
+            ∙ ap (λ w. or_sense w (standard_name x written_as.nowhere)) q
+
+-- of each process
+pub pc_stands : (o : Outside) (a : Algorithm) → IsAcceptedInFile o a → (values : Valuation) (v : Actor) → IsActor (program_in plain o a values) v → PcStands (program_in plain o a values) v
+pc_stands o a h values v actor = record { among = pc_among o a h values; path = pc_path o a h values v actor }

@@ -1,18 +1,16 @@
 -- In an accepted algorithm a call that is one statement with a `return` sets nothing that an initial value still rests on: written names of routines are apart, and
 -- each initial value rests on no later variable.
-use Rattle.std.proofs.Common.{◌≡◌, ℕ, suc, List, [], ◌∷◌, ◌++◌, Bool, true, false, ◌||◌, ◌&&◌, not, cond, bytes_eq, nat_eq, codes, Option, Some, None, ◌⊎◌, inl, inr, refl, sym, ap, subst, ◌∙◌, map, reverse}
-use Rattle.std.specs.List.{flat_map, list_any, AllByRecursion}
-use Rattle.std.proofs.lemmas.Bool.{or_parts, and_parts, or_left, or_right, eq-eqb, eqb-true, false_from_ne_true, both_ways}
+use Rattle.std.proofs.Common.{◌≡◌, ℕ, suc, List, [], ◌∷◌, ◌++◌, Bool, true, false, ◌||◌, ◌&&◌, not, cond, bytes_eq, nat_eq, codes, Some, None, inl, inr, refl, sym, ap, subst, ◌∙◌, map, reverse}
+use Rattle.std.specs.List.{flat_map, AllByRecursion}
+use Rattle.std.proofs.lemmas.Bool.{or_parts, or_left, or_right, eq-eqb, eqb-true, false_from_ne_true, both_ways}
 use Rattle.std.proofs.lemmas.Slice.Eq.{bytes_eq-Decides}
 use Rattle.tla_token.specs.declared.place.Place.{Place}
-use Rattle.tla_token.specs.declared.rule.Rule.TheVariants.{Rebind, Reserved, InitLater}
+use Rattle.tla_token.specs.declared.rule.Rule.TheVariants.{InitLater}
 use Rattle.tla_token.specs.Signs.{is_among}
 use Rattle.tla_token.specs.Words.{is_own, is_standard}
-use Rattle.tla_tree.specs.Tree.{Word, Name, words, Tree, Each, root_place}
-use Rattle.tla_tree.specs.laws.Writable.{IsWritable}
+use Rattle.tla_tree.specs.Tree.{Word, Name, words, Each, root_place}
 use Rattle.tla_value.specs.Value.{Value}
 use Rattle.tla_value.specs.Stops.{plain, sense_of}
-use Rattle.tla_value.specs.Meaning.{Env}
 use Rattle.tla_value.specs.Outside.{Outside}
 use Rattle.tla_value.specs.Definitions.{Valuation, or_sense}
 use Rattle.tla_value.specs.laws.FreeNames.{FreeNames, Any, AgreeOn}
@@ -20,35 +18,34 @@ use Rattle.tla_value.proofs.FreeNames.{free_names, any_names}
 use Rattle.pcal_tree.specs.Algorithm.{Start, unset, equals, among, Declaration, declares, Procedure, Routine, locals, procedure_routine, numbered, first_procedure, procedure_routines, main_routines, routines, Algorithm}
 use Rattle.pcal_tree.specs.Calls.{initial_value, routine_named}
 use Rattle.pcal_tree.specs.Offences.{offence_if}
-use Rattle.pcal_tree.specs.Names.{taken_at_start, taken_outside, kept, variable, wanted, given}
+use Rattle.pcal_tree.specs.Names.{taken_at_start, variable, wanted, given}
 use Rattle.pcal_tree.specs.OffencesNames.{names_of, repeated_names}
 use Rattle.pcal_tree.specs.OffencesOfNames.{offences_of_uses, offences_of_declarations, offences_of_reads, through_each_call, name_offences}
 use Rattle.pcal_tree.specs.OffencesReads.{process_offences, own_offences, all_variables, is_later, reads_later, later_in, order_offences}
-use Rattle.pcal_tree.specs.OffencesRebind.{in_scope, may_rebind, rebound, rebound_all, starts_rebind, standing_outside, standing_inside, locals_rebind, procedure_rebinds, definitions_rebind, texts_rebind, any_name, naming, macro_rebinds, body_rebinds, rebind_offences_of}
+use Rattle.pcal_tree.specs.OffencesRebind.{in_scope, may_rebind, rebound, rebound_all, starts_rebind, standing_outside, standing_inside, locals_rebind, procedure_rebinds, definitions_rebind, texts_rebind, any_name, macro_rebinds, rebind_offences_of}
 use Rattle.pcal_tree.specs.OffencesReserved.{names_of_definition, names_of_macro, names_of_procedure, reserved_name, reserved_outside, declared_names, reserved_declared}
-use Rattle.pcal_tree.specs.Processes.{OneOf, IsActor}
-use Rattle.pcal_tree.specs.Program.{Program, Actor, globals_on, common_env, global_env, local_index, read_at, read_name, routine_scope, written}
+use Rattle.pcal_tree.specs.Processes.{OneOf}
+use Rattle.pcal_tree.specs.Program.{Program, Actor, globals_on, common_env, global_env, local_index, read_at, routine_scope, written}
 use Rattle.pcal_tree.specs.Programs.{program_in}
-use Rattle.pcal_tree.specs.Reads.{used, initial, readings_of, looked_at}
+use Rattle.pcal_tree.specs.Reads.{used, initial, readings_of}
 use Rattle.pcal_tree.specs.Scope.{State, put}
-use Rattle.pcal_tree.specs.Step.{routines_of}
-use Rattle.pcal_tree.specs.Variables.{declared, written_all, pc, stack}
+use Rattle.pcal_tree.specs.Variables.{declared, written_all, pc}
 use Rattle.pcal_tree.proofs.ClearLabels.{both_none}
 use Rattle.pcal_tree.proofs.FreeNames.{every_map, given_apart}
 use Rattle.pcal_tree.proofs.OneStand.{runs_routine}
 use Rattle.pcal_tree.proofs.RebindNames.{scope_of_both}
 use Rattle.pcal_tree.proofs.RoutineNames.{one_each}
-use Rattle.pcal_tree.proofs.TroubleLaws.{one_left, one_right}
-use Rattle.action_builder.specs.laws.Jumps.{Unlike, AllUnlike, RestOnEarlier, Unread, PairStands, PairsStand}
+use Rattle.pcal_tree.proofs.TroubleLaws.{one_left}
+use Rattle.action_builder.specs.laws.Jumps.{AllUnlike, RestOnEarlier, Unread, PairStands}
 use Rattle.translation.specs.laws.AcceptedAlgorithm.{IsAcceptedInFile}
 use Rattle.translation.specs.laws.LeftToProve.{PairsLaw}
 use Rattle.translation.specs.laws.WritableAlgorithm.{IsWritableStart, IsWritableDeclaration, IsWritableAlgorithm}
 use Rattle.translation.proofs.AcceptedAlgorithms.{text_writable}
 use Rattle.translation.proofs.AcceptedNames.{each_none, no_offence, after, before, words_declared}
-use Rattle.translation.proofs.CalledProcedures.{same_routine, one_declared}
+use Rattle.translation.proofs.CalledProcedures.{same_routine}
 use Rattle.translation.proofs.RoutinesNamed.{one_each_of, among_before, among_later, names_fit, variables_named, local_wanted, local_new, no_global}
-use Rattle.translation.proofs.UsedNames.{none_looked_at, reads_used, all_parts}
-use Rattle.translation.proofs.WrittenIdentifiers.{want_of, Looked, looked, one_given}
+use Rattle.translation.proofs.UsedNames.{none_looked_at, reads_used}
+use Rattle.translation.proofs.WrittenIdentifiers.{looked, one_given}
 
 -- ---- lists
 

@@ -1,20 +1,18 @@
 -- The items that are written for statements without their places are the items without theirs: jumps settled, the variables of a process at its identifier, and each
 -- statement written.
-use Rattle.std.proofs.Common.{◌≡◌, List, [], ◌∷◌, ◌++◌, map, Bool, true, false, ◌||◌, cond, bytes_eq, codes, Option, Some, None, option_map, refl, sym, ap, ◌∙◌}
+use Rattle.std.proofs.Common.{◌≡◌, List, [], ◌∷◌, ◌++◌, map, Bool, true, false, ◌||◌, cond, bytes_eq, codes, Some, None, option_map, refl, sym, ap, ◌∙◌}
 use Rattle.std.specs.Option.{unwrap_or}
-use Rattle.tla_token.specs.Signs.{is_among}
 use Rattle.tla_token.specs.declared.place.Place.{Place}
-use Rattle.tla_tree.specs.Tree.{Word, index, field, Slot, Strict, select, except, apply, Form, string, truth, name, next, strict, operator_call, Tree, node, Trees, no_trees, tree, Graft, graft, root_place}
+use Rattle.tla_tree.specs.Tree.{Word, index, field, select, except, Form, string, truth, name, next, strict, operator_call, Tree, node, Trees, no_trees, tree, Graft, root_place}
 use Rattle.tla_tree.specs.laws.Placeless.{name_placeless, slot_placeless, form_placeless, tree_placeless, trees_placeless}
 use Rattle.tla_value.specs.Grafts.{primes, owned, own_part}
 use Rattle.module_tree.specs.Module.{Item, test, setting, unchanged, exists, local, if_then_else, either as any, Items, no_items, item, Branches as Lists, no_branches as no_lists, branch as list}
 use Rattle.module_tree.specs.laws.PlacelessRegion.{item_placeless, items_placeless, branches_placeless as lists_placeless}
 use Rattle.pcal_tree.specs.Algorithm.{nowhere, Name, Span, Assignments, no_assignments, assignment, Binds, no_binds, one_of, is, Statement, assign, await, print, assert, skip, branch, either, with, while, goto, macro, call, return, Statements, done, then, mark, Branches, no_branches, or}
 use Rattle.pcal_tree.specs.Expand.{graft_all}
-use Rattle.pcal_tree.specs.Paths.{root}
 use Rattle.pcal_tree.specs.Placeless.{no_span, assignments_placeless, binds_placeless, statement_placeless, statements_placeless, branches_placeless}
-use Rattle.pcal_tree.specs.Run.{unlabelled, label_of, Partner, no_partner, goto_partner, return_partner, partner_of}
-use Rattle.action_builder.specs.Assigned.{Names, more, head_of, head_first, without, heads, assigned, assigned_in, assigned_by}
+use Rattle.pcal_tree.specs.Run.{unlabelled, label_of, Partner, return_partner, partner_of}
+use Rattle.action_builder.specs.Assigned.{Names, more, head_of, without, heads, assigned, assigned_in, assigned_by}
 use Rattle.action_builder.specs.Prepared.{prepared, action_items, none}
 use Rattle.action_builder.specs.Settled.{WrittenJumps, jumps_one, jumps, jumps_some, settled_one, settled, settled_some}
 use Rattle.action_builder.specs.SingleProcess.{in_place_of, graft_item, graft_items, graft_branches}

@@ -3,21 +3,21 @@ use Rattle.std.proofs.Common.{◌≡◌, ℕ, suc, List, [], ◌∷◌, ◌++◌
 use Rattle.tla_token.specs.Signs.{is_among}
 use Rattle.tla_token.specs.declared.place.Place.{Place}
 use Rattle.tla_tree.specs.declared.op.Op.TheVariants.{Concat}
-use Rattle.tla_tree.specs.Tree.{Word, string, name, strict, operator, tuple, fields, Tree, node, Trees, no_trees, tree, graft, root_place}
+use Rattle.tla_tree.specs.Tree.{Word, name, strict, operator, tuple, fields, Tree, node, Trees, no_trees, tree, graft}
 use Rattle.tla_tree.specs.laws.Placeless.{name_placeless, tree_placeless, trees_placeless}
 use Rattle.tla_value.specs.Definitions.{Definition, no_state}
 use Rattle.tla_value.specs.Grafts.{owned}
 use Rattle.tla_value.specs.Stops.{plain}
-use Rattle.module_tree.specs.Formulas.{self, unset_value}
-use Rattle.pcal_tree.specs.Algorithm.{nowhere, Name, Span, Assignments, no_assignments, assignment, no_binds, is, Statements, done, then, assign, with, either, no_branches, Start, unset, equals, among, Declaration, declares, Procedure, Process, Main, alone, processes, Routine, locals, procedure_routine, process_routine, numbered, first_procedure, first_process, procedure_routines, main_routines, Naming, Algorithm}
+use Rattle.module_tree.specs.Formulas.{self}
+use Rattle.pcal_tree.specs.Algorithm.{nowhere, Span, Assignments, no_assignments, assignment, no_binds, is, Statements, done, then, assign, with, Start, unset, equals, among, Declaration, declares, Procedure, Process, Main, alone, processes, Routine, locals, procedure_routine, process_routine, numbered, first_procedure, first_process, procedure_routines, main_routines, Naming, Algorithm}
 use Rattle.pcal_tree.specs.Calls.{label_name, first_label, routine_named}
 use Rattle.pcal_tree.specs.Expand.{graft_all, expanded}
 use Rattle.pcal_tree.specs.Placeless.{no_span, assignments_placeless, statements_placeless, start_placeless, declarations_placeless, procedures_placeless, processes_placeless, main_placeless, placeless}
-use Rattle.pcal_tree.specs.Program.{Program, written}
+use Rattle.pcal_tree.specs.Program.{Program}
 use Rattle.pcal_tree.specs.Run.{Partner, no_partner, goto_partner, return_partner}
-use Rattle.pcal_tree.specs.Takers.{Takers, each_of, single, lone, takers_of, Taken, taken_process, taken_main}
+use Rattle.pcal_tree.specs.Takers.{Takers, each_of, single, lone, Taken, taken_process, taken_main}
 use Rattle.pcal_tree.specs.Variables.{declared, written_all, written_by_all, stack_for, pc, stack, vars}
-use Rattle.action_builder.specs.Jumps.{name_at, text_at, one_assignment, jump_written, kept_field, stack_rest, fields_restored, return_assignments, return_written, names_at, pushed_on, stack_pushed, arguments_assigned, variables_written, call_written, kept_fields, field_of, values_kept, stack_replaced, fields_of, others_restored, pair_body, pair_written, call_with, call_to, written_jumps}
+use Rattle.action_builder.specs.Jumps.{name_at, text_at, one_assignment, jump_written, kept_field, stack_rest, fields_restored, names_at, pushed_on, arguments_assigned, variables_written, call_written, kept_fields, field_of, values_kept, fields_of, others_restored, pair_written, call_to, written_jumps}
 use Rattle.action_builder.specs.LabelActions.{procedure_takers, taken_procedures, no_jump_places, initial_tree, written_initials}
 use Rattle.action_builder.specs.OwnVariables.{own_under, own_variables, is_own_variable, localised}
 use Rattle.action_builder.specs.Written.{old_stack}

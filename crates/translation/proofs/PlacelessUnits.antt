@@ -1,19 +1,17 @@
 -- The units that are written for an algorithm without its places are those of the algorithm, without theirs.
-use Rattle.std.proofs.Common.{◌≡◌, ℕ, zero, suc, length, List, [], ◌∷◌, ◌++◌, map, filter, flat_map, Bool, true, false, ◌||◌, cond, bytes_eq, nat_eq, codes, Option, Some, None, option_map, refl, sym, ap, ◌∙◌}
+use Rattle.std.proofs.Common.{◌≡◌, List, [], ◌∷◌, ◌++◌, map, flat_map, Bool, true, false, ◌||◌, cond, bytes_eq, codes, Option, Some, None, option_map, refl, sym, ap, ◌∙◌}
 use Rattle.std.specs.List.{list_any}
 use Rattle.std.specs.Option.{option_or}
 use Rattle.std.proofs.lemmas.List.{map-append}
-use Rattle.std.proofs.lemmas.Grind.{flat_map-append}
-use Rattle.tla_token.specs.Signs.{is_among}
 use Rattle.tla_tree.specs.declared.op.Op.TheVariants.{Cup}
-use Rattle.tla_tree.specs.Tree.{Word, Name, words, strict, operator, cases, Tree, node, Trees, no_trees, tree, graft}
+use Rattle.tla_tree.specs.Tree.{Word, Name, words, strict, operator, cases, Tree, node, no_trees, tree, graft}
 use Rattle.tla_tree.specs.TreeOf.{trees_from}
 use Rattle.tla_tree.specs.laws.Placeless.{name_placeless, names_placeless, tree_placeless, trees_placeless}
 use Rattle.tla_value.specs.Definitions as outside_of
-use Rattle.module_tree.specs.Module.{test, Items, no_items, item, Call, call, call_with, Way, one_way, some_way, all_of, some_of, Action, Fairness, Region}
-use Rattle.module_tree.specs.Formulas.{self, named, quoted, process_set, unset_value, empty_tuple, equal, is_in, at, set, function_of_self, functions_from}
-use Rattle.module_tree.specs.laws.PlacelessRegion.{items_placeless, call_placeless, way_placeless, action_placeless, over_placeless, perhaps_placeless, fairness_placeless, definition_placeless, region_placeless}
-use Rattle.pcal_tree.specs.Algorithm.{nowhere, Statement, assign, await, print, assert, skip, branch, either, with, while, goto, macro, call as calling, return, Statements, done, then, mark, Branches, no_branches, or, Start, unset, equals, among, Declaration, Definition, Process, Main, alone, processes, Routine, locals, numbered, first_process, procedure_routines, main_routines, routines, Naming, Algorithm}
+use Rattle.module_tree.specs.Module.{test, Items, item, call, one_way, some_way, all_of, some_of}
+use Rattle.module_tree.specs.Formulas.{self, named, quoted, empty_tuple, equal, is_in, at, function_of_self}
+use Rattle.module_tree.specs.laws.PlacelessRegion.{items_placeless, call_placeless, way_placeless, action_placeless, perhaps_placeless, definition_placeless}
+use Rattle.pcal_tree.specs.Algorithm.{nowhere, Statement, assign, await, print, assert, skip, branch, either, with, while, goto, macro, call as calling, return, Statements, done, then, mark, Branches, no_branches, or, Start, unset, equals, among, Declaration, Definition, Process, Main, alone, processes, Routine, locals, procedure_routines, main_routines, routines, Naming, Algorithm}
 use Rattle.pcal_tree.specs.Calls.{label_name}
 use Rattle.pcal_tree.specs.Expressions.{all_declarations}
 use Rattle.pcal_tree.specs.OffencesLabels.{label_words}
@@ -21,11 +19,11 @@ use Rattle.pcal_tree.specs.Placeless.{statement_placeless, statements_placeless,
 use Rattle.pcal_tree.specs.Program.{Program, inner, written}
 use Rattle.pcal_tree.specs.Run.{unlabelled, label_of}
 use Rattle.pcal_tree.specs.StepStart.{Begin, begin_in, begin, begin_some, at_label}
-use Rattle.pcal_tree.specs.Takers.{Takers, each_of, single, lone, takers_of, Taken, taken_process, taken_main}
+use Rattle.pcal_tree.specs.Takers.{Takers, each_of, single, lone, Taken, taken_main}
 use Rattle.pcal_tree.specs.Variables.{vars, pc, stack}
 use Rattle.action_builder.specs.InitialFormulas.{plain_start, spread_start, written_in, start_by, locals_start, globals_start, for_all_processes, stack_start, is_taker, first_pc, arms, pc_value, pc_start, init}
 use Rattle.action_builder.specs.Jumps.{written_jumps}
-use Rattle.action_builder.specs.LabelActions.{parameter_of, call_by, items_by, no_jump_places, written_initials, at_test, items_from, label_action, label_actions, title_of, own_action, routine_actions, main_actions, actions, taken_procedures}
+use Rattle.action_builder.specs.LabelActions.{parameter_of, call_by, items_by, no_jump_places, written_initials, items_from, label_action, label_actions, title_of, own_action, routine_actions, main_actions, actions, taken_procedures}
 use Rattle.action_builder.specs.ModelValues.{is_unset, model_values}
 use Rattle.action_builder.specs.NextFormula.{all_done, ended, way_by, own_way, label_ways, main_ways, next}
 use Rattle.action_builder.specs.OwnVariables.{is_own_variable, localised}
@@ -35,7 +33,7 @@ use Rattle.action_builder.specs.SingleProcess.{in_place_of}
 use Rattle.action_builder.specs.WrittenNames.{renamed, written_statements}
 use Rattle.translation.proofs.NoPlaces.{all_labels}
 use Rattle.translation.proofs.PlacelessItems.{label_bare, prepared_bare, actions_bare, items_bare, put_for}
-use Rattle.translation.proofs.PlacelessJumps.{routine_placeless, takers_placeless, taken_placeless, routines_bare, mains_bare, taken_one, taken_bare, taken_procedures_bare, locals_bare, Q, b, own_same, vars_bare, renamed_bare, localised_bare, written_bare, first_bare, jumps_bare}
+use Rattle.translation.proofs.PlacelessJumps.{routine_placeless, takers_placeless, taken_placeless, routines_bare, mains_bare, taken_bare, taken_procedures_bare, locals_bare, Q, own_same, vars_bare, renamed_bare, localised_bare, written_bare, first_bare, jumps_bare}
 use Rattle.translation.proofs.WritableBare.{graft_bare}
 
 -- ---- lists

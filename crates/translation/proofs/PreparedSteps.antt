@@ -1,19 +1,17 @@
 -- The jumps, calls and returns of each step of an accepted algorithm can be written out.
 use Rattle.std.proofs.Common.{◌≡◌, ℕ, suc, List, [], ◌∷◌, ◌++◌, map, reverse, Bool, true, false, ◌||◌, ◌&&◌, not, cond, bytes_eq, codes, Option, Some, None, inl, inr, refl, sym, ap, subst, ◌∙◌}
-use Rattle.std.specs.List.{flat_map, AllByRecursion}
-use Rattle.std.proofs.lemmas.Bool.{or_left, or_right, and_from, both_ways}
+use Rattle.std.specs.List.{flat_map}
+use Rattle.std.proofs.lemmas.Bool.{and_from}
 use Rattle.std.proofs.lemmas.Slice.Eq.{bytes_eq-Decides}
 use Rattle.tla_token.specs.declared.place.Place.{Place}
 use Rattle.tla_token.specs.Signs.{is_among}
-use Rattle.tla_token.specs.Words.{is_own}
-use Rattle.tla_tree.specs.Tree.{Word, words, strict, apply, Form, name, Tree, node, Trees, no_trees, tree, Each, Every, binders, graft, grafts}
+use Rattle.tla_tree.specs.Tree.{Word, name, Tree, node, Trees, no_trees, Each, Every, binders, grafts}
 use Rattle.tla_tree.specs.laws.Writable.{IsIdentifier, IsWritable, AreWritable}
 use Rattle.tla_value.specs.Definitions.{Valuation}
 use Rattle.tla_value.specs.Grafts.{owned, own_part}
 use Rattle.tla_value.specs.Outside.{Outside, found}
 use Rattle.tla_value.specs.Stops.{plain}
-use Rattle.tla_value.specs.laws.FreeNames.{FreeNames, Any}
-use Rattle.tla_value.specs.laws.Grafting.{In, Apart, ApartForm, BindsClear, NotFreeIn}
+use Rattle.tla_value.specs.laws.Grafting.{In, Apart, ApartForm, NotFreeIn}
 use Rattle.tla_value.proofs.Facts.{each_weaker}
 use Rattle.module_tree.specs.Formulas.{self}
 use Rattle.pcal_tree.specs.Algorithm.{Name, Definition, Statements, done, then, await, Start, unset, equals, among, Declaration, declares, Macro, Procedure, Routine, locals, procedure_routine, numbered, first_procedure, procedure_routines, main_routines, routines, Algorithm}
@@ -21,28 +19,25 @@ use Rattle.pcal_tree.specs.BoundNames.{bound_lists, lists_in, lists_in_start, li
 use Rattle.pcal_tree.specs.Calls.{defaultInitValue, routine_named, rules_without_macros}
 use Rattle.pcal_tree.specs.Expand.{graft_all, expanded, written_out}
 use Rattle.pcal_tree.specs.NameUses.{Sight, use_of, seeing_variables}
-use Rattle.pcal_tree.specs.OffencesNames.{in_declared, in_definitions, in_body, in_procedure, in_start, in_whole, in_tree, macro_offences, sight_outside, sight_inside, use_offences_of}
-use Rattle.pcal_tree.specs.OffencesRebind.{in_scope, may_rebind, standing_inside, standing_outside, naming, tree_rebinds, any_name, start_rebinds, starts_rebind, locals_rebind, procedure_rebinds, definitions_rebind, texts_rebind, macro_rebinds, body_rebinds, rebound_all, rebind_offences_of}
+use Rattle.pcal_tree.specs.OffencesNames.{in_declared, in_definitions, in_procedure, in_start, in_whole, macro_offences, sight_outside, sight_inside, use_offences_of}
+use Rattle.pcal_tree.specs.OffencesRebind.{in_scope, standing_inside, standing_outside, naming, tree_rebinds, any_name, start_rebinds, starts_rebind, locals_rebind, procedure_rebinds, definitions_rebind, texts_rebind, macro_rebinds, rebound_all, rebind_offences_of}
 use Rattle.pcal_tree.specs.OffencesNames.{names_of}
 use Rattle.pcal_tree.specs.Outside.{unit_names}
 use Rattle.pcal_tree.specs.Placeless.{no_span}
 use Rattle.pcal_tree.specs.Processes.{OneOf, IsActor}
 use Rattle.pcal_tree.specs.Program.{Program, Actor, written}
-use Rattle.pcal_tree.specs.Programs.{program_in}
 use Rattle.pcal_tree.specs.Run.{Partner, unlabelled}
 use Rattle.pcal_tree.specs.Step.{Stand, routines_of}
 use Rattle.pcal_tree.specs.StepStart.{at_label}
-use Rattle.pcal_tree.specs.Variables.{declared, vars, pc, stack, written_all}
+use Rattle.pcal_tree.specs.Variables.{declared, vars, pc, stack}
 use Rattle.pcal_tree.specs.laws.Expansion.{Throughout, Clean}
-use Rattle.pcal_tree.specs.laws.ReadNames.{Reads, WithsIn}
-use Rattle.pcal_tree.proofs.CallsFine.{Usable, Sees, tree_seen, throughout_both}
+use Rattle.pcal_tree.proofs.CallsFine.{Usable, tree_seen, throughout_both}
 use Rattle.pcal_tree.proofs.ClearLabels.{both_none}
 use Rattle.pcal_tree.proofs.NamesSeen.{HasFree, PutsIn}
 use Rattle.pcal_tree.proofs.NothingCaptured.{Has, pub_keeps, Free, BindsFree, written_bare}
 use Rattle.pcal_tree.proofs.OneStand.{runs_routine}
 use Rattle.pcal_tree.proofs.PlainMacros.{IsPlain, plain as plain_macro}
 use Rattle.pcal_tree.proofs.RebindNames.{scope_of_both}
-use Rattle.pcal_tree.proofs.RoutineNames.{one_each}
 use Rattle.pcal_tree.proofs.TroubleLaws.{one_left, one_right}
 use Rattle.pcal_tree.proofs.Uncaptured.{throughout_weaker, uncaptured}
 use Rattle.action_builder.specs.Jumps.{written_jumps}
@@ -50,36 +45,36 @@ use Rattle.action_builder.specs.LabelActions.{no_jump_places, initial_tree, writ
 use Rattle.action_builder.specs.OwnVariables.{own_variables, is_own_variable}
 use Rattle.action_builder.specs.Settled.{settled}
 use Rattle.action_builder.specs.Written.{old_stack}
-use Rattle.action_builder.specs.WrittenNames.{renames, renamed, written_statements}
+use Rattle.action_builder.specs.WrittenNames.{renames}
 use Rattle.action_builder.specs.laws.Jumps.{fitting, all_lack}
 use Rattle.action_builder.specs.laws.LabelSteps.{IsPrepared}
 use Rattle.action_builder.specs.laws.Scopes.{Inner, own_scope}
-use Rattle.action_builder.specs.laws.Settling.{Callable, Tidy, DoesAsRules}
+use Rattle.action_builder.specs.laws.Settling.{Tidy, DoesAsRules}
 use Rattle.action_builder.specs.laws.StepsOfLabels.{step_of}
 use Rattle.action_builder.specs.laws.WrittenScope.{titles, Seen, NamesApart, written_scope}
 use Rattle.action_builder.proofs.FitTrees.{grafts_fit, writable_all_fit}
 use Rattle.action_builder.proofs.RoutinesStand.{StartFits, StartsFit, routines_stand, jumps_alone}
 use Rattle.action_builder.proofs.Rules.{rules_do_pairs}
 use Rattle.translation.specs.laws.AcceptedAlgorithm.{IsAcceptedInFile}
-use Rattle.translation.specs.laws.LeftToProve.{extra_of, Stance, callable_of, callable_for, PreparedLaw}
-use Rattle.translation.specs.laws.WritableAlgorithm.{IsWritableStart, IsWritableDeclaration, is_procedure, is_variable}
+use Rattle.translation.specs.laws.LeftToProve.{extra_of, callable_of, callable_for, PreparedLaw}
+use Rattle.translation.specs.laws.WritableAlgorithm.{IsWritableStart, is_procedure, is_variable}
 use Rattle.translation.proofs.AcceptedNames.{each_none}
 use Rattle.translation.proofs.BoundOf.{AllIn, BindsAll, in_both, in_flat, tree_bound, body_bound, withs_in}
 use Rattle.translation.proofs.BoundSettled.{all_settled, jumps_bind}
 use Rattle.translation.proofs.CalledProcedures.{one_declared}
 use Rattle.translation.proofs.EndingJumps.{IsStill, macros_still, jumps_end, each_one}
-use Rattle.translation.proofs.FramesAccepted.{P, f, Unbound, us, named_free, graft_free, variable_unbound, scope_unbound, reserved_unbound, is_bound, old_bound, old_not_own, pc_among, pc_path, frames_stand, unset_fits}
+use Rattle.translation.proofs.FramesAccepted.{P, f, Unbound, named_free, graft_free, variable_unbound, scope_unbound, reserved_unbound, is_bound, old_bound, old_not_own, pc_among, pc_path, frames_stand, unset_fits}
 use Rattle.translation.proofs.FromLabels.{from_label, bound_pass, More, NoneAgain, again_pass, UsedIn, used_pass}
 use Rattle.translation.proofs.KnownRoutines.{reversed}
 use Rattle.translation.proofs.MacrosSound.{macros_bound, in_rest, in_named, InScope, seen_in_scope}
 use Rattle.translation.proofs.NamedBodies.{VariablesNamed, renames_put, among_one}
 use Rattle.translation.proofs.NamesApart.{writable, kept_differs, own_differs, false_among, never, names_apart_law}
-use Rattle.translation.proofs.NamesGiven.{Bound, bound_all, bound_kept, bound_common, once, used, seen_all, bound_apart, routine_bound, BoundOnce}
+use Rattle.translation.proofs.NamesGiven.{Bound, bound_all, bound_kept, bound_common, once, used, seen_all, bound_apart, routine_bound}
 use Rattle.translation.proofs.NamesOfRules.{not_own, turned, rules_of_names}
 use Rattle.translation.proofs.PairsApart.{pairs_law, named_one}
 use Rattle.translation.proofs.ProcedureStarts.{IsSingle, AllSingle, accepted_single}
 use Rattle.translation.proofs.RoutinesNamed.{among_before, variables_named}
-use Rattle.translation.proofs.TidySteps.{CallsFit, Called, all_fit, all_tidy, Ends, EndsSome, PartsOf, ends_pass, Written, WrittenSome, written_pass, Placed, placed_pass, routine_placed, called_known, as_many_of, count_grafts, no_old, fit_all_lack}
+use Rattle.translation.proofs.TidySteps.{CallsFit, Called, all_fit, all_tidy, Ends, ends_pass, Written, written_pass, Placed, placed_pass, routine_placed, called_known, as_many_of, count_grafts, no_old, fit_all_lack}
 use Rattle.translation.proofs.VariableNames.{each_to, none_among, own_each, stack_each, local_among}
 
 -- ---- small facts
@@ -92,13 +87,13 @@ each_two : (A B C : Word → Type 0) → ((x : Word) → A x → B x → C x) �
 each_two A B C f [] h k = tt
 each_two A B C f (x ∷ xs) h k = (f x h.0 k.0, each_two A B C f xs h.1 k.1)
 
-one_single : (ds : List Declaration) → AllSingle ds → (d : Declaration) → OneOf d ds → IsSingle d.start
+pub one_single : (ds : List Declaration) → AllSingle ds → (d : Declaration) → OneOf d ds → IsSingle d.start
 one_single [] h d k = absurd k
 one_single (e ∷ ds) h d (inl q) = subst (λ (c : Declaration). IsSingle c.start) (sym q) h.0
 one_single (e ∷ ds) h d (inr k) = one_single ds h.1 d k
 
 -- an expression as the whole of a body
-abbrev whole : Tree → Statements
+abbrev pub whole : Tree → Statements
 whole e = then no_span (await e) done
 
 -- ---- a procedure's declarations
@@ -127,7 +122,7 @@ module _ (o : Outside) (a : Algorithm) where
       (both_none (rebound_all o.extended (standing_inside a o) (names_of (p.params ++ p.variables))) _ (both_none (locals_rebind o.extended (p.params ++ p.variables) (standing_inside a o)) _ r.0).0).1
   procedures_again n (p ∷ ps) q u (inr k) = procedures_again (suc n) ps (both_none (procedure_rebinds o.extended a.procedures (macro_rebinds o.extended a.procedures (reverse a.macros)) (standing_inside a o) p) _ q).1 u k
 
-  declared_again : rebind_offences_of a o ≡ [] → (p : Routine) → OneOf p (procedure_routines a) → starts_rebind o.extended any_name (locals p) (naming (declared (locals p)) (standing_inside a o)) ≡ []
+  pub declared_again : rebind_offences_of a o ≡ [] → (p : Routine) → OneOf p (procedure_routines a) → starts_rebind o.extended any_name (locals p) (naming (declared (locals p)) (standing_inside a o)) ≡ []
   declared_again q p k =
       let i = both_none (starts_rebind o.extended any_name a.globals (standing_inside a o)) _ q in
       let j = both_none (definitions_rebind o.extended a.definitions (standing_outside a o)) _ i.1 in
@@ -140,7 +135,7 @@ module _ (o : Outside) (a : Algorithm) where
       subst (λ (w : Routine). AllIn N (lists_in_declared (locals w))) (sym e) (in_both N (lists_in_declared (p.params ++ p.variables)) (lists_in_body p.body) (in_both N (lists_in_procedure p) _ h).0).0
   procedures_bound N n (p ∷ ps) h u (inr k) = procedures_bound N (suc n) ps (in_both N (lists_in_procedure p) _ h).1 u k
 
-  declared_bound : (N : Word → Type 0) → AllIn N (bound_lists a) → (p : Routine) → OneOf p (procedure_routines a) → AllIn N (lists_in_declared (locals p))
+  pub declared_bound : (N : Word → Type 0) → AllIn N (bound_lists a) → (p : Routine) → OneOf p (procedure_routines a) → AllIn N (lists_in_declared (locals p))
   declared_bound N g p k =
       let i = in_both N (lists_in_declared a.globals) _ g in
       let j = in_both N (flat_map (λ (c : Definition). lists_in c.body) a.definitions) _ i.1 in
@@ -163,11 +158,12 @@ module _ (o : Outside) (a : Algorithm) (h : IsAcceptedInFile o a) (values : Valu
 
   bound_aside : (x : Word) → Bound o a h values x → Aside x
   bound_aside x b =
-      let n = not_own o x b.1 in
-      (turned self x (own_differs self x refl n),
+      let n = not_own o x b.1 in (
+        turned self x (own_differs self x refl n),
         none_among (own_variables A) x
-        (own_each A (λ y. bytes_eq y x ≡ false) (own_differs pc x refl n) (stack_each A (λ y. bytes_eq y x ≡ false) (procedure_routines a) (own_differs stack x refl n))
-        (λ u k s y m. turned x (written A u y) (kept_differs o a h values u y k m x (bound_kept o a h values x b.0)))))
+            (own_each A (λ y. bytes_eq y x ≡ false) (own_differs pc x refl n) (stack_each A (λ y. bytes_eq y x ≡ false) (procedure_routines a) (own_differs stack x refl n))
+            (λ u k s y m. turned x (written A u y) (kept_differs o a h values u y k m x (bound_kept o a h values x b.0)))),
+      )
 
   all_aside : AllIn Aside (bound_lists a)
   all_aside = each_to (Bound o a h values) Aside bound_aside _ (bound_all o a h values)
@@ -234,13 +230,13 @@ module _ (o : Outside) (a : Algorithm) (h : IsAcceptedInFile o a) (values : Valu
           let s = naming (declared (locals p)) (standing_inside a o) in
           let more : More o.extended a.procedures (macro_rebinds o.extended a.procedures ms) (once o a h values p there).standings s = λ y q. sym ((once o a h values p there).scope y) ∙ q in (
             (uncaptured plain (renames A p) (whole e)
-              (throughout_weaker (λ m at. BindsAll (Bound o a h values) m at × BindsFree o.extended a.procedures s m at) (ApartForm (renames A p)) (λ x. Bound o a h values x × Free o.extended a.procedures s x) (Apart (renames A p))
-              (λ m at g. each_two (Bound o a h values) (Free o.extended a.procedures s) (Apart (renames A p)) (bound_apart o a h values p there s more) (binders m) g.0 g.1) (λ x g. bound_apart o a h values p there s more x g.0 g.1) (whole e)
-              (throughout_both (BindsAll (Bound o a h values)) (BindsFree o.extended a.procedures s) (Bound o a h values) (Free o.extended a.procedures s) (whole e) (tree_bound (Bound o a h values) e b, tt)
-              (written_bare o.extended a.procedures [] (whole e) s (λ j. r j ++ []))))).0,
+                (throughout_weaker (λ m at. BindsAll (Bound o a h values) m at × BindsFree o.extended a.procedures s m at) (ApartForm (renames A p)) (λ x. Bound o a h values x × Free o.extended a.procedures s x) (Apart (renames A p))
+                (λ m at g. each_two (Bound o a h values) (Free o.extended a.procedures s) (Apart (renames A p)) (bound_apart o a h values p there s more) (binders m) g.0 g.1) (λ x g. bound_apart o a h values p there s more x g.0 g.1) (whole e)
+                (throughout_both (BindsAll (Bound o a h values)) (BindsFree o.extended a.procedures s) (Bound o a h values) (Free o.extended a.procedures s) (whole e) (tree_bound (Bound o a h values) e b, tt)
+                (written_bare o.extended a.procedures [] (whole e) s (λ j. r j ++ []))))).0,
             tree_seen e false sight (Seen A (extra_of a) p) (seen_all o a h values p there) i,
             graft_free (renames A p) (λ y. Usable (use_of sight y) × IsIdentifier y) (Unbound o a h values) puts e
-              (named_free (λ y. Usable (use_of sight y)) e w (tree_seen e false sight (λ y. Usable (use_of sight y)) (λ y n. n) i)),
+                (named_free (λ y. Usable (use_of sight y)) e w (tree_seen e false sight (λ y. Usable (use_of sight y)) (λ y n. n) i)),
           )
 
       start_fits : (s : Start) → IsSingle s → IsWritableStart s → AllIn (Bound o a h values) (lists_in_start s) → in_start s sight ≡ [] → start_rebinds o.extended any_name s (naming (declared (locals p)) (standing_inside a o)) ≡ [] → Fit s
@@ -254,12 +250,13 @@ module _ (o : Outside) (a : Algorithm) (h : IsAcceptedInFile o a) (values : Valu
       starts_fit (d ∷ ds) g =
           let m = g d (inl refl) in
           let l = one_right d p.params p.variables m in
-          let rules = rules_of_names a o h.accepted.names in
-          (start_fits d.start (one_single p.variables (accepted_single o a h.accepted p k) d m) (one_declared (locals p) ((writable o a h).routines p there).locals d l).1
-            (in_flat (Bound o a h values) (λ (c : Declaration). lists_in_start c.start) (locals p) (declared_bound o a (Bound o a h values) (bound_all o a h values) p k) d l)
-            (each_none (λ (c : Declaration). in_start c.start (seeing_variables (declared (locals p)) (sight_inside a o))) (locals p) (declared_used o a rules.0 p k) d l)
-            (each_none (λ (c : Declaration). start_rebinds o.extended any_name c.start (naming (declared (locals p)) (standing_inside a o))) (locals p) (declared_again o a rules.2 p k) d l),
-            starts_fit ds (λ e n. g e (inr n)))
+          let rules = rules_of_names a o h.accepted.names in (
+            start_fits d.start (one_single p.variables (accepted_single o a h.accepted p k) d m) (one_declared (locals p) ((writable o a h).routines p there).locals d l).1
+                (in_flat (Bound o a h values) (λ (c : Declaration). lists_in_start c.start) (locals p) (declared_bound o a (Bound o a h values) (bound_all o a h values) p k) d l)
+                (each_none (λ (c : Declaration). in_start c.start (seeing_variables (declared (locals p)) (sight_inside a o))) (locals p) (declared_used o a rules.0 p k) d l)
+                (each_none (λ (c : Declaration). start_rebinds o.extended any_name c.start (naming (declared (locals p)) (standing_inside a o))) (locals p) (declared_again o a rules.2 p k) d l),
+            starts_fit ds (λ e n. g e (inr n)),
+          )
 
   -- ---- a routine that a process runs
 

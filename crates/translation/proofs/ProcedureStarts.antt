@@ -1,10 +1,11 @@
 -- No variable of a procedure is declared with a set: the grammar has no such declaration, and adding labels leaves declarations as they are.
-use Rattle.std.proofs.Common.{◌≡◌, List, [], ◌∷◌, map, Bool, true, false, ◌||◌, ◌&&◌, cond, reverse, codes, Some, None, refl, subst}
+use Rattle.std.proofs.Common.{◌≡◌, ℕ, suc, List, [], ◌∷◌, map, Bool, true, false, ◌||◌, ◌&&◌, cond, reverse, codes, Some, inl, inr, refl, sym, subst}
 use Rattle.std.specs.List.{AllByRecursion}
 use Rattle.tla_token.specs.declared.rule.Rule.TheVariants.{FirstLabel}
 use Rattle.tla_token.specs.Tokens as text
 use Rattle.tla_tree.specs.Tree.{Word, Trees}
-use Rattle.pcal_tree.specs.Algorithm.{Start, unset, equals, among, Declaration, Procedure, Routine, procedure_routine, numbered, first_procedure, procedure_routines, Algorithm}
+use Rattle.tla_value.specs.Outside.{Outside}
+use Rattle.pcal_tree.specs.Algorithm.{Start, among, Declaration, Procedure, Routine, procedure_routine, numbered, first_procedure, procedure_routines, Algorithm}
 use Rattle.pcal_tree.specs.Grammar as g
 use Rattle.pcal_tree.specs.GrammarParts.{Initial, Variables, last_variable, variable, Section, no_section, section, declared, declarations, start_of, GoodInitial, GoodVariables, GoodSection}
 use Rattle.pcal_tree.specs.GrammarParts as parts
@@ -18,8 +19,6 @@ use Rattle.translation.specs.laws.TypedAlgorithm.{IsTypedProcedure, IsTypedAlgor
 use Rattle.translation.proofs.FewNames.{tokens_within}
 use Rattle.translation.proofs.TypedLabels.{After, typed_add, macros_through, main_through}
 use Rattle.translation.proofs.TypedTexts.{text_typed}
-use Rattle.pcal_tree.proofs.RoutineNames.{every_one}
-use Rattle.std.proofs.Common.{inl, inr, sym, suc, ℕ}
 
 abbrev pub IsSingle : Start → Type 0
 IsSingle (among e) = ⊥
@@ -83,7 +82,7 @@ numbered_single n [] h u k = absurd k
 numbered_single n (p ∷ ps) h u (inl e) = subst (λ (w : Routine). AllSingle w.variables) (sym e) h.0
 numbered_single n (p ∷ ps) h u (inr k) = numbered_single (suc n) ps h.1 u k
 
-pub accepted_single : (o : Rattle.tla_value.specs.Outside.Outside) (a : Algorithm) → IsAccepted o a → (u : Routine) → OneOf u (procedure_routines a) → AllSingle u.variables
+pub accepted_single : (o : Outside) (a : Algorithm) → IsAccepted o a → (u : Routine) → OneOf u (procedure_routines a) → AllSingle u.variables
 accepted_single o a h u k =
     numbered_single (first_procedure a) a.procedures
     (subst NoneHasSets h.labels_added

@@ -2,12 +2,12 @@
 use Rattle.std.proofs.Common.{◌≡◌, ℕ, zero, suc, length, List, [], ◌∷◌, ◌++◌, map, filter, flat_map, Bool, true, false, cond, nat_eq, Some, None, refl, sym, ap, ◌∙◌}
 use Rattle.std.proofs.lemmas.List.{map-append}
 use Rattle.tla_token.specs.Signs.{is_among}
-use Rattle.tla_tree.specs.Tree.{Word, strict, set_of, Tree, node, tree}
+use Rattle.tla_tree.specs.Tree.{Word, strict, set_of, node, tree}
 use Rattle.tla_tree.specs.TreeOf.{trees_from}
 use Rattle.tla_tree.specs.laws.Placeless.{tree_placeless, trees_placeless}
 use Rattle.tla_value.specs.Definitions.{Definition}
-use Rattle.tla_value.specs.Outside.{Outside, found}
-use Rattle.module_tree.specs.Module.{Call, call_with, Fairness}
+use Rattle.tla_value.specs.Outside.{found}
+use Rattle.module_tree.specs.Module.{call_with}
 use Rattle.module_tree.specs.Formulas.{named, quoted, at, is_in}
 use Rattle.module_tree.specs.laws.PlacelessRegion.{call_placeless, over_placeless, perhaps_placeless, fairness_placeless, region_placeless}
 use Rattle.pcal_tree.specs.declared.mark.Fairness.{Fairness as Fair}
@@ -23,10 +23,10 @@ use Rattle.action_builder.specs.LabelActions.{call_by}
 use Rattle.action_builder.specs.WrittenNames.{with_names}
 use Rattle.fairness.specs.MarkedLabels.{Marked, marked_in, marked, marked_some, if_left_out, if_strong, left_out_labels, strong_labels}
 use Rattle.fairness.specs.ReachedProcedures.{calls_in, calls, calls_some, called_by, reached_within, reached}
-use Rattle.fairness.specs.Demands.{Demand, all_steps, routine_steps, label_steps, demands_in, demands_of, process_demands, main_demands, demands}
+use Rattle.fairness.specs.Demands.{Demand, all_steps, routine_steps, label_steps, demands_in, demands_of, main_demands, demands}
 use Rattle.fairness.specs.Obligations.{written_labels}
 use Rattle.fairness.specs.FairnessLines.{identifier_of, over_of, action_call, guard_of, line_of, fairness_lines}
-use Rattle.translation.specs.Region.{region_of, written_region}
+use Rattle.translation.specs.Region.{region_of}
 use Rattle.translation.specs.laws.LeftToProve.{RegionPlaced}
 use Rattle.translation.proofs.NoPlaces.{naming_bare, first_process_bare}
 use Rattle.translation.proofs.PlacelessJumps.{routine_placeless, takers_placeless, taken_placeless, taken_one, routines_bare, Q, vars_bare}

@@ -1,27 +1,26 @@
 -- From each label of an accepted algorithm on, macro calls written out and names given, what jumps ends its list, each call is of a procedure with as many parameters as it
 -- has arguments, and there is a `return` only where there are procedures.
-use Rattle.std.proofs.Common.{◌≡◌, ℕ, suc, length, List, [], ◌∷◌, ◌++◌, map, reverse, Bool, true, false, ◌||◌, ◌&&◌, not, cond, nat_eq, bytes_eq, codes, Option, Some, None, ◌⊎◌, inl, inr, refl, sym, ap, subst, ◌∙◌, arith}
-use Rattle.std.specs.List.{flat_map, AllByRecursion}
-use Rattle.std.proofs.lemmas.Bool.{or_parts, and_from, eqb-true, both_ways}
+use Rattle.std.proofs.Common.{◌≡◌, ℕ, suc, length, List, [], ◌∷◌, reverse, Bool, true, false, ◌||◌, ◌&&◌, not, cond, nat_eq, bytes_eq, Some, ◌⊎◌, inl, inr, refl, sym, ap, subst, ◌∙◌, arith}
+use Rattle.std.specs.List.{flat_map}
+use Rattle.std.proofs.lemmas.Bool.{or_parts, and_from, eqb-true}
 use Rattle.std.proofs.lemmas.Slice.Eq.{bytes_eq-Decides}
 use Rattle.tla_token.specs.declared.place.Place.{Place}
 use Rattle.tla_token.specs.declared.rule.Rule.TheVariants.{LabelInside, ReturnOutside, Arity}
 use Rattle.tla_tree.specs.Tree.{Word, Form, name, Tree, node, Trees, no_trees, tree, Graft, grafts}
 use Rattle.tla_tree.specs.laws.Writable.{IsIdentifier, AreWritable}
-use Rattle.tla_value.specs.Outside.{Outside}
-use Rattle.pcal_tree.specs.Algorithm.{Name, Span, Binds, no_binds, one_of, is, Statement, assign, await, print, assert, skip, branch, either, with, while, goto, macro, call, return, Statements, done, then, mark, Branches, no_branches, or, Declaration, Macro, Procedure, Process, Main, alone, processes, Routine, procedure_routine, process_routine, numbered, first_procedure, first_process, procedure_routines, main_routines, routines, Algorithm}
+use Rattle.pcal_tree.specs.Algorithm.{Name, Span, Binds, no_binds, one_of, is, Statement, assign, await, print, assert, skip, branch, either, with, while, goto, macro, call, return, Statements, done, then, mark, Branches, no_branches, or, Declaration, Procedure, Process, Main, alone, processes, Routine, procedure_routine, process_routine, numbered, first_procedure, first_process, procedure_routines, main_routines, routines, Algorithm}
 use Rattle.pcal_tree.specs.Calls.{routine_named}
-use Rattle.pcal_tree.specs.Expand.{graft_binds, graft_one, graft_all, graft_some, followed_by, Writing, expand_one, expand, expand_some, written_out}
+use Rattle.pcal_tree.specs.Expand.{graft_binds, graft_one, graft_all, graft_some, followed_by, Writing, expand_one, expand, expand_some}
 use Rattle.pcal_tree.specs.NameUses.{Sight}
 use Rattle.pcal_tree.specs.Offences.{offence_if}
 use Rattle.pcal_tree.specs.OffencesLabels.{Within, within_with, jump_offences_here, jump_offences_inside, jump_offences, jump_offences_of_some, misplaced, of_macro, of_procedure, of_body, of_main, label_offences}
-use Rattle.pcal_tree.specs.OffencesNames.{Calls, count, call_offences, in_whole, in_each, in_binds, after_binds, in_one, in_body, in_branches}
+use Rattle.pcal_tree.specs.OffencesNames.{Calls, count, call_offences, in_whole, in_binds, after_binds, in_one, in_body, in_branches}
 use Rattle.pcal_tree.specs.OffencesSteps.{call_effect, missing_in_body, procedure_effects, outer_effects}
 use Rattle.pcal_tree.specs.Paths.{Effect}
 use Rattle.pcal_tree.specs.Processes.{OneOf}
-use Rattle.pcal_tree.specs.Program.{Program, written}
+use Rattle.pcal_tree.specs.Program.{Program}
 use Rattle.pcal_tree.specs.Run.{Partner, partner_of}
-use Rattle.pcal_tree.specs.Variables.{declared, written_all}
+use Rattle.pcal_tree.specs.Variables.{written_all}
 use Rattle.pcal_tree.specs.laws.Expansion.{ThroughoutBinds, ThroughoutOne, Throughout, ThroughoutSome}
 use Rattle.pcal_tree.proofs.ClearLabels.{both_none}
 use Rattle.pcal_tree.proofs.RoutineNames.{one_either}

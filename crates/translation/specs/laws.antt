@@ -10,3 +10,5 @@ pub mod StepsOnce
 pub mod LeftToProve
 pub mod PlacedStatements
 pub mod StepParts
+pub mod FreshReads
+pub mod StepNames

@@ -11,7 +11,7 @@ ghost use Rattle.pcal_tree.specs.OffencesReserved.{reserved_declared};
 ghost use Rattle.pcal_tree.specs.OffencesLabels.{label_words, label_offences};
 ghost use Rattle.pcal_tree.specs.OffencesSteps.{call_effect, effects_in};
 ghost use Rattle.pcal_tree.specs.laws.Apart.{FewNames, AreNames};
-ghost use Rattle.pcal_tree.specs.Processes.{OneOf};
+ghost use Rattle.pcal_tree.specs.Processes.{OneOf, IsActor};
 ghost use Rattle.std.specs.Bool.{IsTrue};
 ghost use Rattle.std.specs.List.{AllByRecursion};
 ghost use Rattle.tla_token.specs.Words.{is_own};
@@ -19,14 +19,14 @@ ghost use Rattle.action_builder.specs.laws.Jumps.{AllUnlike};
 ghost use Rattle.pcal_tree.specs.Scope.{Scope};
 ghost use Rattle.pcal_tree.specs.Run.{Rules};
 ghost use Rattle.pcal_tree.specs.StepStart.{Begin};
-ghost use Rattle.pcal_tree.specs.Program.{Program};
+ghost use Rattle.pcal_tree.specs.Program.{Program, Actor};
 ghost use Rattle.pcal_tree.specs.Placeless.{placeless};
 ghost use Rattle.pcal_tree.specs.Names.{naming};
 ghost use Rattle.pcal_tree.specs.Programs.{program_in};
 ghost use Rattle.tla_value.specs.Stops.{plain};
 ghost use Rattle.tla_value.specs.Definitions.{Valuation};
 ghost use Rattle.promise.specs.ConstantsAndStates.{program};
-ghost use Rattle.translation.specs.laws.LeftToProve.{NamesApartLaw, NamesGivenLaw, NextOfRegionLaw, InitOfRegionLaw, RegionPlaced, PromiseKept};
+ghost use Rattle.translation.specs.laws.LeftToProve.{NamesApartLaw, NamesGivenLaw, PreparedLaw, PairsLaw, NextOfRegionLaw, InitOfRegionLaw, RegionPlaced, PromiseKept};
 ghost use Rattle.pcal_tree.specs.Variables.{declared, vars};
 ghost use Rattle.pcal_tree.specs.Labelled.{labelled};
 ghost use Rattle.module_tree.specs.Around.{Around};
@@ -38,6 +38,7 @@ ghost use Rattle.action_builder.specs.WrittenNames.{with_names};
 ghost use Rattle.action_builder.specs.LabelActions.{at_test, items_from};
 ghost use Rattle.action_builder.specs.laws.Settling.{Callable};
 ghost use Rattle.action_builder.specs.laws.LabelSteps.{action_of};
+ghost use Rattle.action_builder.specs.laws.StepsOfLabels.{PcStands};
 ghost use Rattle.translation.specs.laws.ActionNames.{action_names};
 ghost use Rattle.translation.specs.laws.Steps.{written_step};
 ghost use Rattle.module_tree.specs.laws.Kept.{IsFine};
@@ -164,10 +165,24 @@ pub fn other_lines_outside_change_no_program()
     ensures program { (o : Outside) (g : Algorithm) (m : Module) → SameOutside o m.outside → (values : Valuation) → program_in plain o g values ≡ program g m values }
 {}
 
-/// Where Next and Init of the region of each accepted algorithm, with its own places, say just what the algorithm does, and forgetting places before gives that region
-/// without places, each module with the written region, in which the file's outside is in other lines, has a Next and an Init that say so too.
+/// What is written for an algorithm without its places, as it always is, is but for places what is written for the algorithm with its own.
+pub fn places_may_be_forgotten_before_all_else()
+    ensures { RegionPlaced }
+{}
+
+/// Where Next and Init of the region of each accepted algorithm, with its own places, say just what the algorithm does, each module with the written region, in which the
+/// file's outside is in other lines, has a Next and an Init that say so too.
 pub fn the_promise_rests_on_regions()
-    ensures { NextOfRegionLaw IsAcceptedInFile → InitOfRegionLaw IsAcceptedInFile → RegionPlaced → PromiseKept IsAcceptedInFile }
+    ensures { NextOfRegionLaw IsAcceptedInFile → InitOfRegionLaw IsAcceptedInFile → PromiseKept IsAcceptedInFile }
+{}
+
+/// From each label of a routine of an accepted algorithm on, the assignments that are written for jumps, calls and returns, also for a call that is one statement with a
+/// `return`, do what these do, wherever a `with` binds names; what jumps ends its list, each call is of a procedure with as many parameters as it has arguments, and no
+/// name that is bound is `self` or a variable of the process. Written names of routines are apart, and no initial value rests on what is set later. And pc is where each process has it.
+pub fn jumps_of_accepted_algorithms_can_be_written()
+    ensures prepared { PreparedLaw IsAcceptedInFile }
+    ensures pairs { PairsLaw IsAcceptedInFile }
+    ensures pc { (o : Outside) (g : Algorithm) → IsAcceptedInFile o g → (values : Valuation) (v : Actor) → IsActor (program_in plain o g values) v → PcStands (program_in plain o g values) v }
 {}
 
 /// The written names of an accepted algorithm, in the module that it stands in, are apart from each other and from all that has a name there, and definitions, also
@@ -176,4 +191,10 @@ pub fn the_promise_rests_on_regions()
 pub fn written_names_stand_for_the_names_of_routines()
     ensures apart { NamesApartLaw IsAcceptedInFile }
     ensures given { NamesGivenLaw IsAcceptedInFile }
+{}
+
+/// Init of what is written of an accepted algorithm, with the algorithm's own places, is true exactly of the initial states: for all constants that give the processes
+/// different identifiers, and all states from which no initial value is a fault. Else it is false, and never a fault.
+pub fn init_is_true_of_the_initial_states()
+    ensures { InitOfRegionLaw IsAcceptedInFile }
 {}

@@ -2,8 +2,7 @@
 -- text with its labels added, in a file that has o outside (`IsAcceptedInFile`).
 use Rattle.std.specs.Prelude.{codes, ◌≡◌, ◌↔◌, List, [], ◌∷◌, Bool, ◌||◌, ◌&&◌, not, bytes_eq, cond, Some, None}
 use Rattle.tla_token.specs.Signs.{is_among}
-use Rattle.tla_tree.specs.Tree.{Word, words}
-use Rattle.pcal_tree.specs.BoundNames.{all_of, bound_lists}
+use Rattle.tla_tree.specs.Tree.{Word}
 use Rattle.tla_value.specs.Value.{Trouble, IsBad, TrueExactly}
 use Rattle.tla_value.specs.Stops.{plain}
 use Rattle.tla_value.specs.Definitions.{Valuation, Definition}
@@ -50,10 +49,6 @@ pub record Stance (P : Program) (v : Actor) (d : Stand) : Type 0 where
   pub routine : OneOf d.routine (routines_of P v)
   pub label : at_label d.routine d.label ≡ Some d.begins
 
--- names that a `with` may bind: those that are bound somewhere, which no initial value reads, and the name of the old stack
-abbrev pub bindable : Program → Word → Bool
-bindable P x = is_among (old_stack ∷ words (all_of (bound_lists P.algorithm))) x
-
 -- names that a `with` may bind: no variables, and nothing that is in scope in all routines; and the name of the old stack
 abbrev pub may_bind : Outside → Program → Word → Bool
 may_bind o P x = bytes_eq old_stack x || (may_rebind o.extended x && (not (in_scope (standing_inside P.algorithm o) x) && not (is_among (vars P) x)))
@@ -84,7 +79,7 @@ module _ (Accepted : Words) where
   -- items can be written; which names may be read after what is assigned is the same for all steps
   abbrev pub ReadyLaw : (Algorithm → Readable) → Type 0
   ReadyLaw U = (o : Outside) (g : Algorithm) → Accepted o g → (values : Valuation) (v : Actor) (d : Stand) → Stance (program_in plain o g values) v d
-      → (let P = program_in plain o g values in IsReady (U g) (vars P) (pair_env P (extra_of g) v) none (step_of P (extra_of g) v d (bindable P) (callable_for P)))
+      → (let P = program_in plain o g values in IsReady (U g) (vars P) (pair_env P (extra_of g) v) none (step_of P (extra_of g) v d (may_bind o P) (callable_for P)))
 
   -- of a call that is one statement with a return
   abbrev pub PairsLaw : Type 0
