@@ -82,6 +82,7 @@ pub mod NextScopes
 pub mod NextOfRegion
 pub mod NextClear
 pub mod NextSingle
+pub mod NextLaw
 pub mod InitScopes
 pub mod ProcedureStarts
 pub mod TidySteps
