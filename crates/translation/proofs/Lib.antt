@@ -83,6 +83,7 @@ pub mod NextOfRegion
 pub mod NextClear
 pub mod NextSingle
 pub mod NextLaw
+pub mod NextTroubles
 pub mod InitScopes
 pub mod ProcedureStarts
 pub mod TidySteps

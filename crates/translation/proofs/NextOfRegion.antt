@@ -64,6 +64,13 @@ abbrev pub SingleClearLaw : Type 0
 SingleClearLaw = (o : Outside) (g : Algorithm) → IsAcceptedInFile o g → (values : Valuation) (r : Taken) → OneOf r (taken_main g g.main) → (e : Tree) → r.takers ≡ single e → (l : Word) → OneOf l (label_words r.routine.body)
     → ClearItems plain (in_place_of self e) (items_from (program_in plain o g values) r.routine l (at_label r.routine l))
 
+-- there is a single process
+pub record HasSingle (g : Algorithm) : Type 0 where
+  pub taken : Taken
+  pub expression : Tree
+  pub among : OneOf taken (taken_main g g.main)
+  pub is : taken.takers ≡ single expression
+
 module _ (U : Algorithm → Readable) (prepared : PreparedLaw IsAcceptedInFile) (ready : ReadyLaw IsAcceptedInFile U) (clear : SingleClearLaw) where
   module _ (b : Bool) (title : Word) (o : Outside) (g : Algorithm) (h : IsAcceptedInFile o g) (values : Valuation) (s t : State) where
     abbrev first : Module
@@ -81,7 +88,7 @@ module _ (U : Algorithm → Readable) (prepared : PreparedLaw IsAcceptedInFile) 
     abbrev X : Env
     X = scope_of plain values (definitions_of P ++ extra_of g) S T
 
-    module _ (k : AreConstants first values) (is_canonical : IsState P s) (it : IsState P t) (sound : Sound P s) where
+    module _ (k : AreConstants first values) (is_canonical : IsState P s) (it : HasSingle g → IsState P t) (sound : Sound P s) where
       pc_untitled : Untitled pc (definitions_of P ++ extra_of g)
       pc_untitled =
           untitled_joined pc (definitions_of P) (extra_of g)
@@ -186,6 +193,9 @@ module _ (U : Algorithm → Readable) (prepared : PreparedLaw IsAcceptedInFile) 
               (within_flat (routine_actions P) r (taken_main g (processes ps)) n)))
               (titles_once o g h values (processes ps) e (ended b (processes ps)))
 
+          in_main : (u : Routine) (f : Tree) → OneOf (record { takers = single f; routine = u }) (taken_main g (processes ps)) → OneOf (record { takers = single f; routine = u }) (taken_main g g.main)
+          in_main u f n = subst (λ z. OneOf (record { takers = single f; routine = u }) (taken_main g z)) (sym e) n
+
           -- by who takes it
           process_true : (c : Takers) (u : Routine) → OneOf (record { takers = c; routine = u }) (taken_main g (processes ps)) → (is : Values) → running u vs ≡ actors_of u is
               → Identified o g h title first.region values k s t c (running u vs) → True (processes ps) (record { takers = c; routine = u }) (running u vs)
@@ -200,9 +210,9 @@ module _ (U : Algorithm → Readable) (prepared : PreparedLaw IsAcceptedInFile) 
             taken = (w, only);
             found = process_found (record { takers = single f; routine = u }) n;
             labels = λ v m.
-                single_true U prepared ready o g h values k.unset s t sound (names_sound o g h title first.region values k s t is_canonical it) (names_by_value o g h title first.region values k s t) v (self_is v (running_one u v vs m))
+                single_true U prepared ready o g h values k.unset s t sound (names_sound o g h title first.region values k s t is_canonical (it (record { taken = record { takers = single f; routine = u }; expression = f; among = in_main u f n; is = refl }))) (names_by_value o g h title first.region values k s t) v (self_is v (running_one u v vs m))
                 (actor v (running_one u v vs m)) u (inl (sym (own_is u v is (subst (OneOf v) order m)))) f (q ∙ ap (λ (z : Actor). Ok (id z)) (sym (one_only w v (subst (OneOf v) only m))))
-                (clear o g h values (record { takers = single f; routine = u }) (subst (λ z. OneOf (record { takers = single f; routine = u }) (taken_main g z)) (sym e) n) f refl);
+                (clear o g h values (record { takers = single f; routine = u }) (in_main u f n) f refl);
           }
           process_true lone u n is order i = absurd i
 
@@ -228,4 +238,4 @@ module _ (U : Algorithm → Readable) (prepared : PreparedLaw IsAcceptedInFile) 
 
   -- Next of the region is as the promise asks
   pub next_of_region : NextOfRegionLaw IsAcceptedInFile
-  next_of_region b title o g h values s t k is it sound = next_is b title o g h values s t k is it sound
+  next_of_region b title o g h values s t k is it sound = next_is b title o g h values s t k is (λ c. it) sound

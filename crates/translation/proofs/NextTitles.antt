@@ -210,7 +210,7 @@ module _ (o : Outside) (a : Algorithm) (h : IsAcceptedInFile o a) (values : Valu
       by false true e = cc
       by false false e = refl
 
-  clear : NoEndLabels a
+  pub clear : NoEndLabels a
   clear = clear_labels a o (rules_of_names a o h.accepted.names).3
 
   no_end : (u : Routine) → OneOf u (routines a) → (l : Word) → OneOf l (label_words u.body) → is_among (codes "Done" ∷ codes "Error" ∷ []) l ≡ false
