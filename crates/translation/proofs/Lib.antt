@@ -79,6 +79,7 @@ pub mod NextHolds
 pub mod NextLabels
 pub mod NextTitles
 pub mod NextScopes
+pub mod NextParts
 pub mod NextOfRegion
 pub mod NextClear
 pub mod NextSingle
