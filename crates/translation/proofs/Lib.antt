@@ -85,6 +85,7 @@ pub mod NextClear
 pub mod NextSingle
 pub mod NextLaw
 pub mod NextTroubles
+pub mod NextFaults
 pub mod InitScopes
 pub mod ProcedureStarts
 pub mod TidySteps
