@@ -79,3 +79,4 @@ pub mod ReadyNames
 pub mod ReadyFrames
 pub mod LocalNames
 pub mod ReadyAccepted
+pub mod OutsideSettled

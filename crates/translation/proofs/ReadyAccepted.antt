@@ -1,13 +1,9 @@
 -- Items can be written for each step of an accepted algorithm, where its definitions are settled and nothing in it is primed.
-use Rattle.std.proofs.Common.{◌≡◌, List, [], ◌++◌, reverse, Bool, true, false, ◌||◌, codes, Some, ◌⊎◌, inl, inr, refl, ◌∙◌}
-use Rattle.tla_tree.specs.Tree.{Word}
-use Rattle.tla_token.specs.Words.{is_own, is_standard}
+use Rattle.std.proofs.Common.{◌≡◌, [], ◌++◌, Bool, true, false, codes, ◌⊎◌, inl, inr, refl, ◌∙◌}
 use Rattle.tla_value.specs.Definitions.{Valuation}
 use Rattle.tla_value.specs.Outside.{Outside}
 use Rattle.tla_value.specs.Stops.{plain}
-use Rattle.tla_value.specs.Standard.{printed, asserted, standard_sense}
 use Rattle.pcal_tree.specs.Algorithm.{Routine, procedure_routines, main_routines, routines, Algorithm}
-use Rattle.pcal_tree.specs.Expand.{expanded}
 use Rattle.pcal_tree.specs.Processes.{OneOf, IsActor}
 use Rattle.pcal_tree.specs.Program.{Program, Actor}
 use Rattle.pcal_tree.specs.Programs.{program_in}
@@ -15,17 +11,14 @@ use Rattle.pcal_tree.specs.OffencesStale.{stale_offences}
 use Rattle.pcal_tree.specs.OffencesOfNames.{offences_of_uses, offences_of_declarations, offences_of_reads, through_each_call, name_offences}
 use Rattle.pcal_tree.specs.OffencesReads.{process_offences, own_offences, order_offences}
 use Rattle.pcal_tree.specs.OffencesSelf.{self_offences}
-use Rattle.pcal_tree.specs.Reads.{readings_of}
 use Rattle.pcal_tree.specs.Step.{Stand, routines_of}
-use Rattle.pcal_tree.specs.StepStart.{Begin, at_label}
 use Rattle.pcal_tree.specs.Variables.{vars}
 use Rattle.pcal_tree.proofs.ClearLabels.{both_none}
 use Rattle.pcal_tree.proofs.OneStand.{runs_routine}
 use Rattle.pcal_tree.proofs.RoutineNames.{one_either}
 use Rattle.action_builder.specs.Prepared.{none}
 use Rattle.action_builder.specs.laws.LabelSteps.{IsReady}
-use Rattle.action_builder.specs.laws.Ready.{Readable}
-use Rattle.action_builder.specs.laws.StepsOfLabels.{step_of, pair_env, AllUnprimed, AllSettledFor}
+use Rattle.action_builder.specs.laws.StepsOfLabels.{step_of, pair_env, AllSettledFor}
 use Rattle.action_builder.specs.laws.WrittenScope.{definitions_of}
 use Rattle.translation.specs.laws.AcceptedAlgorithm.{IsAcceptedInFile}
 use Rattle.translation.specs.laws.FreshReads.{readable}

@@ -211,5 +211,5 @@ pub fn items_can_be_written_for_steps()
     ensures { (o : Outside) (g : Algorithm) → IsAcceptedInFile o g → (values : Valuation) → NothingPrimed (program_in plain o g values) (extra_of g) → AllSettledFor (program_in plain o g values) (extra_of g) (readable g)
         → (v : Actor) (d : Stand) → Stance (program_in plain o g values) v d
         → IsReady (readable g) (vars (program_in plain o g values)) (pair_env (program_in plain o g values) (extra_of g) v) none
-            (step_of (program_in plain o g values) (extra_of g) v d (may_bind o (program_in plain o g values)) (callable_for (program_in plain o g values))) }
+        (step_of (program_in plain o g values) (extra_of g) v d (may_bind o (program_in plain o g values)) (callable_for (program_in plain o g values))) }
 {}
