@@ -1,5 +1,5 @@
 -- The assignments for jumps, calls and returns are such as items can be written for, where what they assign was not assigned before.
-use Rattle.std.proofs.Common.{◌≡◌, ℕ, suc, List, [], ◌∷◌, ◌++◌, Bool, true, false, ◌||◌, nat_eq, cond, bytes_eq, codes, map, Option, Some, None, ◌⊎◌, inl, inr, refl, sym, ap, subst, ◌∙◌}
+use Rattle.std.proofs.Common.{◌≡◌, ℕ, suc, List, [], ◌∷◌, ◌++◌, Bool, true, false, ◌||◌, nat_eq, cond, bytes_eq, codes, Some, refl, sym, ap, subst, ◌∙◌}
 use Rattle.std.proofs.lemmas.Bool.{both_ways, or_right}
 use Rattle.std.proofs.lemmas.Option.{same_Some}
 use Rattle.std.proofs.lemmas.Slice.Eq.{bytes_eq-Decides}
@@ -7,37 +7,34 @@ use Rattle.std.specs.List.{flat_map, AllByRecursion}
 use Rattle.tla_token.specs.declared.place.Place.{Place}
 use Rattle.tla_token.specs.Places.{nowhere}
 use Rattle.tla_token.specs.Signs.{is_among}
-use Rattle.tla_token.proofs.Spelled.{same_bytes}
 use Rattle.tla_tree.specs.declared.op.Op.TheVariants.{Concat}
-use Rattle.tla_tree.specs.Tree.{Word, Name, name, string, Strict, operator, tuple, fields, select, strict, operator_call, Tree, node, Trees, no_trees, tree, Each, Graft, graft, grafts, root_place}
+use Rattle.tla_tree.specs.Tree.{Word, Name, Strict, operator, tuple, fields, select, strict, operator_call, Tree, node, Trees, no_trees, tree, Each, Graft, grafts, root_place}
 use Rattle.tla_value.specs.Grafts.{owned}
-use Rattle.module_tree.specs.Formulas.{self, unset_value}
-use Rattle.pcal_tree.specs.Algorithm.{Start, unset, equals, among, Declaration, declares, Routine, locals, Assignments, no_assignments, assignment, Span, Statements, done, then, assign, call, return, Procedure, procedure_routine, numbered, first_procedure, procedure_routines, Algorithm}
+use Rattle.module_tree.specs.Formulas.{self}
+use Rattle.pcal_tree.specs.Algorithm.{Start, unset, equals, among, Declaration, declares, Routine, locals, Assignments, no_assignments, assignment, Statements, then, assign, Procedure, procedure_routine, numbered, Algorithm}
 use Rattle.pcal_tree.specs.Calls.{label_name, first_label, frame_fields, routine_named}
 use Rattle.pcal_tree.specs.Expand.{graft_all}
 use Rattle.pcal_tree.specs.OffencesStale.{used_by_variables, used_by_call}
-use Rattle.pcal_tree.specs.OffencesSteps.{effect_with}
 use Rattle.pcal_tree.specs.Paths.{roots}
 use Rattle.pcal_tree.specs.Program.{Program, written}
 use Rattle.pcal_tree.specs.Reads.{used, initial, Reading, through, readings_of}
-use Rattle.pcal_tree.specs.Run.{Partner, no_partner, goto_partner, return_partner}
 use Rattle.pcal_tree.specs.Variables.{vars, declared, written_all, pc, stack}
 use Rattle.action_builder.specs.Assigned.{Names}
-use Rattle.action_builder.specs.Jumps.{name_at, text_at, one_assignment, spot, jump_written, field_of, kept_field, stack_rest, fields_restored, return_assignments, return_written, names_at, pushed_on, stack_pushed, arguments_assigned, variables_written, call_written}
+use Rattle.action_builder.specs.Jumps.{name_at, text_at, one_assignment, spot, jump_written, field_of, kept_field, stack_rest, fields_restored, return_written, names_at, pushed_on, stack_pushed, arguments_assigned, variables_written, call_written}
 use Rattle.action_builder.specs.LabelActions.{initial_tree}
 use Rattle.action_builder.specs.OwnVariables.{is_own_variable}
-use Rattle.action_builder.specs.WrittenNames.{renames, renamed}
+use Rattle.action_builder.specs.WrittenNames.{renames}
 use Rattle.action_builder.specs.laws.Jumps.{Unlike, AllUnlike}
 use Rattle.action_builder.specs.laws.Ready.{Readable, IsWithin, Apart}
-use Rattle.action_builder.proofs.FitJumps.{parameters_first, unlike_first}
+use Rattle.action_builder.proofs.FitJumps.{parameters_first}
 use Rattle.action_builder.proofs.FitWritten.{among_each}
-use Rattle.translation.specs.laws.FreshReads.{fresh, ReadsFresh, AllReadFresh, AllFresh}
-use Rattle.translation.specs.laws.StepNames.{name_of, Unused, StepNames, Unlikes, StartReads, Called, Frames}
+use Rattle.translation.specs.laws.FreshReads.{fresh, AllReadFresh}
+use Rattle.translation.specs.laws.StepNames.{name_of, Unused, StepNames, StartReads, Called, Frames}
 use Rattle.translation.specs.laws.StepParts.{Readied}
 use Rattle.translation.specs.laws.WritableAlgorithm.{is_variable}
 use Rattle.translation.proofs.AskedSteps.{tree_fresh}
 use Rattle.translation.proofs.ReadiedSteps.{Became}
-use Rattle.translation.proofs.StepNames.{not_true, GlobalsOf, became_global, became_variables, variable_apart, fresh_globals, unused_fresh, variable_fresh, named_reads, named_trees}
+use Rattle.translation.proofs.StepNames.{not_true, GlobalsOf, became_global, became_variables, variable_apart, fresh_globals, unused_fresh, named_reads, named_trees}
 use Rattle.translation.proofs.StepsOnce as steps
 use Rattle.translation.proofs.StraightSteps.{all_roots, ReadsAnyhow, WritesAnyhow, AllAnyhow, straight_ready}
 use Rattle.translation.proofs.NamesFree.{AllOf, both_of}
@@ -259,10 +256,12 @@ module _ (P : Program) (u : Routine) (N : Word → Type 0) (k : StepNames P u N)
 
     pub return_ready : (A B : Names) → Became r A B → IsWithin A V → Apart A (declared (locals u)) → (at : Place) → Readied U vs B (graft_all h (return_written P u at))
     return_ready A B q w p at =
-        ready_from A B q w (return_written P u at)
-        (one_write A at pc (kept_field at pc) (fields_restored at xs (one_assignment (name_at at stack) (stack_rest at))) (k.pc_among, k.pc_new) (field_anyhow A at stack pc f.head_untitled (name_anyhow A at stack f.stack_among))
-        (restored_writes A at xs (one_assignment (name_at at stack) (stack_rest at)) f.head_untitled f.stack_among owned_new
-        (one_write A at stack (stack_rest at) no_assignments stack_is (rest_anyhow A at f.tail_untitled f.stack_among) tt)), tt)
+        ready_from A B q w (return_written P u at) (
+          one_write A at pc (kept_field at pc) (fields_restored at xs (one_assignment (name_at at stack) (stack_rest at))) (k.pc_among, k.pc_new) (field_anyhow A at stack pc f.head_untitled (name_anyhow A at stack f.stack_among))
+              (restored_writes A at xs (one_assignment (name_at at stack) (stack_rest at)) f.head_untitled f.stack_among owned_new
+              (one_write A at stack (stack_rest at) no_assignments stack_is (rest_anyhow A at f.tail_untitled f.stack_among) tt)),
+          tt,
+        )
         (subst (Each (λ x. B x ≡ false)) (sym all) (pc_free A B q w, each_joined (λ x. B x ≡ false) xs (stack ∷ []) (owned_free A B q w p) (stack_free A B q w, tt)))
         (subst AllUnlike (sym all) (each_joined (λ x. bytes_eq pc x ≡ false) xs (stack ∷ []) f.unlike.pc (refl, tt), unlike_last xs stack f.unlike.each f.unlike.stack))
       where
@@ -347,10 +346,12 @@ module _ (P : Program) (u : Routine) (N : Word → Type 0) (k : StepNames P u N)
       -- what is said of the stack, the variables and what follows is said of what the call assigns
       pub call_each : (Q : Word → Type 0) (at : Place) (e : Tree) (ts : Trees) (place : Declaration → Place) (last : Statements) → Q stack → Each Q (written_all P q (locals q)) → Each Q (all_roots last)
           → Each Q (all_roots (then (spot at) (assign (assignment (name_at at stack) e (arguments_assigned (written_all P q q.params) ts))) (variables_written P q place (λ d. initial_tree P q d.start) q.variables last)))
-      call_each Q at e ts place last x y z =
-          (x, each_arguments Q (written_all P q q.params) ts _ (subst (λ (ws : List Word). Each Q (written_all P q q.params ++ ws)) (sym (variables_roots P q place _ q.variables last))
-          (subst (Each Q) (joined_lists (written_all P q q.params) (written_all P q q.variables) (all_roots last))
-          (each_joined Q (written_all P q q.params ++ written_all P q q.variables) (all_roots last) (subst (Each Q) (parameters_first P q) y) z))))
+      call_each Q at e ts place last x y z = (
+        x,
+        each_arguments Q (written_all P q q.params) ts _ (subst (λ (ws : List Word). Each Q (written_all P q q.params ++ ws)) (sym (variables_roots P q place _ q.variables last))
+            (subst (Each Q) (joined_lists (written_all P q q.params) (written_all P q q.variables) (all_roots last))
+            (each_joined Q (written_all P q q.params ++ written_all P q q.variables) (all_roots last) (subst (Each Q) (parameters_first P q) y) z))),
+      )
 
       pub call_unlike : (at : Place) (e : Tree) (ts : Trees) (place : Declaration → Place) (last : Statements) → Each (λ x. bytes_eq stack x ≡ false) (written_all P q (locals q)) → Each (λ x. bytes_eq stack x ≡ false) (all_roots last)
           → AllUnlike (written_all P q (locals q) ++ all_roots last)
@@ -360,7 +361,7 @@ module _ (P : Program) (u : Routine) (N : Word → Type 0) (k : StepNames P u N)
           let v = variables_roots P q place (λ d. initial_tree P q d.start) q.variables last in
           let j = joined_lists w (written_all P q q.variables) (all_roots last) in (
             each_arguments (λ x. bytes_eq stack x ≡ false) w ts _ (subst (λ (ws : List Word). Each (λ x. bytes_eq stack x ≡ false) (w ++ ws)) (sym v) (subst (Each (λ x. bytes_eq stack x ≡ false)) j
-            (each_joined (λ x. bytes_eq stack x ≡ false) (w ++ written_all P q q.variables) (all_roots last) (subst (Each (λ x. bytes_eq stack x ≡ false)) (parameters_first P q) x) y))),
+                (each_joined (λ x. bytes_eq stack x ≡ false) (w ++ written_all P q q.variables) (all_roots last) (subst (Each (λ x. bytes_eq stack x ≡ false)) (parameters_first P q) x) y))),
             unlike_arguments w ts _ (subst (λ (ws : List Word). AllUnlike (w ++ ws)) (sym v) (subst AllUnlike j (subst (λ (ws : List Word). AllUnlike (ws ++ all_roots last)) (parameters_first P q) z))),
           )
 

@@ -108,3 +108,4 @@ pub mod InitRows
 pub mod KeptAccepted
 pub mod KeptPromise
 mod RowsKept
+pub mod OutsideSettled

@@ -1,9 +1,9 @@
 -- The names that an expression uses are those that it reads free, and where its bound names are of N, all names and operators that it reads are.
-use Rattle.std.proofs.Common.{◌≡◌, ℕ, ◌+◌, List, [], ◌∷◌, ◌++◌, Bool, true, false, ◌||◌, cond, bytes_eq, refl, ap, subst, arith}
+use Rattle.std.proofs.Common.{◌≡◌, ℕ, ◌+◌, List, [], ◌∷◌, ◌++◌, Bool, true, false, ◌||◌, cond, bytes_eq, refl, subst, arith}
 use Rattle.tla_token.specs.declared.place.Place.{Place}
 use Rattle.tla_token.specs.Signs.{is_among}
 use Rattle.tla_token.proofs.Spelled.{same_bytes}
-use Rattle.tla_tree.specs.Tree.{Word, Form, number, string, truth, booleans, strings, name, next, operator_call, Tree, node, Trees, no_trees, tree, Each, Every, EveryOf, binders, seen_names}
+use Rattle.tla_tree.specs.Tree.{Word, Form, name, operator_call, Tree, node, Trees, no_trees, tree, Each, Every, EveryOf, binders, seen_names}
 use Rattle.tla_tree.specs.Shapes.{Shaped}
 use Rattle.tla_tree.specs.laws.Writable.{IsWritable, AreWritable, count}
 use Rattle.tla_value.specs.laws.FreeNames.{Also, FormReads, FreeNames, FreeInParts}
@@ -91,7 +91,7 @@ mutual
   names_free N (node m at ts) xs w b k h = (
     form_free N xs k m at (used_by_parts (seen_names m) ts xs) h,
     parts_free N (seen_names m) ts xs w.4 b.1 (each_seen N m b.0) k
-    (form_parts N xs m at (used_by_parts (seen_names m) ts xs) h (λ x e. name_alone x ts (subst (λ (f : Form). Shaped f (count ts)) e w.0) (seen_names m) xs N)),
+        (form_parts N xs m at (used_by_parts (seen_names m) ts xs) h (λ x e. name_alone x ts (subst (λ (f : Form). Shaped f (count ts)) e w.0) (seen_names m) xs N)),
   )
 
   pub parts_free : (N : Word → Type 0) (names : List (List Word)) (ts : Trees) (xs : List Word) → AreWritable ts → EveryOf (BindsOf N) ts → EachList N names → ((x : Word) → In xs x → N x) → AllOf N (used_by_parts names ts xs) → FreeInParts N N names ts

@@ -4,10 +4,9 @@ use Rattle.std.proofs.lemmas.Bool.{both_ways, or_parts}
 use Rattle.std.proofs.lemmas.Slice.Eq.{bytes_eq-Decides}
 use Rattle.std.specs.List.{list_any}
 use Rattle.tla_token.specs.declared.place.Place.{Place}
-use Rattle.tla_token.specs.Places.{nowhere}
 use Rattle.tla_token.specs.Signs.{is_among}
 use Rattle.tla_token.proofs.Spelled.{same_bytes}
-use Rattle.tla_tree.specs.Tree.{Word, words, Form, name, next, Tree, node, Trees, no_trees, tree, Each, Every, EveryOf, binders, Graft, graft, grafts}
+use Rattle.tla_tree.specs.Tree.{Word, words, Form, name, next, Tree, node, Trees, no_trees, Every, binders, Graft, graft, grafts}
 use Rattle.tla_value.specs.Grafts.{owned, own_part}
 use Rattle.tla_value.specs.laws.Grafting.{In, BindsNone, IsUnprimed}
 use Rattle.tla_value.proofs.Facts.{each_weaker, every_weaker}
@@ -20,10 +19,10 @@ use Rattle.pcal_tree.specs.Reads.{Reading, used, through, among_looked_at, readi
 use Rattle.pcal_tree.specs.Variables.{vars}
 use Rattle.action_builder.specs.Assigned.{Names, head_of, without, heads}
 use Rattle.action_builder.specs.OwnVariables.{is_own_variable}
-use Rattle.action_builder.specs.Written.{is_old, old_stack}
+use Rattle.action_builder.specs.Written.{is_old}
 use Rattle.action_builder.specs.WrittenNames.{renames}
 use Rattle.action_builder.specs.laws.Ready.{Readable, IsWithin, IsLeft, LeftSides, FineTree, FineSides, FineAssignments, FineBinds, Apart}
-use Rattle.action_builder.proofs.Main.{append_cases, in_front, behind}
+use Rattle.action_builder.proofs.Main.{in_front, behind}
 use Rattle.translation.specs.laws.FreshReads.{fresh, Plain, ReadsFresh, AllReadFresh, SidesReadFresh, BindsReadFresh}
 use Rattle.translation.specs.laws.StepNames.{name_of, Unused, StepNames}
 use Rattle.translation.specs.laws.WritableAlgorithm.{is_variable, AreWritableAssignments}
