@@ -109,3 +109,6 @@ pub mod KeptAccepted
 pub mod KeptPromise
 mod RowsKept
 pub mod OutsideSettled
+pub mod KeptPhrases
+pub mod KeptParts
+pub mod KeptTexts

@@ -13,3 +13,4 @@ pub mod StepParts
 pub mod FreshReads
 pub mod StepNames
 pub mod NothingPrimed
+pub mod KeptUnprimed
