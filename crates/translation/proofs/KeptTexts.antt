@@ -1,13 +1,18 @@
 -- In an algorithm that the tokens of a text spell nothing is primed, since no token of an algorithm is a prime: statements in both syntaxes, and algorithms.
-use Rattle.std.proofs.Common.{ℕ, List, [], ◌∷◌, codes, map, sym, subst}
+use Rattle.std.proofs.Common.{List, [], ◌∷◌, Bool, true, false, codes, map, bytes_eq, subst}
+use Rattle.std.specs.Prelude.{if◌then◌else◌}
 use Rattle.std.specs.List.{AllByRecursion}
 use Rattle.tla_token.specs.declared.place.Place.{Place}
 use Rattle.tla_token.specs.declared.sign.Sign.{Sign}
+use Rattle.tla_token.specs.declared.sign.Sign.TheVariants as sign
 use Rattle.tla_token.specs.Lexemes.{Kind}
 use Rattle.tla_token.specs.Lexemes as lexeme
 use Rattle.tla_token.specs.Tokens as text
+use Rattle.tla_token.specs.Words.{is_pluscal_word, is_tla_word}
 use Rattle.tla_tree.specs.Tree.{Word}
-use Rattle.tla_tree.specs.Lexical.{Token}
+use Rattle.tla_tree.specs.Lexical.{TokenView, Token}
+use Rattle.tla_tree.specs.Lexical as tk
+use Rattle.tla_tree.specs.TokenViews as expression
 use Rattle.tla_tree.specs.Spelling.{tree_of}
 use Rattle.pcal_tree.specs.Algorithm as tree
 use Rattle.pcal_tree.specs.AlgorithmTokens.{kind_of, views}
@@ -188,3 +193,89 @@ of_tokens x h =
     let q = of_each g.procedure g.procedure_tree ProcedureUnprimed of_procedure x.procedures _ m.1 in
     let n = of_main x.main _ q.1 in
     record { definitions = d.0; macros = m.0; procedures = q.0; main = n.0 }
+
+-- ---- no token of an algorithm is a prime
+
+sign_bare : (s : Sign) → IsBare (expression.sign_kind s)
+sign_bare sign.MapsTo = tt
+sign_bare sign.Equivalent = tt
+sign_bare sign.Pair = tt
+sign_bare sign.Override = tt
+sign_bare sign.Range = tt
+sign_bare sign.And = tt
+sign_bare sign.Or = tt
+sign_bare sign.Implies = tt
+sign_bare sign.Arrow = tt
+sign_bare sign.Defined = tt
+sign_bare sign.OpenTuple = tt
+sign_bare sign.CloseTuple = tt
+sign_bare sign.AtMost = tt
+sign_bare sign.AtLeast = tt
+sign_bare sign.NotEqual = tt
+sign_bare sign.Box = tt
+sign_bare sign.Colon = tt
+sign_bare sign.Comma = tt
+sign_bare sign.Dot = tt
+sign_bare sign.OpenRound = tt
+sign_bare sign.CloseRound = tt
+sign_bare sign.OpenSquare = tt
+sign_bare sign.CloseSquare = tt
+sign_bare sign.OpenCurly = tt
+sign_bare sign.CloseCurly = tt
+sign_bare sign.Equal = tt
+sign_bare sign.Less = tt
+sign_bare sign.Greater = tt
+sign_bare sign.Plus = tt
+sign_bare sign.Minus = tt
+sign_bare sign.Times = tt
+sign_bare sign.Percent = tt
+sign_bare sign.Not = tt
+sign_bare sign.Bang = tt
+sign_bare sign.Without = tt
+sign_bare sign.In = tt
+sign_bare sign.NotIn = tt
+sign_bare sign.SubsetEq = tt
+sign_bare sign.Cup = tt
+sign_bare sign.Cap = tt
+sign_bare sign.Divide = tt
+sign_bare sign.Concat = tt
+sign_bare sign.ForAll = tt
+sign_bare sign.Exists = tt
+sign_bare sign.Assign = tt
+sign_bare sign.Parallel = tt
+sign_bare sign.Semicolon = tt
+
+if_bare : (b : Bool) (k l : TokenView) → IsBare k → IsBare l → IsBare (if b then k else l)
+if_bare true k l h g = h
+if_bare false k l h g = g
+
+abbrev AllBare : List (Word × TokenView) → Type 0
+AllBare [] = Unit {0}
+AllBare (p ∷ ps) = IsBare p.1 × AllBare ps
+
+among_bare : (ps : List (Word × TokenView)) (w : Word) (k : TokenView) → AllBare ps → IsBare k → IsBare (expression.kind_among ps w k)
+among_bare [] w k h g = g
+among_bare (p ∷ ps) w k h g = if_bare (bytes_eq p.0 w) p.1 (expression.kind_among ps w k) h.0 (among_bare ps w k h.1 g)
+
+words_bare : AllBare expression.word_kinds
+words_bare = search
+
+kind_bare : (k : Kind) → IsBare (kind_of k)
+kind_bare (lexeme.name w) =
+    if_bare (is_pluscal_word w) (tk.reserved w) (expression.kind_among expression.word_kinds w (if is_tla_word w then tk.other w else tk.word w)) tt
+    (among_bare expression.word_kinds w (if is_tla_word w then tk.other w else tk.word w) words_bare (if_bare (is_tla_word w) (tk.other w) (tk.word w) tt tt))
+kind_bare (lexeme.number n) = tt
+kind_bare (lexeme.string w) = tt
+kind_bare (lexeme.one s) = sign_bare s
+kind_bare (lexeme.other w) = tt
+
+views_bare : (ts : List text.Token) → AreBare (views ts)
+views_bare [] = tt
+views_bare (t ∷ ts) = (kind_bare t.kind, views_bare ts)
+
+past_head : (h : g.Head) (ts : List Token) → AreBare (g.head h ts) → AreBare ts
+past_head (g.algorithm a) ts h = h.1
+past_head (g.fair_algorithm a b) ts h = h.1.1
+
+pub text_unprimed : (s : g.Syntax) (ts : List text.Token) (a : tree.Algorithm) → g.Spells s ts a → AlgorithmUnprimed a
+text_unprimed s ts a (x, k, e, q) = subst AlgorithmUnprimed q (of_tokens x (past_head x.head (tokens_after_head x []) (subst (λ (us : List Token). AreBare us) e (views_bare ts))))

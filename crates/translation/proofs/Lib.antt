@@ -112,3 +112,4 @@ pub mod OutsideSettled
 pub mod KeptPhrases
 pub mod KeptParts
 pub mod KeptTexts
+pub mod KeptLabels
