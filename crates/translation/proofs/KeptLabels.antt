@@ -101,7 +101,7 @@ labelled_unprimed forced a h = by (forced || (is_alone a.main && is_empty (typed
 
 -- ---- trees are put in
 
-abbrev Puts : Graft → Type 0
+abbrev pub Puts : Graft → Type 0
 Puts g = (x : Word) (at : Place) (u : Tree) → g x at ≡ Some u → Unprimed u
 
 module _ (g : Graft) (f : Puts g) where
@@ -156,7 +156,7 @@ module _ (g : Graft) (f : Puts g) where
     put_in_one (call p ts) h = grafts_unprimed ts h
     put_in_one return h = tt
 
-    put_in_body : (b : Statements) → BodyUnprimed b → BodyUnprimed (graft_all g b)
+    pub put_in_body : (b : Statements) → BodyUnprimed b → BodyUnprimed (graft_all g b)
     put_in_body done h = tt
     put_in_body (then at st rest) h = (put_in_one st h.0, put_in_body rest h.1)
     put_in_body (mark l k rest) h = put_in_body rest h

@@ -113,3 +113,4 @@ pub mod KeptPhrases
 pub mod KeptParts
 pub mod KeptTexts
 pub mod KeptLabels
+pub mod KeptPrimes
