@@ -80,3 +80,4 @@ pub mod ReadyFrames
 pub mod LocalNames
 pub mod ReadyAccepted
 pub mod OutsideSettled
+pub mod InnerSettled
