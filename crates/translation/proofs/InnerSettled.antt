@@ -130,7 +130,7 @@ also_two N N' N'' f xs y h k = by (is_among xs y) refl
     by false e = in_also N'' xs y (f y (also_out N xs y h e) (also_out N' xs y k e))
 
 mutual
-  free_two : (N M N' M' N'' M'' : Word → Type 0) → ((y : Word) → N y → N' y → N'' y) → ((y : Word) → M y → M' y → M'' y) → (t : Tree) → FreeNames N M t → FreeNames N' M' t → FreeNames N'' M'' t
+  pub free_two : (N M N' M' N'' M'' : Word → Type 0) → ((y : Word) → N y → N' y → N'' y) → ((y : Word) → M y → M' y → M'' y) → (t : Tree) → FreeNames N M t → FreeNames N' M' t → FreeNames N'' M'' t
   free_two N M N' M' N'' M'' f g (node m at ts) h k = (form_two m h.0 k.0, parts_two N M N' M' N'' M'' f g (seen_names m) ts h.1 k.1)
     where
       form_two : (m : Form) → FormReads N M m → FormReads N' M' m → FormReads N'' M'' m

@@ -81,3 +81,4 @@ pub mod LocalNames
 pub mod ReadyAccepted
 pub mod OutsideSettled
 pub mod InnerSettled
+pub mod AllSettled
