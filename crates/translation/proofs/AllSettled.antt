@@ -1,65 +1,45 @@
 -- The definitions in sight of the module of an accepted algorithm that may be read, ProcSet too, read nothing that a step assigns.
-use Rattle.std.proofs.Common.{◌≡◌, ◌≤◌, ℕ, suc, List, [], ◌∷◌, ◌++◌, length, Bool, true, false, not, ◌||◌, ◌&&◌, ◌⊎◌, cond, bytes_eq, codes, map, filter, reverse, nat_eq, Option, Some, None, inl, inr, refl, sym, ap, subst, ◌∙◌, arith}
-use mathlib.Core.List.{reverse_aux}
+use Rattle.std.proofs.Common.{◌≡◌, List, [], ◌∷◌, ◌++◌, Bool, true, false, not, ◌||◌, ◌&&◌, cond, codes, map, reverse, refl, sym, ap, ◌∙◌}
 use Rattle.std.specs.List.{flat_map, list_any, AllByRecursion}
-use Rattle.std.proofs.lemmas.Bool.{both_ways, or_left, or_right, or_parts, eqb-true}
+use Rattle.std.proofs.lemmas.Bool.{or_parts}
 use Rattle.std.proofs.lemmas.Slice.Eq.{bytes_eq-Decides}
-use Rattle.tla_token.specs.declared.place.Place.{Place}
-use Rattle.tla_token.specs.declared.rule.Rule.TheVariants.{Arity, Rebind}
 use Rattle.tla_token.specs.Signs.{is_among}
-use Rattle.tla_token.proofs.Spelled.{same_bytes}
-use Rattle.tla_tree.specs.Tree.{Word, Name, words, Form, name, operator_call, Tree, node, Trees, no_trees, tree, Each, Every, EveryOf, binders, seen_names}
-use Rattle.tla_tree.specs.Shapes.{Shaped}
-use Rattle.tla_tree.specs.laws.Writable as writable
-use Rattle.tla_tree.specs.laws.Writable.{IsWritable, AreWritable}
+use Rattle.tla_tree.specs.Tree.{Word, Name, Tree, Each, Every, binders}
+use Rattle.tla_tree.specs.laws.Writable.{IsWritable}
 use Rattle.tla_value.specs.Definitions.{Valuation}
 use Rattle.tla_value.specs.Outside.{Outside}
-use Rattle.tla_value.specs.StandardModules.{is_member, is_last}
-use Rattle.tla_value.specs.laws.FreeNames.{Or, Also, Any, FormReads, FreeNames, FreeInParts}
+use Rattle.tla_value.specs.laws.FreeNames.{Any, FreeNames}
 use Rattle.tla_value.specs.Stops.{plain}
-use Rattle.tla_value.specs.laws.Grafting.{In, OutOf, Settled, AllSettled}
+use Rattle.tla_value.specs.laws.Grafting.{In, OutOf, AllSettled}
 use Rattle.tla_value.specs.laws.Untitled.{Untitled}
-use Rattle.tla_value.proofs.Facts.{each_weaker}
-use Rattle.tla_value.proofs.FreeNames.{also_any, other_of}
 use Rattle.pcal_tree.specs.Algorithm.{Definition, declares, Algorithm}
 use Rattle.pcal_tree.specs.BoundNames.{lists_in, lists_in_declared}
-use Rattle.pcal_tree.specs.NameUses.{Use, takes, variable, argument, standard, unread, Sight, seeing_plain, seeing_variables, knowing, use_of, use_offences, applied_offences}
-use Rattle.pcal_tree.specs.OffencesNames.{form_offences, count, in_tree, in_parts, in_whole, in_declared, in_definitions, defined_inside, names_of, kept_names, repeated, sight_outside, sight_inside}
+use Rattle.pcal_tree.specs.NameUses.{seeing_variables}
+use Rattle.pcal_tree.specs.OffencesNames.{in_whole, in_declared, in_definitions, sight_outside, sight_inside}
 use Rattle.pcal_tree.specs.OffencesRebind.{any_name, starts_rebind, standing_outside, standing_inside, Standings, in_scope, may_rebind, naming, rebound, rebound_all, whole_rebinds, definitions_rebind}
-use Rattle.pcal_tree.specs.OffencesReserved.{reserved_outside, reserved_name, declared_names, names_of_definition}
-use Rattle.pcal_tree.specs.Outside.{unit_names}
-use Rattle.pcal_tree.specs.Processes.{OneOf}
 use Rattle.pcal_tree.specs.Program.{Program, inner}
 use Rattle.pcal_tree.specs.Programs.{program_in}
-use Rattle.pcal_tree.specs.Reads.{used, looked_at, among_looked_at, through, readings, readings_of}
+use Rattle.pcal_tree.specs.Reads.{used, looked_at, through, readings_of}
 use Rattle.pcal_tree.specs.Variables.{vars, declared}
-use Rattle.pcal_tree.proofs.CallsFine as CallsFine
-use Rattle.pcal_tree.proofs.CallsFine.{Usable, Sees, in_also, throughout_both}
+use Rattle.pcal_tree.proofs.CallsFine.{throughout_both}
 use Rattle.pcal_tree.proofs.ClearLabels.{both_none}
 use Rattle.pcal_tree.proofs.NothingCaptured.{Free, BindsFree, written_bare}
 use Rattle.pcal_tree.proofs.Uncaptured.{throughout_weaker}
 use Rattle.action_builder.specs.Assigned.{Names}
 use Rattle.action_builder.specs.laws.Ready.{IsWithin}
 use Rattle.action_builder.specs.laws.WrittenScope.{AllRead, Common, titles}
-use Rattle.action_builder.proofs.FitWritten.{among_each}
 use Rattle.translation.specs.laws.AcceptedAlgorithm.{IsAcceptedInFile}
 use Rattle.translation.specs.laws.FreshReads.{readable}
 use Rattle.translation.specs.laws.LeftToProve.{extra_of}
-use Rattle.translation.specs.laws.TypedAlgorithm.{IsTypedDefinition}
-use Rattle.translation.proofs.AcceptedNames.{no_offence, apart_from}
-use Rattle.translation.proofs.BoundOf.{BindsAll, tree_bound, in_flat, in_both}
-use Rattle.translation.proofs.MacrosSound.{typed, in_named, in_rest}
-use Rattle.translation.proofs.NamesApart.{false_among, never, once}
+use Rattle.translation.proofs.AcceptedNames.{no_offence}
+use Rattle.translation.proofs.BoundOf.{BindsAll, tree_bound, in_both}
+use Rattle.translation.proofs.MacrosSound.{typed}
+use Rattle.translation.proofs.NamesApart.{false_among, never}
 use Rattle.translation.proofs.NamesFree.{AllOf, BindsOf, names_free}
 use Rattle.translation.proofs.NamesGiven.{Bound, bound_all}
-use Rattle.translation.proofs.NamesInSight.{among_also, sees_map, sees_outside}
-use Rattle.translation.proofs.NamesOfRules.{Unreserved, turned, rules_of_names, names_unreserved, split, of_flat}
-use Rattle.translation.proofs.OutsideSettled.{free_both, foreign_outside}
+use Rattle.translation.proofs.NamesOfRules.{rules_of_names}
 use Rattle.translation.proofs.PreparedSteps.{whole}
-use Rattle.translation.proofs.ReadyNames.{through_none}
-use Rattle.translation.proofs.RoutinesNamed.{among_before}
-use Rattle.translation.proofs.VariableNames.{one_is_among}
-use Rattle.translation.proofs.StepNames.{any_none, any_each, readings_global, negated, negated_back}
+use Rattle.translation.proofs.StepNames.{any_none, any_each, negated}
 use Rattle.tla_token.specs.declared.rule.Rule.TheVariants.{ProcessNotConstant}
 use Rattle.tla_value.specs.Definitions as Outside
 use Rattle.tla_value.specs.Outside.{found}
@@ -184,9 +164,10 @@ module _ (o : Outside) (a : Algorithm) (h : IsAcceptedInFile o a) (values : Valu
       let i = both_none (in_process C a.procedures (sight_inside a o) p) _ s in
       let j = both_none (process_rebinds o.extended a.procedures D (standing_inside a o) p) _ r in
       let k = in_both B (lists_in_process p) (flat_map lists_in_process ps) b in
-      let l = both_none (not_constant a p) _ c in
-      (identity_settled p.identity t.0.1 (both_none (in_whole p.identity (sight_inside a o)) _ i.0).0 (both_none (whole_rebinds o.extended p.identity (standing_inside a o)) _ j.0).0 (in_both B (lists_in p.identity) _ k.0).0 l.0,
-       processes_settled ps t.1 i.1 j.1 k.1 l.1)
+      let l = both_none (not_constant a p) _ c in (
+        identity_settled p.identity t.0.1 (both_none (in_whole p.identity (sight_inside a o)) _ i.0).0 (both_none (whole_rebinds o.extended p.identity (standing_inside a o)) _ j.0).0 (in_both B (lists_in p.identity) _ k.0).0 l.0,
+        processes_settled ps t.1 i.1 j.1 k.1 l.1,
+      )
 
   set_settled : (m : Main) → IsTypedMain m → in_main C a.procedures (sight_inside a o) m ≡ [] → main_rebinds o.extended a.procedures D (standing_inside a o) m ≡ [] → AllIn B (lists_in_main m) → flat_map (not_constant a) (processes_of m) ≡ []
       → ((x : Word) → is_among (vars P) x ≡ true → Untitled x (process_set_defined (process_set_of m))) → AllSettled A (In U) (process_set_defined (process_set_of m))

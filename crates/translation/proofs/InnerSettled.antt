@@ -1,5 +1,5 @@
 -- Definitions of an algorithm that may be read read nothing that a step assigns.
-use Rattle.std.proofs.Common.{◌≡◌, ◌≤◌, ℕ, suc, List, [], ◌∷◌, ◌++◌, length, Bool, true, false, not, ◌||◌, ◌&&◌, ◌⊎◌, cond, bytes_eq, map, filter, nat_eq, Option, Some, None, inl, inr, refl, sym, ap, subst, ◌∙◌, arith}
+use Rattle.std.proofs.Common.{◌≡◌, ℕ, suc, List, [], ◌∷◌, ◌++◌, length, Bool, true, false, not, ◌||◌, ◌&&◌, cond, bytes_eq, map, filter, nat_eq, Option, Some, None, inl, inr, refl, sym, ap, subst, ◌∙◌, arith}
 use mathlib.Core.List.{reverse_aux}
 use Rattle.std.specs.List.{flat_map, list_any, AllByRecursion}
 use Rattle.std.proofs.lemmas.Bool.{both_ways, or_left, or_right, or_parts, eqb-true}
@@ -8,7 +8,7 @@ use Rattle.tla_token.specs.declared.place.Place.{Place}
 use Rattle.tla_token.specs.declared.rule.Rule.TheVariants.{Arity, Rebind}
 use Rattle.tla_token.specs.Signs.{is_among}
 use Rattle.tla_token.proofs.Spelled.{same_bytes}
-use Rattle.tla_tree.specs.Tree.{Word, Name, words, Form, name, operator_call, Tree, node, Trees, no_trees, tree, Each, Every, EveryOf, binders, seen_names}
+use Rattle.tla_tree.specs.Tree.{Word, Name, words, Form, name, operator_call, Tree, node, Trees, no_trees, tree, Each, Every, binders, seen_names}
 use Rattle.tla_tree.specs.Shapes.{Shaped}
 use Rattle.tla_tree.specs.laws.Writable as writable
 use Rattle.tla_tree.specs.laws.Writable.{IsWritable, AreWritable}
@@ -17,11 +17,11 @@ use Rattle.tla_value.specs.Outside.{Outside}
 use Rattle.tla_value.specs.StandardModules.{is_member, is_last}
 use Rattle.tla_value.specs.laws.FreeNames.{Or, Also, Any, FormReads, FreeNames, FreeInParts}
 use Rattle.tla_value.specs.Stops.{plain}
-use Rattle.tla_value.specs.laws.Grafting.{In, OutOf, Settled, AllSettled}
+use Rattle.tla_value.specs.laws.Grafting.{In, OutOf, AllSettled}
 use Rattle.tla_value.specs.laws.Untitled.{Untitled}
 use Rattle.tla_value.proofs.Facts.{each_weaker}
 use Rattle.tla_value.proofs.FreeNames.{also_any, other_of}
-use Rattle.pcal_tree.specs.Algorithm.{Definition, declares, Algorithm}
+use Rattle.pcal_tree.specs.Algorithm.{Definition, Algorithm}
 use Rattle.pcal_tree.specs.BoundNames.{lists_in, lists_in_declared}
 use Rattle.pcal_tree.specs.NameUses.{Use, takes, variable, argument, standard, unread, Sight, seeing_plain, seeing_variables, knowing, use_of, use_offences, applied_offences}
 use Rattle.pcal_tree.specs.OffencesNames.{form_offences, count, in_tree, in_parts, in_whole, in_declared, in_definitions, defined_inside, names_of, kept_names, repeated, sight_outside, sight_inside}
@@ -199,8 +199,10 @@ module _ (o : Outside) (a : Algorithm) (h : IsAcceptedInFile o a) (values : Valu
   all_calm : (older : List Definition) (ns : List Name) → ((y : Word) → is_among gs y ≡ true → among_looked_at (readings gs older) ns y ≡ true → A y ≡ false) → AllOf (Calm older) ns
   all_calm older [] f = tt
   all_calm older (n ∷ ns) f = (
-    (λ y m. f y (readings_global gs older n.word y m) (or_left (is_among (looked_at (readings gs older) n) y) (among_looked_at (readings gs older) ns y) (or_right (bytes_eq n.word y) (is_among (through (readings gs older) n.word) y) m)),
-     λ m. f n.word m (or_left (is_among (looked_at (readings gs older) n) n.word) (among_looked_at (readings gs older) ns n.word) (or_left (bytes_eq n.word n.word) (is_among (through (readings gs older) n.word) n.word) ((bytes_eq-Decides n.word n.word).1 refl)))),
+    (
+      λ y m. f y (readings_global gs older n.word y m) (or_left (is_among (looked_at (readings gs older) n) y) (among_looked_at (readings gs older) ns y) (or_right (bytes_eq n.word y) (is_among (through (readings gs older) n.word) y) m)),
+      λ m. f n.word m (or_left (is_among (looked_at (readings gs older) n) n.word) (among_looked_at (readings gs older) ns n.word) (or_left (bytes_eq n.word n.word) (is_among (through (readings gs older) n.word) n.word) ((bytes_eq-Decides n.word n.word).1 refl))),
+    ),
     all_calm older ns (λ y m k. f y m (or_right (is_among (looked_at (readings gs older) n) y) (among_looked_at (readings gs older) ns y) k)),
   )
 
@@ -259,8 +261,7 @@ module _ (o : Outside) (a : Algorithm) (h : IsAcceptedInFile o a) (values : Valu
       let bound = body_calm older (naming (words d.params) t) (within_holds older t (words d.params) z) d here g.0 in
       let params = each_calm older t z (words d.params) (params_unreserved d here) (params_free t d.params j.0) in
       let seen = CallsFine.parts_seen (words d.params ∷ []) false (tree d.body no_trees) s (NotIn (d ∷ ds)) e (λ c. i.0 c ++ []) in
-      let ops = operators_seen (NotIn (d ∷ ds)) Any (λ y. tt) d.body false (seeing_plain (words d.params) s) (applies_under (words d.params) s (NotIn (d ∷ ds)) (applies_seen s (NotIn (d ∷ ds)) e)) i.0 writable in
-      (
+      let ops = operators_seen (NotIn (d ∷ ds)) Any (λ y. tt) d.body false (seeing_plain (words d.params) s) (applies_under (words d.params) s (NotIn (d ∷ ds)) (applies_seen s (NotIn (d ∷ ds)) e)) i.0 writable in (
         (λ f. record {
           title = false_among (A d.name.word) (λ b. never (sym ((bytes_eq-Decides d.name.word d.name.word).1 refl) ∙ (l d.name.word (w d.name.word b)).0));
           body =
