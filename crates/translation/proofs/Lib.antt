@@ -82,3 +82,4 @@ pub mod ReadyAccepted
 pub mod OutsideSettled
 pub mod InnerSettled
 pub mod AllSettled
+pub mod RowsAccepted

@@ -73,7 +73,7 @@ body =
     (last_statement (labelled 11 3 (codes "Q")) (simple (return (at 11 6))) (Some (at 11 12))))
 
 -- the text of the algorithm with the procedure Add
-abbrev add_text : Text
+abbrev pub add_text : Text
 add_text = record {
   head = algorithm (at 4 1);
   name = named 4 13 (codes "R");
@@ -91,7 +91,7 @@ add_text = record {
   main = begin (at 13 1) (last_statement (labelled 14 3 (codes "A")) (simple (call (at 14 6) (named 14 11 (codes "Add")) (some_arguments (at 14 14) (last (number 14 15 1)) (at 14 16)))) (Some (at 14 17)));
 }
 
-add_good : Good p_syntax add_text
+pub add_good : Good p_syntax add_text
 add_good = search
 
 add_stands : Stands procedures.file (algorithm_of add_text)
@@ -174,7 +174,7 @@ add_outside : outside_read (walk procedures.file) ≡ procedures.sequences
 unfolding readers
 add_outside = refl
 
-add_has : HasOutside (walk procedures.file) procedures.sequences
+pub add_has : HasOutside (walk procedures.file) procedures.sequences
 add_has = subst (λ (o : Outside). HasOutside (walk procedures.file) o) add_outside (has_outside (walk procedures.file))
 
 add_translated : IsWritten procedures.file procedures.translated procedures.sequences (written_region false procedures.sequences (algorithm_of add_text))
