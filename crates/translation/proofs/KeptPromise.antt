@@ -2,12 +2,10 @@
 use Rattle.std.proofs.Common.{◌≡◌, ◌<◌, ◌++◌, Bool, length, take, drop, None, refl, sym, ap, subst, ◌∙◌}
 use Rattle.std.proofs.lemmas.Option.{same_Some}
 use Rattle.tla_token.specs.Limits.{past_text}
-use Rattle.tla_value.specs.Definitions.{Valuation, no_state}
+use Rattle.tla_value.specs.Definitions.{no_state}
 use Rattle.tla_value.specs.Outside.{Outside}
-use Rattle.tla_value.specs.Stops.{plain}
 use Rattle.pcal_tree.specs.Algorithm.{Algorithm}
 use Rattle.pcal_tree.specs.Labelled.{labelled}
-use Rattle.pcal_tree.specs.Programs.{program_in}
 use Rattle.pcal_tree.specs.Variables.{vars}
 use Rattle.module_tree.specs.FileParts.{Span}
 use Rattle.module_tree.specs.Layout.{layout}
@@ -27,16 +25,15 @@ use Rattle.promise.specs.Translates.{Translates}
 use Rattle.file_answer.specs.Checking.{AnswersChecking}
 use Rattle.file_answer.proofs.OneTree.{one_stands}
 use Rattle.action_builder.specs.WrittenNames.{with_names}
-use Rattle.action_builder.specs.laws.StepsOfLabels.{AllSettledFor}
 use Rattle.translation.specs.PromiseWhole.{WrittenWhole}
 use Rattle.translation.specs.Region.{region_of, written_region}
 use Rattle.translation.specs.laws.AcceptedAlgorithm.{IsAcceptedInFile}
 use Rattle.translation.specs.laws.FreshReads.{readable}
-use Rattle.translation.specs.laws.LeftToProve.{extra_of, NextOfRegionLaw}
-use Rattle.translation.specs.laws.NothingPrimed.{NothingPrimed}
+use Rattle.translation.specs.laws.LeftToProve.{NextOfRegionLaw}
 use Rattle.translation.proofs.AcceptedAlgorithms.{text_writable}
 use Rattle.translation.proofs.InitOfRegion.{init_of_region_law}
 use Rattle.translation.proofs.KeptAccepted.{checked_is_fine, some_stands, stands_in_file}
+use Rattle.translation.proofs.KeptPrimes.{nothing_primed}
 use Rattle.translation.proofs.NextLaw.{next_where_ready}
 use Rattle.translation.proofs.NoPlaces.{variables_bare}
 use Rattle.translation.proofs.PromiseKept.{promise_kept}
@@ -83,15 +80,12 @@ module _ (next_law : NextOfRegionLaw IsAcceptedInFile) where
         translates = kept_in_module options.no_terminating x w whole.outside g accepted k;
       }
 
--- in accepted algorithms nothing is primed, and of the names that may be read a definition reads none that is assigned
-abbrev pub NonePrimedIn : Type 0
-NonePrimedIn = (o : Outside) (g : Algorithm) → IsAcceptedInFile o g → (values : Valuation) → NothingPrimed (program_in plain o g values) (extra_of g)
+-- Next of each accepted algorithm's region is as the promise asks, since items can be written for each of its steps, as nothing in it is primed
+pub next_law_kept : NextOfRegionLaw IsAcceptedInFile
+next_law_kept = next_where_ready readable (ready_law nothing_primed)
 
-abbrev pub AllSettledIn : Type 0
-AllSettledIn = (o : Outside) (g : Algorithm) → IsAcceptedInFile o g → (values : Valuation) → AllSettledFor (program_in plain o g values) (extra_of g) (readable g)
-
-pub promise_where_settled : NonePrimedIn → AllSettledIn → (options : Options) (x w : Text) → AnswersChecking options.label x None → length x < past_text → WrittenWhole options x w → Headline options x w
-promise_where_settled primes settled = promise_of_texts (next_where_ready readable (ready_law primes settled))
+pub texts_keep_the_promise : (options : Options) (x w : Text) → AnswersChecking options.label x None → length x < past_text → WrittenWhole options x w → Headline options x w
+texts_keep_the_promise = promise_of_texts next_law_kept
 
 -- ---- there is one such text
 

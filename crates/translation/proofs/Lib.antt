@@ -114,3 +114,5 @@ pub mod KeptParts
 pub mod KeptTexts
 pub mod KeptLabels
 pub mod KeptPrimes
+pub mod InnerSettled
+pub mod AllSettled

@@ -34,7 +34,7 @@ use Rattle.translation.proofs.RoutinesNamed.{variables_named, names_fit, local_f
 use Rattle.translation.proofs.VariableNames.{none_among, each_from, vars_each, one_is_among}
 
 -- no definition of the name, so it reads nothing as one
-through_none : (gs : List Word) (ds : List Definition) (x : Word) → ((d : Definition) → OneOf d ds → bytes_eq d.name.word x ≡ false) → through (readings gs ds) x ≡ []
+pub through_none : (gs : List Word) (ds : List Definition) (x : Word) → ((d : Definition) → OneOf d ds → bytes_eq d.name.word x ≡ false) → through (readings gs ds) x ≡ []
 through_none gs [] x h = refl
 through_none gs (d ∷ older) x h =
     ap (λ (b : Bool). cond b (filter (among_looked_at (readings gs older) (used d.body (words d.params))) gs) (through (readings gs older) x)) (h d (inl refl)) ∙ through_none gs older x (λ e m. h e (inr m))

@@ -21,9 +21,7 @@ use Rattle.file_answer.proofs.OneTree.{one_held}
 use Rattle.action_builder.specs.WrittenNames.{with_names}
 use Rattle.translation.specs.PromiseWhole.{WrittenWhole}
 use Rattle.translation.specs.Region.{region_of}
-use Rattle.translation.specs.laws.AcceptedAlgorithm.{IsAcceptedInFile}
-use Rattle.translation.specs.laws.LeftToProve.{NextOfRegionLaw}
-use Rattle.translation.proofs.KeptPromise.{promise_of_texts}
+use Rattle.translation.proofs.KeptPromise.{texts_keep_the_promise}
 use Rattle.translation.proofs.RowsProcedures as procedures
 use Rattle.translation.proofs.RowsStands.{add_text, add_good, add_stands, add_same, add_has}
 
@@ -74,5 +72,5 @@ add_whole = record {
 add_short : length procedures.file < past_text
 add_short = omega arith
 
-add_kept : NextOfRegionLaw IsAcceptedInFile → Headline no_options procedures.file procedures.translated
-add_kept next_law = promise_of_texts next_law no_options procedures.file procedures.translated (add_is_right false) add_short add_whole
+add_kept : Headline no_options procedures.file procedures.translated
+add_kept = texts_keep_the_promise no_options procedures.file procedures.translated (add_is_right false) add_short add_whole

@@ -50,7 +50,7 @@ among_kept f (x ∷ xs) y m = by (f x) m (among_kept f xs y)
     by true k g = either (bytes_eq x y) (is_among (filter f xs) y) (is_among xs y) g k
     by false k g = later (bytes_eq x y) (is_among xs y) (g k)
 
-readings_global : (gs : List Word) (ds : List Definition) (x y : Word) → is_among (through (readings gs ds) x) y ≡ true → is_among gs y ≡ true
+pub readings_global : (gs : List Word) (ds : List Definition) (x y : Word) → is_among (through (readings gs ds) x) y ≡ true → is_among gs y ≡ true
 readings_global gs [] x y m = cc
 readings_global gs (d ∷ older) x y m = by (among_looked_at (readings gs older) (used d.body (words d.params))) (bytes_eq d.name.word x) m (readings_global gs older x y)
   where
@@ -63,7 +63,7 @@ through_global a x y m = readings_global _ _ x y m
 
 -- ---- booleans
 
-any_none : (A : Names) (ys : List Word) → ((y : Word) → is_among ys y ≡ true → A y ≡ false) → list_any A ys ≡ false
+pub any_none : (A : Names) (ys : List Word) → ((y : Word) → is_among ys y ≡ true → A y ≡ false) → list_any A ys ≡ false
 any_none A [] h = refl
 any_none A (y ∷ ys) h = by (A y) (h y (here y ys)) (any_none A ys (λ x m. h x (later (bytes_eq y x) (is_among ys x) m)))
   where
@@ -81,7 +81,7 @@ any_none A (y ∷ ys) h = by (A y) (h y (here y ys)) (any_none A ys (λ x m. h x
     by true e k = absurd cc
     by false e k = k
 
-any_each : (A : Names) (ys : List Word) → list_any A ys ≡ false → (y : Word) → is_among ys y ≡ true → A y ≡ false
+pub any_each : (A : Names) (ys : List Word) → list_any A ys ≡ false → (y : Word) → is_among ys y ≡ true → A y ≡ false
 any_each A [] h y m = cc
 any_each A (x ∷ xs) h y m =
     let p = or_parts (A x) (list_any A xs) h in
@@ -91,11 +91,11 @@ any_each A (x ∷ xs) h y m =
     by true e k q f = ap A (sym (same_bytes x y e)) ∙ q
     by false e k q f = f k
 
-negated : (b : Bool) → b ≡ false → not b ≡ true
+pub negated : (b : Bool) → b ≡ false → not b ≡ true
 negated true e = cc
 negated false e = refl
 
-negated_back : (b : Bool) → not b ≡ true → b ≡ false
+pub negated_back : (b : Bool) → not b ≡ true → b ≡ false
 negated_back true e = cc
 negated_back false e = refl
 

@@ -42,7 +42,7 @@ ghost use Rattle.action_builder.specs.WrittenNames.{with_names};
 ghost use Rattle.action_builder.specs.LabelActions.{at_test, items_from};
 ghost use Rattle.action_builder.specs.laws.Settling.{Callable};
 ghost use Rattle.action_builder.specs.laws.LabelSteps.{IsReady, action_of};
-ghost use Rattle.action_builder.specs.laws.StepsOfLabels.{step_of, pair_env, AllSettledFor, PcStands};
+ghost use Rattle.action_builder.specs.laws.StepsOfLabels.{step_of, pair_env, PcStands};
 ghost use Rattle.translation.specs.laws.ActionNames.{action_names};
 ghost use Rattle.translation.specs.laws.Steps.{written_step};
 ghost use Rattle.module_tree.specs.laws.Kept.{IsFine};
@@ -217,11 +217,10 @@ pub fn loops_follow_labels()
     ensures bodies { (a : Algorithm) → label_offences a ≡ [] → (u : Routine) → OneOf u (main_routines a a.main) → Placed false false false (expanded (reverse a.macros) u.body) }
 {}
 
-/// For each step of an accepted algorithm items can be written, also for calls and returns, where no name is primed, and where no definition that may be read reads what is assigned:
-/// nothing is assigned twice, left sides are variables, and no definition is used after a variable that it reads was assigned. A name may be read there if it is no definition,
+/// For each step of an accepted algorithm in which no name is primed items can be written, also for calls and returns: nothing is assigned twice, left sides are variables, and no definition is used after a variable that it reads was assigned. A name may be read there if it is no definition,
 /// or one that reads, itself or through others, none of the variables that are assigned already.
 pub fn items_can_be_written_for_steps()
-    ensures { (o : Outside) (g : Algorithm) → IsAcceptedInFile o g → (values : Valuation) → NothingPrimed (program_in plain o g values) (extra_of g) → AllSettledFor (program_in plain o g values) (extra_of g) (readable g)
+    ensures { (o : Outside) (g : Algorithm) → IsAcceptedInFile o g → (values : Valuation) → NothingPrimed (program_in plain o g values) (extra_of g)
         → (v : Actor) (d : Stand) → Stance (program_in plain o g values) v d
         → IsReady (readable g) (vars (program_in plain o g values)) (pair_env (program_in plain o g values) (extra_of g) v) none
         (step_of (program_in plain o g values) (extra_of g) v d (may_bind o (program_in plain o g values)) (callable_for (program_in plain o g values))) }
@@ -229,13 +228,10 @@ pub fn items_can_be_written_for_steps()
 
 /// For every text with which nothing is wrong there is one text that is written: it with the translation of its one algorithm, labels added where they are forced or there
 /// are none. That algorithm is accepted in the file. And what is written keeps the promise, with both options: it reads as one module, with the algorithm's variables and
-/// definitions, whose Next and Init are true just of the steps and the initial states; so far where in accepted algorithms nothing is primed, and no definition that may be
-/// read reads what is assigned.
+/// definitions, whose Next and Init are true just of the steps and the initial states.
 pub fn every_accepted_text_keeps_the_promise()
     ensures accepted { (forced : Bool) (x : Text) → AnswersChecking forced x None → length x < past_text → (a : Algorithm) (o : Outside) → Stands x a → HasOutside (walk x) o → IsAcceptedInFile o (labelled forced a) }
     ensures some { (options : Options) (x : Text) → AnswersChecking options.label x None → (w : Text) × WrittenWhole options x w }
     ensures one { (options : Options) (x v w : Text) → WrittenWhole options x v → WrittenWhole options x w → v ≡ w }
-    ensures promise { ((o : Outside) (g : Algorithm) → IsAcceptedInFile o g → (values : Valuation) → NothingPrimed (program_in plain o g values) (extra_of g))
-        → ((o : Outside) (g : Algorithm) → IsAcceptedInFile o g → (values : Valuation) → AllSettledFor (program_in plain o g values) (extra_of g) (readable g))
-        → (options : Options) (x w : Text) → AnswersChecking options.label x None → length x < past_text → WrittenWhole options x w → Headline options x w }
+    ensures promise { (options : Options) (x w : Text) → AnswersChecking options.label x None → length x < past_text → WrittenWhole options x w → Headline options x w }
 {}
