@@ -192,7 +192,7 @@ module _ (o : Outside) (a : Algorithm) (h : IsAcceptedInFile o a) (values : Valu
 
 -- ---- a single process
 
-one_of_at : (p : Process) (m : ℕ) (ps : List Process) (n : ℕ) → At p m ps n → OneOf p ps
+pub one_of_at : (p : Process) (m : ℕ) (ps : List Process) (n : ℕ) → At p m ps n → OneOf p ps
 one_of_at _ _ _ _ (at_first p n ps) = inl refl
 one_of_at _ _ _ _ (at_later p q m n ps k) = inr (one_of_at p m ps (suc n) k)
 

@@ -26,7 +26,7 @@ ghost use Rattle.pcal_tree.specs.Programs.{program_in};
 ghost use Rattle.tla_value.specs.Stops.{plain};
 ghost use Rattle.tla_value.specs.Definitions.{Valuation};
 ghost use Rattle.promise.specs.ConstantsAndStates.{program};
-ghost use Rattle.translation.specs.laws.LeftToProve.{NamesApartLaw, NamesGivenLaw, PreparedLaw, PairsLaw, NextOfRegionLaw, InitOfRegionLaw, RegionPlaced, PromiseKept};
+ghost use Rattle.translation.specs.laws.LeftToProve.{NamesApartLaw, NamesGivenLaw, PreparedLaw, PairsLaw, ReadyLaw, NextOfRegionLaw, InitOfRegionLaw, RegionPlaced, PromiseKept};
 ghost use Rattle.pcal_tree.specs.Variables.{declared, vars};
 ghost use Rattle.pcal_tree.specs.Labelled.{labelled};
 ghost use Rattle.module_tree.specs.Around.{Around};
@@ -56,7 +56,8 @@ ghost use Rattle.pcal_tree.specs.Grammar.{Syntax, Spells};
 ghost use Rattle.pcal_tree.specs.OffencesOfNames.{name_offences};
 ghost use Rattle.pcal_tree.specs.Expand.{expanded};
 ghost use Rattle.action_builder.specs.Assigned.{Names};
-ghost use Rattle.action_builder.specs.laws.Ready.{Once};
+ghost use Rattle.action_builder.specs.laws.Ready.{Readable, Once};
+ghost use Rattle.translation.specs.laws.NextLaws.{SetFaultsAgree};
 ghost use Rattle.translation.specs.laws.StepsOnce.{none_set, SetsOnce, JumpsOnce};
 ghost use Rattle.translation.specs.laws.JumpsEnd.{JumpsEnd};
 ghost use Rattle.translation.specs.laws.TypedAlgorithm.{IsTypedAlgorithm};
@@ -197,4 +198,12 @@ pub fn written_names_stand_for_the_names_of_routines()
 /// different identifiers, and all states from which no initial value is a fault. Else it is false, and never a fault.
 pub fn init_is_true_of_the_initial_states()
     ensures { InitOfRegionLaw IsAcceptedInFile }
+{}
+
+/// Where items can be written for each step, Next of what is written of an accepted algorithm, with the algorithm's own places, is true of two states exactly where some
+/// process steps from the first to the second, or all are done and nothing changes: for all constants, and all first states from which nothing is in trouble. Else it is
+/// false, and never a fault. And where all processes are of sets, it is a fault for some second state exactly if some process is in trouble in the first.
+pub fn next_is_true_of_the_steps()
+    ensures region { (U : Algorithm → Readable) → ReadyLaw IsAcceptedInFile U → NextOfRegionLaw IsAcceptedInFile }
+    ensures faults { (U : Algorithm → Readable) → ReadyLaw IsAcceptedInFile U → SetFaultsAgree IsAcceptedInFile }
 {}
