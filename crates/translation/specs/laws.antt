@@ -12,3 +12,4 @@ pub mod PlacedStatements
 pub mod StepParts
 pub mod FreshReads
 pub mod StepNames
+pub mod NothingPrimed
