@@ -421,7 +421,7 @@ module _ (ds : List Reading) (ps : List Procedure) (C V : Word → Bool) (N : Wo
         let y = two_fine (IsFine ds) (spots_of_one U l p at.first st xs) (spots U false (after_one path.assigned st l p) rest xs) f in (
           one_asked w l A p xs at.first st (partner_of rest) rest h v n u s.0 k.0 (partner_may r w false rest q.1) q.0 e.0 i.0 t.0 y.0,
           λ g. follows w l A p st rest g h v q.0 e.0 i.0 (λ o. list_asked w false (more A (set_by st)) (after_one path.assigned st l p) xs rest o (within_more C V A (set_by st) v (one_are C V st i.0)) (no_label (more A (set_by st))) u
-          s.1 k.1 q.1 e.1 i.1 t.1 y.1),
+              s.1 k.1 q.1 e.1 i.1 t.1 y.1),
         )
 
     some_asked : (w : Bool) (A : Names) (p : Path) (xs : List Word) (bs : Branches) → Has A p → IsWithin A V → Unread ds xs

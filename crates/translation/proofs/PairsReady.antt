@@ -402,16 +402,22 @@ module _ (P : Program) (u : Routine) (N : Word → Type 0) (k : StepNames P u N)
     pair_ready A B b w p i ts t =
         let body = pair_body P u q nowhere nowhere (grafts g ts) (λ d. nowhere) (λ d. initial_tree P q d.start) in
         let straight = call_straight P u N k ret f q c A nowhere (stack_replaced P u q nowhere nowhere) (grafts g ts) (λ d. nowhere) last
-            (pushed_anyhow P u N k A q nowhere (kept_field nowhere pc) (values_kept P u q nowhere nowhere) (stack_rest nowhere) (field_anyhow P u N k A nowhere stack pc f.head_untitled (name_anyhow P u N k A nowhere stack f.stack_among)) (values_anyhow A)
-            (rest_anyhow P u N k A nowhere f.tail_untitled f.stack_among))
-            (λ D o. named_trees P u N k A D (fresh_globals P u N k A D o) ts t) i (last_straight A) in
+        (pushed_anyhow P u N k A q nowhere (kept_field nowhere pc) (values_kept P u q nowhere nowhere) (stack_rest nowhere) (field_anyhow P u N k A nowhere stack pc f.head_untitled (name_anyhow P u N k A nowhere stack f.stack_among)) (values_anyhow A)
+        (rest_anyhow P u N k A nowhere f.tail_untitled f.stack_among))
+        (λ D o. named_trees P u N k A D (fresh_globals P u N k A D o) ts t) i (last_straight A) in
         let x = ready_from P u N k A B b w body straight
-            (call_each P u N k ret f q c (λ z. B z ≡ false) nowhere (stack_replaced P u q nowhere nowhere) (grafts g ts) (λ d. nowhere) last (stack_free P u N k ret f A B b w) (called_free P u N k ret f q c A B b w (λ e. p))
-            (last_each (λ z. B z ≡ false) (λ e. owned_free P u N k A B b w p) (pc_free P u N k A B b w)))
-            (call_unlike P u N k ret f q c nowhere (stack_replaced P u q nowhere nowhere) (grafts g ts) (λ d. nowhere) last c.unlike.stack (last_each (λ z. bytes_eq stack z ≡ false) (λ e. f.unlike.stack) refl) last_unlike) in
+        (call_each P u N k ret f q c (λ z. B z ≡ false) nowhere (stack_replaced P u q nowhere nowhere) (grafts g ts) (λ d. nowhere) last (stack_free P u N k ret f A B b w) (called_free P u N k ret f q c A B b w (λ e. p))
+        (last_each (λ z. B z ≡ false) (λ e. owned_free P u N k A B b w p) (pc_free P u N k A B b w)))
+        (call_unlike P u N k ret f q c nowhere (stack_replaced P u q nowhere nowhere) (grafts g ts) (λ d. nowhere) last c.unlike.stack (last_each (λ z. bytes_eq stack z ≡ false) (λ e. f.unlike.stack) refl) last_unlike) in
         record {
           settled = (x.settled, tt);
-          fine = (((fine_of P u N k B (became_variables P u N k A B b w) kept (own_reads P u N k B (name_at nowhere stack) (name_anyhow P u N k B nowhere stack f.stack_among B (λ y d m. m))), f.old_free, tt),
-              x.fine, λ e. (kept_value, items_clear A B B body straight, needed B q (arguments_assigned (written_all P q q.params) (grafts g ts)) (variables_written P q (λ d. nowhere) (λ d. initial_tree P q d.start) q.variables last))), tt);
+          fine = (
+            (
+              (fine_of P u N k B (became_variables P u N k A B b w) kept (own_reads P u N k B (name_at nowhere stack) (name_anyhow P u N k B nowhere stack f.stack_among B (λ y d m. m))), f.old_free, tt),
+              x.fine,
+              λ e. (kept_value, items_clear A B B body straight, needed B q (arguments_assigned (written_all P q q.params) (grafts g ts)) (variables_written P q (λ d. nowhere) (λ d. initial_tree P q d.start) q.variables last)),
+            ),
+            tt,
+          );
           once = (x.once, tt);
         }

@@ -28,26 +28,17 @@ use Rattle.action_builder.specs.laws.Ready.{Readable}
 use Rattle.action_builder.specs.laws.StepsOfLabels.{step_of, pair_env, AllUnprimed, AllSettledFor}
 use Rattle.action_builder.specs.laws.WrittenScope.{definitions_of}
 use Rattle.translation.specs.laws.AcceptedAlgorithm.{IsAcceptedInFile}
-use Rattle.translation.specs.laws.FreshReads.{fresh}
+use Rattle.translation.specs.laws.FreshReads.{readable}
 use Rattle.translation.specs.laws.LeftToProve.{extra_of, Stance, may_bind, callable_for, ReadyLaw}
+use Rattle.translation.specs.laws.NothingPrimed.{NothingPrimed}
 use Rattle.translation.proofs.BegunSteps.{IsRoutine}
 use Rattle.translation.proofs.FramesAccepted.{untitled, bound_defs, defs_through}
 use Rattle.translation.proofs.LabelReady.{NamesSound, label_ready}
 use Rattle.translation.proofs.LocalNames.{local_outside}
 use Rattle.translation.proofs.MacrosSound.{typed}
 use Rattle.translation.proofs.NamesApart.{writable, names_apart_law}
-use Rattle.translation.proofs.ReadyFrames.{NonePrimed, StartsUnprimed, items_plain, frames_ready}
+use Rattle.translation.proofs.ReadyFrames.{items_plain, frames_ready}
 use Rattle.translation.proofs.ReadyNames.{BoundName, outside_unused, names_ready}
-
--- a name may be read where variables are assigned if it is no definition, or one that reads none of them
-abbrev pub readable : Algorithm → Readable
-readable g = fresh (readings_of g)
-
--- no expression of a step, of an initial value of a procedure's variable, or of a definition in sight has a prime
-pub record Unprimed (o : Outside) (a : Algorithm) (h : IsAcceptedInFile o a) (values : Valuation) : Type 0 where
-  pub items : (u : Routine) → OneOf u (routines a) → (l : Word) (b : Begin) → at_label u l ≡ Some b → NonePrimed (expanded (reverse a.macros) b.items)
-  pub starts : StartsUnprimed o a h values
-  pub definitions : AllUnprimed (definitions_of (program_in plain o a values) ++ extra_of a)
 
 stale_none : (a : Algorithm) (o : Outside) → name_offences a o ≡ [] → stale_offences a ≡ []
 stale_none a o e =
@@ -56,7 +47,7 @@ stale_none a o e =
     let s = (both_none (own_offences a) _ (both_none (process_offences a) _ r).1).1 in
     (both_none (stale_offences a) (self_offences a) (both_none (order_offences a) _ s).1).0
 
-module _ (o : Outside) (a : Algorithm) (h : IsAcceptedInFile o a) (values : Valuation) (primes : Unprimed o a h values) (settled : AllSettledFor (program_in plain o a values) (extra_of a) (readable a)) where
+module _ (o : Outside) (a : Algorithm) (h : IsAcceptedInFile o a) (values : Valuation) (primes : NothingPrimed (program_in plain o a values) (extra_of a)) (settled : AllSettledFor (program_in plain o a values) (extra_of a) (readable a)) where
   abbrev P : Program
   P = program_in plain o a values
 
@@ -91,6 +82,6 @@ module _ (o : Outside) (a : Algorithm) (h : IsAcceptedInFile o a) (values : Valu
       by j (inr k) = ready false j k
 
 -- where that is so of each accepted algorithm
-pub ready_law : ((o : Outside) (g : Algorithm) (h : IsAcceptedInFile o g) (values : Valuation) → Unprimed o g h values) → ((o : Outside) (g : Algorithm) → IsAcceptedInFile o g → (values : Valuation) → AllSettledFor (program_in plain o g values) (extra_of g) (readable g))
+pub ready_law : ((o : Outside) (g : Algorithm) (h : IsAcceptedInFile o g) (values : Valuation) → NothingPrimed (program_in plain o g values) (extra_of g)) → ((o : Outside) (g : Algorithm) → IsAcceptedInFile o g → (values : Valuation) → AllSettledFor (program_in plain o g values) (extra_of g) (readable g))
     → ReadyLaw IsAcceptedInFile readable
 ready_law primes settled o g h values v d stance = step_is_ready o g h values (primes o g h values) (settled o g h values) v d stance

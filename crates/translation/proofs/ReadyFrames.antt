@@ -37,6 +37,7 @@ use Rattle.action_builder.specs.laws.WrittenScope.{NamesApart}
 use Rattle.translation.specs.laws.AcceptedAlgorithm.{IsAcceptedInFile}
 use Rattle.translation.specs.laws.FreshReads.{Plain}
 use Rattle.translation.specs.laws.LeftToProve.{extra_of}
+use Rattle.translation.specs.laws.NothingPrimed.{NonePrimed, StartUnprimed}
 use Rattle.translation.specs.laws.StepNames.{name_of, Unused, StepNames, StartReads, Called, Frames}
 use Rattle.translation.specs.laws.TypedAlgorithm.{IsTypedDefinition}
 use Rattle.translation.specs.laws.WritableAlgorithm.{is_variable, IsWritableStart, AreWritableAssignments, AreWritableBinds, IsWritableStatement, AreWritableStatements, AreWritableBranches}
@@ -116,10 +117,6 @@ module _ (C V : Word → Bool) where
     some_identifiers no_branches h = tt
     some_identifiers (or b bs) h = (all_identifiers b h.0, some_identifiers bs h.1)
 
--- no expression of the statements has a prime
-abbrev pub NonePrimed : Statements → Type 0
-NonePrimed b = Throughout (λ m at. IsUnprimed m at) (λ x. Unit {0}) b
-
 module _ (o : Outside) (a : Algorithm) (h : IsAcceptedInFile o a) (values : Valuation) where
   abbrev B : Word → Type 0
   B = Bound o a h values
@@ -166,10 +163,6 @@ module _ (o : Outside) (a : Algorithm) (h : IsAcceptedInFile o a) (values : Valu
       (body_bound B ms (macros_bound o a h B (bound_all o a h values)) b.items all) (written_bare o.extended a.procedures ms b.items again.0 again.1) (all_identifiers C V (expanded ms b.items) w) n
 
   -- ---- initial values of procedures
-
-  abbrev pub StartUnprimed : Start → Type 0
-  StartUnprimed (equals e) = Every (λ m at. IsUnprimed m at) e
-  StartUnprimed _ = Unit {0}
 
   abbrev pub StartsUnprimed : Type 0
   StartsUnprimed = (q : Routine) → OneOf q (procedure_routines a) → (d : Declaration) → OneOf d q.variables → StartUnprimed d.start

@@ -168,7 +168,7 @@ module _ (P : Program) (u : Routine) (N : Word → Type 0) (k : StepNames P u N)
       let e = unlike_either (roots ms) (all_roots rest) d in
       let hs = heads (graft_assignments h ms) in
       let x = straight_ready A (more B hs) (λ y m. in_more y (more_cases B hs y m)) (λ y g m. of_more y g (more_cases B hs y m)) rest w.1
-          (λ y m. not_more B hs y (p y (behind (roots ms) (all_roots rest) y m)) (λ n. e.1 y (heads_within A ms w.0 y n) m)) e.0 in
+      (λ y m. not_more B hs y (p y (behind (roots ms) (all_roots rest) y m)) (λ n. e.1 y (heads_within A ms w.0 y n) m)) e.0 in
       record { settled = (f.left, x.settled); fine = (f, x.fine); once = ((λ y m. p y (in_front (roots ms) (all_roots rest) y (heads_within A ms w.0 y m))), x.once) }
     where
       in_more : (y : Word) → (B y ≡ true) ⊎ steps.In (heads (graft_assignments h ms)) y → is_among vs y ≡ true

@@ -13,3 +13,4 @@ pub mod StepParts
 pub mod FreshReads
 pub mod StepNames
 pub mod NextLaws
+pub mod NothingPrimed

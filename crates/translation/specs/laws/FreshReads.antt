@@ -6,20 +6,24 @@ use Rattle.tla_token.specs.declared.place.Place.{Place}
 use Rattle.tla_tree.specs.Tree.{Word, Form, Tree, Trees, Each, Every, EveryOf, binders}
 use Rattle.tla_value.specs.laws.FreeNames.{FreeNames, FreeInParts}
 use Rattle.tla_value.specs.laws.Grafting.{In, IsUnprimed}
-use Rattle.pcal_tree.specs.Algorithm.{Name, Assignments, no_assignments, assignment, Binds, no_binds, one_of, is, call, return, Procedure}
+use Rattle.pcal_tree.specs.Algorithm.{Name, Assignments, no_assignments, assignment, Binds, no_binds, one_of, is, call, return, Procedure, Algorithm}
 use Rattle.pcal_tree.specs.OffencesStale.{used_by_call}
 use Rattle.pcal_tree.specs.OffencesSteps.{effect_with}
 use Rattle.pcal_tree.specs.Paths.{Effects, roots}
-use Rattle.pcal_tree.specs.Reads.{Reading, through}
+use Rattle.pcal_tree.specs.Reads.{Reading, through, readings_of}
 use Rattle.pcal_tree.specs.Run.{Partner, return_partner}
 use Rattle.action_builder.specs.Assigned.{Names}
-use Rattle.action_builder.specs.laws.Ready.{IsWithin, Apart}
+use Rattle.action_builder.specs.laws.Ready.{Readable, IsWithin, Apart}
 use Rattle.translation.specs.laws.StepParts.{Asked}
 use Rattle.translation.specs.laws.WritableAlgorithm.{AreWritableAssignments}
 
 -- it is no definition, or one that reads no variable of A
 abbrev pub fresh : List Reading → Names → Word → Bool
 fresh ds A x = not (list_any A (through ds x))
+
+-- as the laws of written actions have it
+abbrev pub readable : Algorithm → Readable
+readable g = fresh (readings_of g)
 
 -- the names that the form binds are of N, and it is no primed name
 abbrev pub Plain : (Word → Type 0) → Form → Place → Type 0
