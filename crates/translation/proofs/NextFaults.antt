@@ -1,5 +1,5 @@
 -- Where a process of an accepted algorithm without single processes is in trouble, Next of its region is a fault for some second state; and so these agree.
-use Rattle.std.proofs.Common.{◌≡◌, ◌↔◌, List, [], ◌∷◌, ◌++◌, map, Bool, true, false, cond, bytes_eq, codes, Option, Some, None, ◌⊎◌, inl, inr, refl, sym, ap, ◌∙◌, subst, Ok, Err}
+use Rattle.std.proofs.Common.{◌≡◌, ◌↔◌, List, [], ◌∷◌, ◌++◌, map, Bool, true, false, cond, Option, Some, None, inl, inr, refl, sym, ap, ◌∙◌, subst, Ok, Err}
 use Rattle.std.specs.Option.{ok_or}
 use Rattle.tla_token.specs.declared.place.Place.{Place}
 use Rattle.tla_token.specs.Places.{nowhere}
@@ -7,7 +7,7 @@ use Rattle.tla_tree.specs.Tree.{Word, Tree, operator, apply, name, no_trees, gra
 use Rattle.tla_tree.specs.declared.op.Op.TheVariants.{Equal}
 use Rattle.tla_value.specs.declared.fault.FaultKind.TheVariants.{NotInDomain}
 use Rattle.tla_value.specs.Value.{Value, truth, int, text, model, set, fun, Trouble, Outcome, fault, ◌>>=◌, IsBad, and_then, or_all}
-use Rattle.tla_value.specs.Order.{same, found_at}
+use Rattle.tla_value.specs.Order.{found_at}
 use Rattle.tla_value.specs.OrderLaws.{same_self}
 use Rattle.tla_value.specs.Outside.{Outside}
 use Rattle.tla_value.specs.Stops.{plain, members_at, truth_at}
@@ -16,8 +16,8 @@ use Rattle.tla_value.specs.Meaning.{Env, just, bind, eval}
 use Rattle.tla_value.specs.Grafts.{own_part}
 use Rattle.tla_value.specs.Definitions.{Valuation, scope_of}
 use Rattle.tla_value.proofs.Outcomes.{ok_is}
-use Rattle.module_tree.specs.Formulas.{self, named, process_set}
-use Rattle.module_tree.specs.Module.{call, call_with, Way, one_way, some_way, Module}
+use Rattle.module_tree.specs.Formulas.{self, named}
+use Rattle.module_tree.specs.Module.{call, call_with, Way, one_way, Module}
 use Rattle.module_tree.specs.ModuleTruth.{next_holds}
 use Rattle.module_tree.specs.ActionTruth.{Verdict, Acts, acted, truth_in, items_hold, some_member, way_holds, some_way_holds}
 use Rattle.pcal_tree.specs.Algorithm.{Statements, Process, Main, alone, processes, Routine, alone_routine, procedure_routines, main_routines, Algorithm}
@@ -28,20 +28,19 @@ use Rattle.pcal_tree.specs.OffencesLabels.{label_words}
 use Rattle.pcal_tree.specs.Processes.{OneOf, identifier, actors_in, actors, IsActor, Proper}
 use Rattle.pcal_tree.specs.Program.{Program, Actor, index, read_at}
 use Rattle.pcal_tree.specs.Programs.{program_in}
-use Rattle.pcal_tree.specs.Run.{Has, unlabelled}
+use Rattle.pcal_tree.specs.Run.{unlabelled}
 use Rattle.pcal_tree.specs.Scope.{State}
-use Rattle.pcal_tree.specs.Step.{Stand, pc_of, routines_of, StandsAt, course_of}
+use Rattle.pcal_tree.specs.Step.{pc_of, routines_of}
 use Rattle.pcal_tree.specs.StepStart.{Begin, at_label}
 use Rattle.pcal_tree.specs.Takers.{Takers, each_of, single, lone, Taken, taken_main}
 use Rattle.pcal_tree.specs.Variables.{pc, vars, on_variables}
 use Rattle.pcal_tree.proofs.BodyLabels.{same_labels}
-use Rattle.pcal_tree.proofs.OneStand.{own_is_main, runs_routine}
+use Rattle.pcal_tree.proofs.OneStand.{own_is_main}
 use Rattle.pcal_tree.proofs.ProcessesInOrder.{id, ids}
 use Rattle.pcal_tree.proofs.TroubleLaws.{one_left, one_right, label_listed}
 use Rattle.action_builder.specs.LabelActions.{procedure_takers, at_test, items_by, items_from, label_action, title_of}
 use Rattle.action_builder.specs.NextFormula.{own_way, main_ways}
 use Rattle.action_builder.specs.OwnVariables.{is_own_variable}
-use Rattle.action_builder.specs.Prepared.{none}
 use Rattle.action_builder.specs.WrittenNames.{with_names}
 use Rattle.action_builder.specs.laws.LabelSteps.{action_of}
 use Rattle.action_builder.specs.laws.Ready.{Readable, values_of, holds_on}
@@ -58,7 +57,7 @@ use Rattle.translation.specs.laws.WritableAlgorithm.{IsLabelled}
 use Rattle.translation.proofs.FramesAccepted.{pc_path}
 use Rattle.translation.proofs.NamesApart.{writable, self_some, self_none, names_apart_law}
 use Rattle.translation.proofs.NamesGiven.{names_given_law}
-use Rattle.translation.proofs.NextFound.{Finds, FindsLabels, FindsOwn, one_mapped}
+use Rattle.translation.proofs.NextFound.{Finds, FindsOwn, one_mapped}
 use Rattle.translation.proofs.NextHolds.{ways_of}
 use Rattle.translation.proofs.NextOfRegion.{HasSingle}
 use Rattle.translation.proofs.NextParts.{acts, reads, taken_by, procedure_found, body_found, process_found}

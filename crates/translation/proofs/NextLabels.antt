@@ -1,11 +1,10 @@
 -- Each label's action of an accepted algorithm is true exactly of the steps from that label, for each process that takes it, from a sound state.
-use Rattle.std.proofs.Common.{◌≡◌, List, [], ◌∷◌, ◌++◌, Bool, cond, codes, Option, Some, None, inl, inr, refl, sym, ap, ◌∙◌, subst, Ok, Err}
+use Rattle.std.proofs.Common.{◌≡◌, ◌++◌, codes, Option, Some, None, inl, inr, refl, sym, ◌∙◌, subst, Ok, Err}
 use Rattle.tla_tree.specs.Tree.{Word, Tree}
-use Rattle.tla_value.specs.Value.{Value, Trouble, Outcome, TrueExactly}
-use Rattle.tla_value.specs.Order.{IsCanonical}
+use Rattle.tla_value.specs.Value.{Value, Outcome, TrueExactly}
 use Rattle.tla_value.specs.Outside.{Outside, found}
 use Rattle.tla_value.specs.Stops.{plain}
-use Rattle.tla_value.specs.Meaning.{Env, bind, eval}
+use Rattle.tla_value.specs.Meaning.{Env, eval}
 use Rattle.tla_value.specs.Definitions.{Valuation, scope_of}
 use Rattle.tla_value.specs.laws.CanonicalNames.{Sound as SoundNames, TestsByValue}
 use Rattle.tla_value.proofs.CanonicalTests.{value_kept, means_its_value}
@@ -20,15 +19,15 @@ use Rattle.pcal_tree.specs.OffencesLabels.{label_words}
 use Rattle.pcal_tree.specs.Processes.{OneOf, IsActor}
 use Rattle.pcal_tree.specs.Program.{Program, Actor}
 use Rattle.pcal_tree.specs.Programs.{program_in}
-use Rattle.pcal_tree.specs.Run.{Has, unlabelled}
+use Rattle.pcal_tree.specs.Run.{unlabelled}
 use Rattle.pcal_tree.specs.Scope.{State}
-use Rattle.pcal_tree.specs.Step.{Stand, pc_of, routines_of, StandsAt, StepFrom, course_of}
+use Rattle.pcal_tree.specs.Step.{Stand, pc_of, routines_of, StepFrom}
 use Rattle.pcal_tree.specs.StepStart.{Begin, at_label}
-use Rattle.pcal_tree.specs.Takers.{Takers, each_of, single, lone, Taken}
+use Rattle.pcal_tree.specs.Takers.{each_of, single, lone}
 use Rattle.pcal_tree.specs.Variables.{vars}
 use Rattle.pcal_tree.proofs.BodyLabels.{same_labels}
 use Rattle.pcal_tree.proofs.ProcessesInOrder.{id}
-use Rattle.action_builder.specs.LabelActions.{items_from, items_by}
+use Rattle.action_builder.specs.LabelActions.{items_from}
 use Rattle.action_builder.specs.SingleProcess.{in_place_of}
 use Rattle.action_builder.specs.laws.Grafts.{ClearItems}
 use Rattle.action_builder.specs.laws.Ready.{Readable, values_of}

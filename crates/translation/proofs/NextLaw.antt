@@ -5,7 +5,7 @@ use Rattle.tla_tree.specs.Tree.{Tree}
 use Rattle.pcal_tree.specs.Algorithm.{Main, alone, processes, first_process, Algorithm}
 use Rattle.pcal_tree.specs.OffencesReads.{processes_of}
 use Rattle.pcal_tree.specs.Processes.{OneOf}
-use Rattle.pcal_tree.specs.Takers.{Takers, each_of, single, lone, Taken, taken_main}
+use Rattle.pcal_tree.specs.Takers.{each_of, single, lone, Taken, taken_main}
 use Rattle.action_builder.specs.laws.Ready.{Readable}
 use Rattle.translation.specs.laws.AcceptedAlgorithm.{IsAcceptedInFile}
 use Rattle.translation.specs.laws.LeftToProve.{ReadyLaw, NextOfRegionLaw}

@@ -1,7 +1,7 @@
 -- Where Next of an accepted algorithm's region is a fault, some process is in trouble.
-use Rattle.std.proofs.Common.{◌≡◌, List, Bool, Option, Some, None, refl, sym, ap, ◌∙◌, subst}
+use Rattle.std.proofs.Common.{◌≡◌, Bool, Option, Some, None, refl, sym, ap, ◌∙◌, subst}
 use Rattle.tla_tree.specs.Tree.{Word}
-use Rattle.tla_value.specs.Value.{Trouble, Outcome, IsBad, TrueExactly}
+use Rattle.tla_value.specs.Value.{Trouble, IsBad, TrueExactly}
 use Rattle.tla_value.specs.Outside.{Outside}
 use Rattle.tla_value.specs.Stops.{plain}
 use Rattle.tla_value.specs.Definitions.{Valuation}
