@@ -52,13 +52,14 @@ use Rattle.action_builder.proofs.StepsOfLabels.{outcome_is}
 use Rattle.promise.specs.ConstantsAndStates.{AreConstants, IsState}
 use Rattle.translation.specs.Region.{region_of}
 use Rattle.translation.specs.laws.AcceptedAlgorithm.{IsAcceptedInFile}
-use Rattle.translation.specs.laws.LeftToProve.{extra_of, may_bind, callable_for, Stance, ReadyLaw}
+use Rattle.translation.specs.laws.LeftToProve.{extra_of, may_bind, callable_for, Stance}
 use Rattle.translation.specs.laws.WritableAlgorithm.{IsLabelled}
 use Rattle.translation.proofs.FramesAccepted.{pc_path}
 use Rattle.translation.proofs.NamesApart.{writable, self_some, self_none, names_apart_law}
 use Rattle.translation.proofs.NamesGiven.{names_given_law}
 use Rattle.translation.proofs.NextFound.{Finds, FindsOwn, one_mapped}
 use Rattle.translation.proofs.NextHolds.{ways_of}
+use Rattle.translation.proofs.NextLabels.{ReadyHere}
 use Rattle.translation.proofs.NextOfRegion.{HasSingle}
 use Rattle.translation.proofs.NextParts.{acts, reads, taken_by, procedure_found, body_found, process_found}
 use Rattle.translation.proofs.NextScopes.{Identified, taken_there, set_there}
@@ -187,7 +188,7 @@ begun u l m = by (at_label u l) refl (begins l unlabelled u.body u.exit (subst (
     by None e i = absurd i
     by (Some c) e i = (c, e)
 
-module _ (U : Algorithm → Readable) (ready : ReadyLaw IsAcceptedInFile U) (b : Bool) (title : Word) (o : Outside) (g : Algorithm) (h : IsAcceptedInFile o g) (values : Valuation) (s : State) (k : AreConstants (record { title = title; outside = o; region = region_of b (with_names o g) }) values) where
+module _ (U : Readable) (b : Bool) (title : Word) (o : Outside) (g : Algorithm) (h : IsAcceptedInFile o g) (values : Valuation) (ready : ReadyHere U o g values) (s : State) (k : AreConstants (record { title = title; outside = o; region = region_of b (with_names o g) }) values) where
   abbrev first : Module
   first = record { title = title; outside = o; region = region_of b (with_names o g) }
 
@@ -231,7 +232,7 @@ module _ (U : Algorithm → Readable) (ready : ReadyLaw IsAcceptedInFile U) (b :
   bad_of v a q (inr (d, st, has)) =
       let stance : Stance P v d = record { actor = a; routine = st.0; label = st.1 } in
       let step = step_of P (extra_of g) v d (may_bind o P) (callable_for P) in
-      let stops = action_stops step (prepared_law o g h values k.unset v d stance) (U g) (vars P) (pair_env P (extra_of g) v) (ready o g h values v d stance) s in
+      let stops = action_stops step (prepared_law o g h values k.unset v d stance) U (vars P) (pair_env P (extra_of g) v) (ready v d stance) s in
       let fault = stops.1 (q, subst (λ (A : Type 0). A) (sym (outcome_is P (extra_of g) v d (may_bind o P) (callable_for P) refl (names_apart_law o g h values v d.routine a st.0) (names_given_law o g h values v d stance) s (Err q))) has) in
       record {
         later = fault.0;
@@ -322,4 +323,4 @@ module _ (U : Algorithm → Readable) (ready : ReadyLaw IsAcceptedInFile U) (b :
       to (v, q, a, z) = (let x = bad_of v a q z in (x.later, by_main a.0 a.1 v a.2 x.later lacks g.main refl x.routine x.runs x.label x.listed x.bad))
 
       from : (t : State) × IsBad (next_holds plain first values (on_variables P s) (on_variables P t)) → (v : Actor) × (q : Trouble) × IsActor P v × Troubled P s v q
-      from (t, f) = next_troubles U ready b title o g h values s t k is (λ c. absurd (lacks c)) proper f
+      from (t, f) = next_troubles U b title o g h values s t ready k is (λ c. absurd (lacks c)) proper f

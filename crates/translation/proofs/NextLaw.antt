@@ -2,6 +2,7 @@
 -- where all processes are of sets, it is a fault for some second state exactly if some process is in trouble.
 use Rattle.std.proofs.Common.{◌≡◌, Bool, true, cond, refl, sym, ap, ◌∙◌, subst, inl, inr}
 use Rattle.tla_tree.specs.Tree.{Tree}
+use Rattle.tla_value.specs.Outside.{Outside}
 use Rattle.pcal_tree.specs.Algorithm.{Main, alone, processes, first_process, Algorithm}
 use Rattle.pcal_tree.specs.OffencesReads.{processes_of}
 use Rattle.pcal_tree.specs.Processes.{OneOf}
@@ -16,8 +17,10 @@ use Rattle.translation.proofs.NextScopes.{numbered_of}
 use Rattle.translation.proofs.NextSingle.{single_clear, one_of_at}
 use Rattle.translation.proofs.PreparedSteps.{prepared_law}
 
-pub next_where_ready : (U : Algorithm → Readable) → ReadyLaw IsAcceptedInFile U → NextOfRegionLaw IsAcceptedInFile
-next_where_ready U ready = next_of_region U prepared_law ready single_clear
+-- of accepted algorithms for whose steps items can be written
+module _ (A : Outside → Algorithm → Type 0) (inside : (o : Outside) (g : Algorithm) → A o g → IsAcceptedInFile o g) (U : Algorithm → Readable) (ready : ReadyLaw A U) where
+  pub next_where_ready : NextOfRegionLaw A
+  next_where_ready = next_of_region A inside U prepared_law ready single_clear
 
 no_single : (g : Algorithm) → AllSets g → HasSingle g → ⊥
 no_single g sets h = by g.main refl h.among
@@ -39,5 +42,5 @@ no_single g sets h = by g.main refl h.among
         set_single n.process.several n.process.identity h.expression
         (sets n.process (subst (λ m. OneOf n.process (processes_of m)) (sym d) (one_of_at n.process n.number ps (first_process g) n.at))) (sym (ap (λ (r : Taken). r.takers) n.is) ∙ h.is)
 
-pub faults_where_ready : (U : Algorithm → Readable) → ReadyLaw IsAcceptedInFile U → SetFaultsAgree IsAcceptedInFile
-faults_where_ready U ready b title o g h sets values s k is proper = faults_agree U ready b title o g h values s k (no_single g sets) is proper
+pub faults_where_ready : (A : Outside → Algorithm → Type 0) → ((o : Outside) (g : Algorithm) → A o g → IsAcceptedInFile o g) → (U : Algorithm → Readable) → ReadyLaw A U → SetFaultsAgree A
+faults_where_ready A inside U ready b title o g a sets values s k is proper = faults_agree (U g) b title o g (inside o g a) values (ready o g a values) s k (no_single g sets) is proper

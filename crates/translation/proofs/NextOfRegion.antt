@@ -36,7 +36,7 @@ use Rattle.translation.specs.laws.AcceptedAlgorithm.{IsAcceptedInFile}
 use Rattle.translation.specs.laws.LeftToProve.{extra_of, PreparedLaw, ReadyLaw, NextOfRegionLaw}
 use Rattle.translation.proofs.NamesApart.{self_some, self_none}
 use Rattle.translation.proofs.NextHolds.{ways_of, AllTrue, next_true}
-use Rattle.translation.proofs.NextLabels.{pc_read, named_true, lone_true, single_true}
+use Rattle.translation.proofs.NextLabels.{ReadyHere, pc_read, named_true, lone_true, single_true}
 use Rattle.translation.proofs.NextParts.{acts, reads, taken_by, procedure_found, ends_found, body_found, process_found}
 use Rattle.translation.proofs.NextScopes.{names_sound, names_by_value, Identified, taken_there, set_there, own_is}
 use Rattle.translation.proofs.NextSteps.{running_one}
@@ -59,8 +59,8 @@ pub record HasSingle (g : Algorithm) : Type 0 where
   pub among : OneOf taken (taken_main g g.main)
   pub is : taken.takers ≡ single expression
 
-module _ (U : Algorithm → Readable) (prepared : PreparedLaw IsAcceptedInFile) (ready : ReadyLaw IsAcceptedInFile U) (clear : SingleClearLaw) where
-  module _ (b : Bool) (title : Word) (o : Outside) (g : Algorithm) (h : IsAcceptedInFile o g) (values : Valuation) (s t : State) where
+module _ (U : Readable) (prepared : PreparedLaw IsAcceptedInFile) (clear : SingleClearLaw) where
+  module _ (b : Bool) (title : Word) (o : Outside) (g : Algorithm) (h : IsAcceptedInFile o g) (values : Valuation) (s t : State) (ready : ReadyHere U o g values) where
     abbrev first : Module
     first = record { title = title; outside = o; region = region_of b (with_names o g) }
 
@@ -105,13 +105,13 @@ module _ (U : Algorithm → Readable) (prepared : PreparedLaw IsAcceptedInFile) 
           lone_procedure u n = record {
             taken = (body, only);
             found = procedure_found b o g h values s t (alone ss) e u n;
-            labels = λ v m. lone_true U prepared ready o g h values k.unset s t sound v (self_none P v ss e (actor v m)) (actor v m) u (inr n);
+            labels = λ v m. lone_true U prepared o g h values ready k.unset s t sound v (self_none P v ss e (actor v m)) (actor v m) u (inr n);
           }
 
           alone_true : AllTrue P s t X (reads b o g h values s t) (acts b o g h values s t (alone ss)) vs (alone ss) e all b
           alone_true = record {
             procedures = each_procedure (alone ss) lone_procedure;
-            main = (body, only, body_found b o g h values s t ss e, lone_true U prepared ready o g h values k.unset s t sound body refl (actor body here) (alone_routine g ss) (inl refl));
+            main = (body, only, body_found b o g h values s t ss e, lone_true U prepared o g h values ready k.unset s t sound body refl (actor body here) (alone_routine g ss) (inl refl));
             there = (body, only, refl);
             ends = ends_found b o g h values s t (alone ss) e;
           }
@@ -126,7 +126,7 @@ module _ (U : Algorithm → Readable) (prepared : PreparedLaw IsAcceptedInFile) 
           set_procedure u n = record {
             taken = set_there o g h title first.region values k s t ps vs e all;
             found = procedure_found b o g h values s t (processes ps) e u n;
-            labels = λ v m. named_true U prepared ready o g h values k.unset s t sound v (self_is v m) (actor v m) u (inr n) process_set;
+            labels = λ v m. named_true U prepared o g h values ready k.unset s t sound v (self_is v m) (actor v m) u (inr n) process_set;
           }
 
           in_main : (u : Routine) (f : Tree) → OneOf (record { takers = single f; routine = u }) (taken_main g (processes ps)) → OneOf (record { takers = single f; routine = u }) (taken_main g g.main)
@@ -139,14 +139,14 @@ module _ (U : Algorithm → Readable) (prepared : PreparedLaw IsAcceptedInFile) 
             taken = i;
             found = process_found b o g h values s t ps e (record { takers = each_of f; routine = u }) n;
             labels = λ v m.
-                named_true U prepared ready o g h values k.unset s t sound v (self_is v (running_one u v vs m)) (actor v (running_one u v vs m)) u
+                named_true U prepared o g h values ready k.unset s t sound v (self_is v (running_one u v vs m)) (actor v (running_one u v vs m)) u
                 (inl (sym (own_is u v is (subst (OneOf v) order m)))) f;
           }
           process_true (single f) u n is order (w, only, q) = record {
             taken = (w, only);
             found = process_found b o g h values s t ps e (record { takers = single f; routine = u }) n;
             labels = λ v m.
-                single_true U prepared ready o g h values k.unset s t sound (names_sound o g h title first.region values k s t is_canonical (it (record { taken = record { takers = single f; routine = u }; expression = f; among = in_main u f n; is = refl }))) (names_by_value o g h title first.region values k s t) v (self_is v (running_one u v vs m))
+                single_true U prepared o g h values ready k.unset s t sound (names_sound o g h title first.region values k s t is_canonical (it (record { taken = record { takers = single f; routine = u }; expression = f; among = in_main u f n; is = refl }))) (names_by_value o g h title first.region values k s t) v (self_is v (running_one u v vs m))
                 (actor v (running_one u v vs m)) u (inl (sym (own_is u v is (subst (OneOf v) order m)))) f (q ∙ ap (λ (z : Actor). Ok (id z)) (sym (one_only w v (subst (OneOf v) only m))))
                 (clear o g h values (record { takers = single f; routine = u }) (in_main u f n) f refl);
           }
@@ -161,7 +161,7 @@ module _ (U : Algorithm → Readable) (prepared : PreparedLaw IsAcceptedInFile) 
           processes_true = record {
             procedures = each_procedure (processes ps) set_procedure;
             main = each_process;
-            there = ((λ v m. (self_is v m, pc_read U prepared ready o g h values k.unset s t sound v (actor v m))), set_there o g h title first.region values k s t ps vs e all);
+            there = ((λ v m. (self_is v m, pc_read U prepared o g h values ready k.unset s t sound v (actor v m))), set_there o g h title first.region values k s t ps vs e all);
             ends = ends_found b o g h values s t (processes ps) e;
           }
 
@@ -172,6 +172,6 @@ module _ (U : Algorithm → Readable) (prepared : PreparedLaw IsAcceptedInFile) 
       pub next_is : TrueExactly (next_holds plain first values S T) (Moves b P s t)
       next_is = by_main sound.0.0 sound.0.1 g.main refl
 
-  -- Next of the region is as the promise asks
-  pub next_of_region : NextOfRegionLaw IsAcceptedInFile
-  next_of_region b title o g h values s t k is it sound = next_is b title o g h values s t k is (λ c. it) sound
+-- Next of the region is as the promise asks, of accepted algorithms for whose steps items can be written
+pub next_of_region : (A : Outside → Algorithm → Type 0) → ((o : Outside) (g : Algorithm) → A o g → IsAcceptedInFile o g) → (U : Algorithm → Readable) → PreparedLaw IsAcceptedInFile → ReadyLaw A U → SingleClearLaw → NextOfRegionLaw A
+next_of_region A inside U prepared ready clear b title o g a values s t k is it sound = next_is (U g) prepared clear b title o g (inside o g a) values s t (ready o g a values) k is (λ c. it) sound
