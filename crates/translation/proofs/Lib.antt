@@ -103,3 +103,6 @@ pub mod InitLabels
 pub mod InitFollows
 pub mod InitTroubles
 pub mod InitOfRegion
+pub mod OutsideSettled
+pub mod InnerSettled
+pub mod AllSettled
