@@ -1,5 +1,5 @@
 -- Where nothing is wrong with a file, its algorithm, with labels added, is accepted beside what the file has outside.
-use Rattle.std.proofs.Common.{◌≡◌, ◌<◌, ◌⊎◌, inl, inr, ℕ, Bool, true, false, List, [], ◌∷◌, ◌++◌, cond, length, map, Option, Some, None, refl, sym, ap, subst, ◌∙◌}
+use Rattle.std.proofs.Common.{◌≡◌, ◌<◌, ◌⊎◌, inl, inr, Bool, true, List, [], ◌∷◌, ◌++◌, cond, length, Option, Some, None, refl, sym, ap, subst, ◌∙◌}
 use Rattle.std.specs.Prelude.{nat_le, filter}
 use Rattle.std.proofs.lemmas.Option.{same_Some}
 use Rattle.tla_token.specs.declared.rule.Refusal.{Refusal}
@@ -16,7 +16,6 @@ use Rattle.pcal_tree.specs.Grammar.{Syntax, p_syntax, c_syntax, Spells, SpellsP,
 use Rattle.pcal_tree.specs.Labelled.{labelled}
 use Rattle.pcal_tree.specs.Offences.{first}
 use Rattle.pcal_tree.specs.OffencesLabels.{label_offences}
-use Rattle.pcal_tree.specs.OffencesOfNames.{name_offences}
 use Rattle.pcal_tree.proofs.ClearLabels.{both_none}
 use Rattle.module_tree.specs.AlgorithmText.{AlgorithmText, algorithm_in, algorithm_tokens}
 use Rattle.module_tree.specs.FileOffences.{is_splitting, splitting_offences}
@@ -124,14 +123,16 @@ module _ (forced : Bool) (x : Text) (right : AnswersChecking forced x None) wher
 
   pub some_stands : (g : Algorithm) × Stands x g
   some_stands =
-      let h = unrefused_holds x (checked_is_spelled forced x right) in
-      (h.0, record {
-        text = h.1.text;
-        is_text = h.1.is_text;
-        tokens = algorithm_tokens x h.1.text;
-        tok = has_tokens x h.1.text splits h.1.is_text;
-        spelled = in_one h.1.syntax (algorithm_tokens x h.1.text) h.0 h.1.spelled;
-      })
+      let h = unrefused_holds x (checked_is_spelled forced x right) in (
+        h.0,
+        record {
+          text = h.1.text;
+          is_text = h.1.is_text;
+          tokens = algorithm_tokens x h.1.text;
+          tok = has_tokens x h.1.text splits h.1.is_text;
+          spelled = in_one h.1.syntax (algorithm_tokens x h.1.text) h.0 h.1.spelled;
+        },
+      )
 
   module _ (g : Algorithm) (s : Stands x g) where
     own_tokens : algorithm_tokens x s.text ≡ s.tokens

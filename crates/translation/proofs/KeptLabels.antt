@@ -1,13 +1,13 @@
 -- With labels added, and with macro calls written out, nothing is primed where nothing was.
-use Rattle.std.proofs.Common.{◌≡◌, List, [], ◌∷◌, reverse, Bool, true, false, ◌||◌, ◌&&◌, cond, bytes_eq, codes, Option, Some, None, refl}
+use Rattle.std.proofs.Common.{◌≡◌, List, [], ◌∷◌, reverse, Bool, true, false, ◌||◌, ◌&&◌, cond, codes, Option, Some, None, refl}
 use Rattle.std.specs.List.{AllByRecursion}
 use Rattle.tla_token.specs.declared.place.Place.{Place}
 use Rattle.tla_token.specs.declared.rule.Rule.TheVariants.{FirstLabel}
-use Rattle.tla_tree.specs.Tree.{Word, Name, Form, name, next, Tree, node, Trees, no_trees, tree, Graft, grafted_name, grafted_node, graft, grafts}
+use Rattle.tla_tree.specs.Tree.{Word, Form, name, next, Tree, node, Trees, no_trees, tree, Graft, grafted_name, grafted_node, graft, grafts}
 use Rattle.tla_value.specs.laws.Grafting.{IsUnprimed}
 use Rattle.pcal_tree.specs.Algorithm.{Span, Assignments, no_assignments, assignment, Binds, no_binds, one_of, is, Statement, assign, await, print, assert, skip, branch, either, with, while, goto, macro, call, return, Statements, done, then, mark, Branches, no_branches, or, Macro, Procedure, Process, Main, alone, processes, Algorithm}
-use Rattle.pcal_tree.specs.Expand.{placed_at, graft_left, graft_assignments, graft_binds, graft_one, graft_all, graft_some, followed_by, Writing, expand_one, expand, expand_some, written_out, expanded}
-use Rattle.pcal_tree.specs.Run.{partner_of, arguments}
+use Rattle.pcal_tree.specs.Expand.{placed_at, graft_left, graft_assignments, graft_binds, graft_one, graft_all, graft_some, followed_by, Writing, expand_one, expand, expand_some}
+use Rattle.pcal_tree.specs.Run.{partner_of}
 use Rattle.pcal_tree.specs.Paths.{Effect, Effects, nothing, after_one}
 use Rattle.pcal_tree.specs.OffencesSteps.{Before, at_label, at_first, inside, call_effect, procedure_effects, outer_effects}
 use Rattle.pcal_tree.specs.OffencesSteps as steps

@@ -1,5 +1,5 @@
 -- An expression that is spelled by tokens of which none is a prime has no primed name in it.
-use Rattle.std.proofs.Common.{ℕ, true, false, List, ◌∷◌}
+use Rattle.std.proofs.Common.{true, false, List}
 use Rattle.tla_token.specs.declared.place.Place.{Place}
 use Rattle.tla_tree.specs.declared.op.Op.{Op}
 use Rattle.tla_tree.specs.declared.op.Op.TheVariants as op

@@ -1,5 +1,5 @@
 -- In an accepted algorithm nothing is primed: in no step with its macro calls written out, in no initial value of a procedure, and in no definition in sight of its module.
-use Rattle.std.proofs.Common.{◌≡◌, ℕ, suc, List, [], ◌∷◌, ◌++◌, map, reverse, Bool, true, false, ◌&&◌, ◌||◌, not, nat_le, cond, bytes_eq, ◌⊎◌, inl, inr, Option, Some, None, refl, sym, subst}
+use Rattle.std.proofs.Common.{◌≡◌, ℕ, suc, List, [], ◌∷◌, ◌++◌, map, reverse, Bool, true, false, ◌&&◌, not, nat_le, cond, bytes_eq, ◌⊎◌, inl, inr, Some, refl, sym, subst}
 use Rattle.std.specs.List.{flat_map, AllByRecursion}
 use Rattle.std.proofs.lemmas.Bool.{and_parts}
 use Rattle.std.proofs.lemmas.Option.{same_Some, none-some}
@@ -26,20 +26,18 @@ use Rattle.module_tree.specs.laws.Outsides.{HasOutside}
 use Rattle.pcal_tree.specs.Algorithm.{Start, unset, equals, among, Declaration, Assignments, no_assignments, assignment, Binds, no_binds, one_of, is, Statement, assign, await, print, assert, skip, branch, either, with, while, goto, macro, call, return, Statements, done, then, mark, Branches, no_branches, or, Definition, Macro, Procedure, Process, Main, alone, processes, Routine, procedure_routine, process_routine, numbered, first_procedure, first_process, procedure_routines, main_routines, routines, locals, Algorithm}
 use Rattle.pcal_tree.specs.Expand.{graft_all, written_out, expanded}
 use Rattle.pcal_tree.specs.Algorithm as algorithm
-use Rattle.pcal_tree.specs.OffencesRebind.{in_scope, standing_inside, macro_rebinds}
+use Rattle.pcal_tree.specs.OffencesRebind.{macro_rebinds}
 use Rattle.pcal_tree.specs.Processes.{OneOf}
 use Rattle.pcal_tree.specs.Program.{inner}
 use Rattle.pcal_tree.specs.Programs.{program_in}
 use Rattle.pcal_tree.specs.Run.{unlabelled, arguments}
 use Rattle.pcal_tree.specs.StepStart.{Begin, at_label}
 use Rattle.pcal_tree.specs.Takers.{each_of, single, takers_of}
-use Rattle.pcal_tree.specs.Variables.{declared}
 use Rattle.pcal_tree.specs.laws.Expansion.{ThroughoutAssignments, ThroughoutBinds, ThroughoutOne, Throughout, ThroughoutSome}
-use Rattle.pcal_tree.proofs.NothingCaptured.{Free, BindsFree, written_bare}
+use Rattle.pcal_tree.proofs.NothingCaptured.{written_bare}
 use Rattle.pcal_tree.proofs.RoutineNames.{one_either}
-use Rattle.action_builder.specs.ProcessSets.{set_of_takers, union_from, union, sets_of_processes, process_set_of}
+use Rattle.action_builder.specs.ProcessSets.{set_of_takers, union_from, sets_of_processes, process_set_of}
 use Rattle.action_builder.specs.laws.StepsOfLabels.{AllUnprimed}
-use Rattle.action_builder.specs.laws.WrittenScope as scope
 use Rattle.module_tree.specs.ModuleTruth.{process_set_defined}
 use Rattle.translation.specs.laws.AcceptedAlgorithm.{IsAcceptedInFile}
 use Rattle.translation.specs.laws.KeptUnprimed.{Unprimed, AreUnprimed, SidesUnprimed, BindsUnprimed, OneUnprimed, BodyUnprimed, SomeUnprimed, MacroUnprimed, InitialUnprimed, DeclaredUnprimed, ProcedureUnprimed, ProcessUnprimed, MainUnprimed, AlgorithmUnprimed}

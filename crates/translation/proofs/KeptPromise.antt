@@ -26,66 +26,52 @@ use Rattle.file_answer.specs.Checking.{AnswersChecking}
 use Rattle.file_answer.proofs.OneTree.{one_stands}
 use Rattle.action_builder.specs.WrittenNames.{with_names}
 use Rattle.translation.specs.PromiseWhole.{WrittenWhole}
-use Rattle.translation.specs.Region.{region_of, written_region}
+use Rattle.translation.specs.Region.{written_region}
 use Rattle.translation.specs.laws.AcceptedAlgorithm.{IsAcceptedInFile}
-use Rattle.translation.specs.laws.FreshReads.{readable}
-use Rattle.translation.specs.laws.LeftToProve.{NextOfRegionLaw}
 use Rattle.translation.proofs.AcceptedAlgorithms.{text_writable}
-use Rattle.translation.proofs.InitOfRegion.{init_of_region_law}
 use Rattle.translation.proofs.KeptAccepted.{checked_is_fine, some_stands, stands_in_file}
-use Rattle.translation.proofs.KeptPrimes.{nothing_primed}
-use Rattle.translation.proofs.NextLaw.{next_where_ready}
+use Rattle.translation.proofs.NextLaw.{kept_law}
 use Rattle.translation.proofs.NoPlaces.{variables_bare}
-use Rattle.translation.proofs.PromiseKept.{promise_kept}
-use Rattle.translation.proofs.ReadyAccepted.{ready_law}
 use Rattle.translation.proofs.RegionPlaced.{region_placed}
 use Rattle.translation.proofs.SameProgram.{same_program}
 use Rattle.translation.proofs.WritableRegions.{written_is_region}
 
-module _ (next_law : NextOfRegionLaw IsAcceptedInFile) where
-  -- an accepted algorithm of a file that is written so
-  module _ (b : Bool) (x w : Text) (o : Outside) (g : Algorithm) (accepted : IsAcceptedInFile o g) (k : IsWritten x w o (written_region b o g)) where
-    abbrev m : Module
-    m = k.is.written
+-- an accepted algorithm of a file that is written so
+module _ (b : Bool) (x w : Text) (o : Outside) (g : Algorithm) (accepted : IsAcceptedInFile o g) (k : IsWritten x w o (written_region b o g)) where
+  abbrev m : Module
+  m = k.is.written
 
-    same : region_placeless m.region ≡ region_placeless (written_region b o g)
-    same = ap region_placeless k.is.region ∙ k.same
+  same : region_placeless m.region ≡ region_placeless (written_region b o g)
+  same = ap region_placeless k.is.region ∙ k.same
 
-    own_vars : vars (with_names o g) ≡ variables_of g m
-    own_vars = ap vars (same_program o g m k.is.outside no_state)
+  own_vars : vars (with_names o g) ≡ variables_of g m
+  own_vars = ap vars (same_program o g m k.is.outside no_state)
 
-    pub kept_in_module : Translates b x g w
-    kept_in_module = record {
-      module_of = m;
-      around = k.around;
-      reads = k.is.reads;
-      only = k.only;
-      variables = ap (λ (r : Region). r.variables) same ∙ variables_bare o g ∙ own_vars;
-      vars = ap (λ (r : Region). r.vars) same ∙ variables_bare o g ∙ own_vars;
-      definitions = ap (λ (r : Region). r.definitions) (same ∙ sym (region_placed b o g));
-      next = (promise_kept IsAcceptedInFile next_law init_of_region_law region_placed b o g m accepted k.is.outside same).0;
-      init = (promise_kept IsAcceptedInFile next_law init_of_region_law region_placed b o g m accepted k.is.outside same).1;
-    }
-
-  pub promise_of_texts : (options : Options) (x w : Text) → AnswersChecking options.label x None → length x < past_text → WrittenWhole options x w → Headline options x w
-  promise_of_texts options x w right short whole =
-      let g = labelled options.label whole.algorithm in
-      let accepted = stands_in_file options.label x right whole.algorithm whole.stands whole.outside whole.has short in
-      let r = written_region options.no_terminating whole.outside g in
-      let is_region = written_is_region options.no_terminating whole.outside g (text_writable x whole.outside g accepted.accepted short whole.has) in
-      let k = written_file x w whole.outside r is_region (checked_is_fine options.label x right) whole.has whole.is in
-      record {
-        algorithm = whole.algorithm;
-        stands = whole.stands;
-        translates = kept_in_module options.no_terminating x w whole.outside g accepted k;
-      }
-
--- Next of each accepted algorithm's region is as the promise asks, since items can be written for each of its steps, as nothing in it is primed
-pub next_law_kept : NextOfRegionLaw IsAcceptedInFile
-next_law_kept = next_where_ready readable (ready_law nothing_primed)
+  pub kept_in_module : Translates b x g w
+  kept_in_module = record {
+    module_of = m;
+    around = k.around;
+    reads = k.is.reads;
+    only = k.only;
+    variables = ap (λ (r : Region). r.variables) same ∙ variables_bare o g ∙ own_vars;
+    vars = ap (λ (r : Region). r.vars) same ∙ variables_bare o g ∙ own_vars;
+    definitions = ap (λ (r : Region). r.definitions) (same ∙ sym (region_placed b o g));
+    next = (kept_law b o g m accepted k.is.outside same).0;
+    init = (kept_law b o g m accepted k.is.outside same).1;
+  }
 
 pub texts_keep_the_promise : (options : Options) (x w : Text) → AnswersChecking options.label x None → length x < past_text → WrittenWhole options x w → Headline options x w
-texts_keep_the_promise = promise_of_texts next_law_kept
+texts_keep_the_promise options x w right short whole =
+    let g = labelled options.label whole.algorithm in
+    let accepted = stands_in_file options.label x right whole.algorithm whole.stands whole.outside whole.has short in
+    let r = written_region options.no_terminating whole.outside g in
+    let is_region = written_is_region options.no_terminating whole.outside g (text_writable x whole.outside g accepted.accepted short whole.has) in
+    let k = written_file x w whole.outside r is_region (checked_is_fine options.label x right) whole.has whole.is in
+    record {
+      algorithm = whole.algorithm;
+      stands = whole.stands;
+      translates = kept_in_module options.no_terminating x w whole.outside g accepted k;
+    }
 
 -- ---- there is one such text
 

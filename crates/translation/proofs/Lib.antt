@@ -83,9 +83,9 @@ pub mod NextParts
 pub mod NextOfRegion
 pub mod NextClear
 pub mod NextSingle
-pub mod NextLaw
 pub mod NextTroubles
 pub mod NextFaults
+pub mod NextLaw
 pub mod InitScopes
 pub mod ProcedureStarts
 pub mod TidySteps

@@ -1,19 +1,17 @@
 -- With a file that has a procedure which calls itself nothing is wrong, by computation; so what is written for it is as the law on all texts has it.
-use Rattle.std.proofs.Common.{◌≡◌, ◌<◌, ℕ, length, List, [], ◌++◌, Bool, true, false, None, refl, sym, subst, arith}
+use Rattle.std.proofs.Common.{◌<◌, length, [], Bool, true, false, None, refl, sym, subst, arith}
 use Rattle.tla_token.specs.Limits.{past_text}
 use Rattle.tla_value.specs.Outside.{Outside}
 use Rattle.pcal_tree.specs.Algorithm.{Algorithm}
 use Rattle.pcal_tree.specs.Grammar.{algorithm_of, p_syntax}
 use Rattle.pcal_tree.specs.Labelled.{labelled}
 use Rattle.pcal_tree.specs.OpenForms.{opens}
-use Rattle.pcal_tree.specs.Placeless.{placeless}
 use Rattle.module_tree.specs.Layout.{layout}
 use Rattle.module_tree.specs.Walk.{walk}
 use Rattle.module_tree.specs.WithTranslation.{WithTranslation}
-use Rattle.module_tree.specs.laws.Outsides.{HasOutside}
 use Rattle.module_tree.proofs.SomeOutside.{one_outside_of}
 use Rattle.promise.specs.Headline.{Headline}
-use Rattle.promise.specs.Options.{Options, no_options}
+use Rattle.promise.specs.Options.{no_options}
 use Rattle.file_answer.specs.Checking.{OfTree, AnswersChecking}
 use Rattle.file_answer.specs.Holds.{HoldsTree}
 use Rattle.file_answer.specs.Refusals.{Wrong}
@@ -40,24 +38,23 @@ of_adder true = record { names = refl; labels = refl }
 of_adder false = record { names = refl; labels = refl }
 
 pub add_is_right : (forced : Bool) → AnswersChecking forced procedures.file None
-add_is_right forced =
-    (
-      nothing,
-      record {
-        spelling = record {
-          bytes = refl;
-          parts = refl;
-          algorithm = (refl, ([], opens add_text, (add_text, add_good, refl, refl), search), (adder, (add_text, add_good, refl, refl), refl));
-          names = refl;
-          labels = refl;
-        };
-        tree = λ g o h k.
-            subst (λ (g : Algorithm). OfTree nothing o (labelled forced g)) (one_held procedures.file adder g add_holds h)
-            (subst (λ (o : Outside). OfTree nothing o (labelled forced adder)) (one_outside_of (walk procedures.file) procedures.sequences o add_has k) (of_adder forced));
-        no_tree = λ n. absurd (n adder add_holds);
-      },
-      refl,
-    )
+add_is_right forced = (
+  nothing,
+  record {
+    spelling = record {
+      bytes = refl;
+      parts = refl;
+      algorithm = (refl, ([], opens add_text, (add_text, add_good, refl, refl), search), (adder, (add_text, add_good, refl, refl), refl));
+      names = refl;
+      labels = refl;
+    };
+    tree = λ g o h k.
+        subst (λ (g : Algorithm). OfTree nothing o (labelled forced g)) (one_held procedures.file adder g add_holds h)
+        (subst (λ (o : Outside). OfTree nothing o (labelled forced adder)) (one_outside_of (walk procedures.file) procedures.sequences o add_has k) (of_adder forced));
+    no_tree = λ n. absurd (n adder add_holds);
+  },
+  refl,
+)
 
 -- its translation, to the byte
 pub add_whole : WrittenWhole no_options procedures.file procedures.translated

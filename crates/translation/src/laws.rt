@@ -27,7 +27,7 @@ ghost use Rattle.tla_value.specs.Stops.{plain};
 ghost use Rattle.tla_value.specs.Definitions.{Valuation};
 ghost use Rattle.promise.specs.ConstantsAndStates.{program};
 ghost use Rattle.promise.specs.NextAndInit.{InitIs};
-ghost use Rattle.translation.specs.laws.LeftToProve.{extra_of, Stance, may_bind, callable_for, NamesApartLaw, NamesGivenLaw, PreparedLaw, PairsLaw, NextOfRegionLaw, InitOfRegionLaw, RegionPlaced, PromiseKept};
+ghost use Rattle.translation.specs.laws.LeftToProve.{extra_of, Stance, may_bind, callable_for, NamesApartLaw, NamesGivenLaw, PreparedLaw, PairsLaw, ReadyLaw, NextOfRegionLaw, InitOfRegionLaw, RegionPlaced, PromiseKept};
 ghost use Rattle.pcal_tree.specs.Variables.{declared, vars};
 ghost use Rattle.pcal_tree.specs.Labelled.{labelled};
 ghost use Rattle.module_tree.specs.Around.{Around};
@@ -66,6 +66,7 @@ ghost use Rattle.pcal_tree.specs.Step.{Stand};
 ghost use Rattle.translation.specs.laws.FreshReads.{readable};
 ghost use Rattle.translation.specs.laws.NothingPrimed.{NothingPrimed};
 ghost use Rattle.translation.specs.laws.PlacedStatements.{Placed};
+ghost use Rattle.translation.specs.laws.NextLaws.{SetFaultsAgree};
 ghost use Rattle.translation.specs.laws.StepsOnce.{none_set, SetsOnce, JumpsOnce};
 ghost use Rattle.translation.specs.laws.JumpsEnd.{JumpsEnd};
 ghost use Rattle.translation.specs.laws.TypedAlgorithm.{IsTypedAlgorithm};
@@ -211,19 +212,28 @@ pub fn init_is_true_of_the_initial_states()
         → WithTranslation x (layout (written_region no_terminating o a)) w → (m : Module) → Reads w m → InitIs a m }
 {}
 
+/// Next of what is written of an accepted algorithm, with the algorithm's own places, is true of two states exactly where some process steps from the
+/// first to the second, or all are done and nothing changes: for all constants, and all first states from which nothing is in trouble. Else it is false, and never a fault. So
+/// each module that a translated file is read as keeps the promise, of Init too. And where all processes are of sets, Next is a fault for some second state exactly if some
+/// process is in trouble in the first.
+pub fn next_is_true_of_the_steps()
+    ensures region { NextOfRegionLaw IsAcceptedInFile }
+    ensures kept { PromiseKept IsAcceptedInFile }
+    ensures faults { SetFaultsAgree IsAcceptedInFile }
+{}
+
 /// Where no rule on labels is broken, each loop is right after a label, a `return` is in a procedure, and no label is in a `with`, with macro calls written out.
 pub fn loops_follow_labels()
     ensures procedures { (a : Algorithm) → label_offences a ≡ [] → (u : Routine) → OneOf u (procedure_routines a) → Placed true false false (expanded (reverse a.macros) u.body) }
     ensures bodies { (a : Algorithm) → label_offences a ≡ [] → (u : Routine) → OneOf u (main_routines a a.main) → Placed false false false (expanded (reverse a.macros) u.body) }
 {}
 
-/// For each step of an accepted algorithm in which no name is primed items can be written, also for calls and returns: nothing is assigned twice, left sides are variables, and no definition is used after a variable that it reads was assigned. A name may be read there if it is no definition,
-/// or one that reads, itself or through others, none of the variables that are assigned already.
+/// For each step of an accepted algorithm items can be written, also for calls and returns: nothing is assigned twice, left sides are variables, and what is read may be read
+/// there. A name may be read where variables are assigned if it is no definition, or one that reads, itself or through others, none of them. And no name is primed: in no
+/// step, in no initial value of a procedure, and in no definition in sight.
 pub fn items_can_be_written_for_steps()
-    ensures { (o : Outside) (g : Algorithm) → IsAcceptedInFile o g → (values : Valuation) → NothingPrimed (program_in plain o g values) (extra_of g)
-        → (v : Actor) (d : Stand) → Stance (program_in plain o g values) v d
-        → IsReady (readable g) (vars (program_in plain o g values)) (pair_env (program_in plain o g values) (extra_of g) v) none
-        (step_of (program_in plain o g values) (extra_of g) v d (may_bind o (program_in plain o g values)) (callable_for (program_in plain o g values))) }
+    ensures ready { ReadyLaw IsAcceptedInFile readable }
+    ensures unprimed { (o : Outside) (g : Algorithm) → IsAcceptedInFile o g → (values : Valuation) → NothingPrimed (program_in plain o g values) (extra_of g) }
 {}
 
 /// For every text with which nothing is wrong there is one text that is written: it with the translation of its one algorithm, labels added where they are forced or there
