@@ -68,6 +68,8 @@ pub mod NextEnds
 pub mod NextHolds
 pub mod NextLabels
 pub mod NextTitles
+pub mod NextScopes
+pub mod NextOfRegion
 pub mod InitScopes
 pub mod ProcedureStarts
 pub mod TidySteps

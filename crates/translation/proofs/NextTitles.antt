@@ -24,34 +24,34 @@ use Rattle.pcal_tree.specs.Processes.{OneOf}
 use Rattle.pcal_tree.specs.Program.{Program}
 use Rattle.pcal_tree.specs.Programs.{program_in}
 use Rattle.pcal_tree.specs.Takers.{Taken, taken_process, taken_main}
+use Rattle.pcal_tree.specs.Variables.{vars}
 use Rattle.pcal_tree.specs.laws.Apart.{Apart, NoEndLabels}
 use Rattle.pcal_tree.proofs.ClearLabels.{both_none, clear_labels}
 use Rattle.pcal_tree.proofs.FreeNames.{given_apart}
 use Rattle.pcal_tree.proofs.RoutineNames.{every_one, one_each, one_either, label_wanted}
 use Rattle.pcal_tree.proofs.TroubleLaws.{one_left, one_right}
-use Rattle.action_builder.specs.LabelActions.{label_action, label_actions, own_action, routine_actions, main_actions, taken_procedures, actions}
-use Rattle.action_builder.specs.LabelActions as written
+use Rattle.action_builder.specs.LabelActions.{procedure_takers, label_action, label_actions, own_action, routine_actions, main_actions, taken_procedures, actions}
 use Rattle.action_builder.specs.laws.Jumps.{Unlike, AllUnlike}
 use Rattle.translation.specs.laws.AcceptedAlgorithm.{IsAcceptedInFile}
 use Rattle.translation.proofs.AcceptedNames.{no_offence}
 use Rattle.translation.proofs.NamesApart.{writable, false_among, never}
 use Rattle.translation.proofs.NamesOfRules.{rules_of_names}
 use Rattle.translation.proofs.NextFound.{OneTitle}
-use Rattle.translation.proofs.RoutinesNamed.{IsTitled, one_each_of, title_free, label_name_free}
+use Rattle.translation.proofs.RoutinesNamed.{one_each_of, all_wanted}
 use Rattle.translation.proofs.VariableNames.{each_to}
-use Rattle.translation.proofs.WrittenIdentifiers.{want_of, Looked, looked, one_given}
+use Rattle.translation.proofs.WrittenIdentifiers.{IsFree, given_identifiers, want_of, Looked, looked, one_given}
 
 -- ---- lists
 
 differs : (x y : Word) → (x ≡ y → ⊥) → bytes_eq x y ≡ false
 differs x y h = false_among (bytes_eq x y) (λ q. h ((bytes_eq-Decides x y).0 q))
 
-unmapped : {X Y : Type 0} (f : X → Y) (y : Y) (xs : List X) → OneOf y (map f xs) → (x : X) × OneOf x xs × (y ≡ f x)
+pub unmapped : {X Y : Type 0} (f : X → Y) (y : Y) (xs : List X) → OneOf y (map f xs) → (x : X) × OneOf x xs × (y ≡ f x)
 unmapped f y [] h = absurd h
 unmapped f y (x ∷ xs) (inl e) = (x, inl refl, e)
 unmapped f y (x ∷ xs) (inr k) = (let h = unmapped f y xs k in (h.0, inr h.1, h.2))
 
-unflat : {X Y : Type 0} (f : X → List Y) (y : Y) (xs : List X) → OneOf y (flat_map f xs) → (x : X) × OneOf x xs × OneOf y (f x)
+pub unflat : {X Y : Type 0} (f : X → List Y) (y : Y) (xs : List X) → OneOf y (flat_map f xs) → (x : X) × OneOf x xs × OneOf y (f x)
 unflat f y [] h = absurd h
 unflat {X = X} f y (x ∷ xs) h = by (unflat f y xs) (one_either y (f x) (flat_map f xs) h)
   where
@@ -302,3 +302,109 @@ module _ (o : Outside) (a : Algorithm) (h : IsAcceptedInFile o a) (values : Valu
       let (r, i, j) = unflat F b rs m in
       let (q, x, y) = unflat G c qs n in
       other_units r q b c ((h r i).of b j) ((k q x).of c y) (d r q i x) e
+
+  number_before : (u w : Routine) → OneOf u (procedure_routines a) → (m : Main) → OneOf w (main_routines a m) → u.number ≡ w.number → ⊥
+  number_before u w k (alone ss) (inl e) q =
+      let i = within procedure_routine (λ (u : Routine). u.number) (λ n x. refl) (first_procedure a) a.procedures u k in
+      let z : w.number ≡ first_process a = ap (λ (v : Routine). v.number) e in
+      absurd (omega (arith, i.1, z, q))
+  number_before u w k (alone ss) (inr l) q = absurd l
+  number_before u w k (processes ps) l q =
+      let i = within procedure_routine (λ (u : Routine). u.number) (λ n x. refl) (first_procedure a) a.procedures u k in
+      let j = within process_routine (λ (u : Routine). u.number) (λ n x. refl) (first_process a) ps w l in
+      absurd (omega (arith, i.1, j.0, q))
+
+  -- the routines of those that are taken
+  taken_numbered : (n : ℕ) (ps : List Process) (r : Taken) → OneOf r (numbered taken_process n ps) → OneOf r.routine (numbered process_routine n ps)
+  taken_numbered n [] r k = absurd k
+  taken_numbered n (p ∷ ps) r (inl e) = inl (ap (λ (z : Taken). z.routine) e)
+  taken_numbered n (p ∷ ps) r (inr k) = inr (taken_numbered (suc n) ps r k)
+
+  main_routine : (m : Main) (r : Taken) → OneOf r (taken_main a m) → OneOf r.routine (main_routines a m)
+  main_routine (alone ss) r (inl e) = inl (ap (λ (z : Taken). z.routine) e)
+  main_routine (alone ss) r (inr k) = absurd k
+  main_routine (processes ps) r k = taken_numbered (first_process a) ps r k
+
+  procedure_routine_of : (r : Taken) → OneOf r (taken_procedures a) → OneOf r.routine (procedure_routines a)
+  procedure_routine_of r k =
+      let (u, m, e) = unmapped (λ (u : Routine). record { takers = procedure_takers a.main; routine = u }) r (procedure_routines a) k in
+      subst (λ (z : Taken). OneOf z.routine (procedure_routines a)) (sym e) m
+
+  procedures_make : (r : Taken) → OneOf r (taken_procedures a) → Makes (routine_actions P) r
+  procedures_make r k =
+      let m = procedure_routine_of r k in
+      let in_all = one_left r.routine (procedure_routines a) (main_routines a a.main) m in
+      let wanted_it = one_left (want_of r.routine.number title r.routine.name.word) (flat_map wanted_by (procedure_routines a)) (wanted_by_main a a.main) (one_each wanted_by r.routine (want_of r.routine.number title r.routine.name.word) (procedure_routines a) m (inl refl)) in
+      record { once = routine_apart r in_all wanted_it; of = routine_of r in_all wanted_it }
+
+  abbrev made_by_main : Main → Taken → List Action
+  made_by_main (alone ss) = label_actions P
+  made_by_main (processes ps) = routine_actions P
+
+  mains_make : (m : Main) → a.main ≡ m → (r : Taken) → OneOf r (taken_main a m) → Makes (made_by_main m) r
+  mains_make (alone ss) e r k =
+      let in_all = one_right r.routine (procedure_routines a) (main_routines a a.main) (subst (λ n. OneOf r.routine (main_routines a n)) (sym e) (main_routine (alone ss) r k)) in
+      record { once = labels_apart_all r in_all; of = λ b m. (label, label_of r in_all b m) }
+  mains_make (processes ps) e r k =
+      let m = main_routine (processes ps) r k in
+      let in_all = one_right r.routine (procedure_routines a) (main_routines a a.main) (subst (λ n. OneOf r.routine (main_routines a n)) (sym e) m) in
+      let wanted_it = one_right (want_of r.routine.number title r.routine.name.word) (flat_map wanted_by (procedure_routines a)) (wanted_by_main a a.main)
+      (subst (λ n. OneOf (want_of r.routine.number title r.routine.name.word) (wanted_by_main a n)) (sym e) (one_each wanted_by r.routine (want_of r.routine.number title r.routine.name.word) (main_routines a (processes ps)) m (inl refl))) in
+      record { once = routine_apart r in_all wanted_it; of = routine_of r in_all wanted_it }
+
+  main_numbers : (m : Main) → Once number (taken_main a m)
+  main_numbers (alone ss) = ((λ q k e. absurd k), tt)
+  main_numbers (processes ps) = numbered_once taken_process number (λ n x. refl) (first_process a) ps
+
+  procedure_numbers : Once number (taken_procedures a)
+  procedure_numbers =
+      mapped_once (λ (u : Routine). record { takers = procedure_takers a.main; routine = u }) number (procedure_routines a)
+      (numbered_once procedure_routine (λ (u : Routine). u.number) (λ n x. refl) (first_procedure a) a.procedures)
+
+  abbrev all_of : Main → List Action
+  all_of m = flat_map (routine_actions P) (taken_procedures a) ++ flat_map (made_by_main m) (taken_main a m)
+
+  all_once : (m : Main) → a.main ≡ m → OneTitle (all_of m)
+  all_once m e =
+      one_title_both (flat_map (routine_actions P) (taken_procedures a)) (flat_map (made_by_main m) (taken_main a m))
+      (flat_apart (routine_actions P) (taken_procedures a) procedure_numbers procedures_make) (flat_apart (made_by_main m) (taken_main a m) (main_numbers m) (mains_make m e))
+      (flat_apart_from (routine_actions P) (made_by_main m) (taken_procedures a) (taken_main a m) procedures_make (mains_make m e)
+      (λ r q k l d. number_before r.routine q.routine (procedure_routine_of r k) m (main_routine m q l) d))
+
+  all_named : (m : Main) → a.main ≡ m → (b : Action) → OneOf b (all_of m) → (r : Taken) × NamedOf r b
+  all_named m e b k = by (one_either b (flat_map (routine_actions P) (taken_procedures a)) (flat_map (made_by_main m) (taken_main a m)) k)
+    where
+      by : OneOf b (flat_map (routine_actions P) (taken_procedures a)) ⊎ OneOf b (flat_map (made_by_main m) (taken_main a m)) → (r : Taken) × NamedOf r b
+      by (inl n) = (let (r, i, j) = unflat (routine_actions P) b (taken_procedures a) n in (r, (procedures_make r i).of b j))
+      by (inr n) = (let (r, i, j) = unflat (made_by_main m) b (taken_main a m) n in (r, (mains_make m e r i).of b j))
+
+  -- ---- and Terminating
+
+  all_free : AllByRecursion (λ g. IsFree g.written) (given a o)
+  all_free = given_identifiers o.extended (taken_at_start a o) (wanted a) (writable o a h).few (all_wanted o a (writable o a h))
+
+  not_terminating : (b : Action) → (r : Taken) × NamedOf r b → b.title ≡ codes "Terminating" → ⊥
+  not_terminating b (r, (x, k)) e = never (ap is_own (sym e ∙ k.is) ∙ (every_one (λ g. IsFree g.written) k.found (given a o) all_free k.listed).1)
+
+  no_terminating_name : (m : Main) → a.main ≡ m → (e : Option Tree) → Different (all_of m) (terminating (vars P) e)
+  no_terminating_name m q None b c i j d = absurd j
+  no_terminating_name m q (Some e) b c i (inr j) d = absurd j
+  no_terminating_name m q (Some e) b c i (inl j) d =
+      not_terminating b (all_named m q b i) (d ∙ ap (λ (z : Action). z.title) j)
+
+  terminating_once : (e : Option Tree) → OneTitle (terminating (vars P) e)
+  terminating_once None = tt
+  terminating_once (Some e) = (tt, tt)
+
+  abbrev pub all_actions : Main → Option Tree → List Action
+  all_actions m e = (flat_map (routine_actions P) (taken_procedures a) ++ main_actions P m) ++ terminating (vars P) e
+
+  main_made : (m : Main) → main_actions P m ≡ flat_map (made_by_main m) (taken_main a m)
+  main_made (alone ss) = refl
+  main_made (processes ps) = refl
+
+  -- no two actions have one name
+  pub titles_once : (m : Main) → a.main ≡ m → (e : Option Tree) → OneTitle (all_actions m e)
+  titles_once m q e =
+      subst (λ us. OneTitle ((flat_map (routine_actions P) (taken_procedures a) ++ us) ++ terminating (vars P) e)) (sym (main_made m))
+      (one_title_both (all_of m) (terminating (vars P) e) (all_once m q) (terminating_once e) (no_terminating_name m q e))
