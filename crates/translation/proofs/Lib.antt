@@ -78,3 +78,4 @@ pub mod PreparedSteps
 pub mod RowsAccepted
 pub mod InitNames
 pub mod InitSets
+pub mod ActionTrue
