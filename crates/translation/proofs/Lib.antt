@@ -79,3 +79,4 @@ pub mod RowsAccepted
 pub mod InitNames
 pub mod InitSets
 pub mod ActionTrue
+pub mod ActionSets
