@@ -57,7 +57,7 @@ module _ (b : Bool) (title : Word) (o : Outside) (g : Algorithm) (h : IsAccepted
   module _ (k : AreConstants first values) where
     -- ---- a name of the translation
 
-    own_untitled : (x : Word) → is_own x ≡ true → Untitled x (definitions_of P)
+    pub own_untitled : (x : Word) → is_own x ≡ true → Untitled x (definitions_of P)
     own_untitled x e =
         untitled_joined x (found o.definitions) (map inner g.definitions)
         (untitled_mapped x (λ (d : ReadDefinition). d.definition) o.definitions (λ d m. turned x d.definition.title (own_differs x d.definition.title e (not_own o d.definition.title ((free o g h).read d m)))))

@@ -80,3 +80,4 @@ pub mod InitNames
 pub mod InitSets
 pub mod ActionTrue
 pub mod ActionSets
+pub mod FairTests
