@@ -81,3 +81,5 @@ pub mod InitSets
 pub mod ActionTrue
 pub mod ActionSets
 pub mod FairTests
+pub mod FairLabels
+pub mod FairTrue
