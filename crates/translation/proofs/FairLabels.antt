@@ -7,8 +7,9 @@ use Rattle.pcal_tree.specs.declared.mark.Mark.{Mark}
 use Rattle.pcal_tree.specs.declared.mark.Mark.TheVariants.{Plain, Strong, LeftOut}
 use Rattle.pcal_tree.specs.Algorithm.{Statement, branch, either, with, while, Statements, done, then, mark, Branches, no_branches, or}
 use Rattle.pcal_tree.specs.OffencesLabels.{label_words}
+use Rattle.pcal_tree.specs.Processes.{OneOf}
 use Rattle.pcal_tree.proofs.BodyLabels.{labels_in, labels, labels_of, same_labels}
-use Rattle.fairness.specs.MarkedLabels.{Marked, marked_in, marked, marked_some, if_left_out, unless_left_out, left_out_labels, kept_labels}
+use Rattle.fairness.specs.MarkedLabels.{Marked, marked_in, marked, marked_some, if_left_out, unless_left_out, if_strong, left_out_labels, kept_labels, strong_labels}
 use Rattle.fairness.specs.laws.LinesOfObligations.{SharedOut}
 
 mutual
@@ -52,3 +53,19 @@ shared_as f (m ∷ ms) = by m.mark (shared_as f ms)
 
 pub labels_shared : (f : Word → Word) (b : Statements) → SharedOut (map f (label_words b)) (map f (kept_labels b)) (map f (left_out_labels b))
 labels_shared f b = subst (λ ls. SharedOut (map f ls) (map f (kept_labels b)) (map f (left_out_labels b))) (same_words b) (shared_as f (marked b))
+
+-- ---- of a label that is marked
+
+strong_among : (l : Word) (ms : List Marked) → OneOf l (flat_map (λ m. if_strong m.label m.mark) ms) → OneOf l (map (λ m. m.label) ms)
+strong_among l [] h = h
+strong_among l (m ∷ ms) h = by m.mark (strong_among l ms) h
+  where
+    by : (k : Mark) → (OneOf l (flat_map (λ m. if_strong m.label m.mark) ms) → OneOf l (map (λ m. m.label) ms))
+        → OneOf l (if_strong m.label k ++ flat_map (λ m. if_strong m.label m.mark) ms) → OneOf l (m.label ∷ map (λ m. m.label) ms)
+    by Plain ih h = inr (ih h)
+    by LeftOut ih h = inr (ih h)
+    by Strong ih (inl e) = inl e
+    by Strong ih (inr h) = inr (ih h)
+
+pub strong_is_label : (l : Word) (b : Statements) → OneOf l (strong_labels b) → OneOf l (label_words b)
+strong_is_label l b h = subst (OneOf l) (same_words b) (strong_among l (marked b) h)

@@ -83,3 +83,4 @@ pub mod ActionSets
 pub mod FairTests
 pub mod FairLabels
 pub mod FairTrue
+pub mod FairAll
