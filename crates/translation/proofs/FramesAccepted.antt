@@ -109,11 +109,11 @@ defs_passed : (c : Check) (d : Definition) (ps : List Word) (env : Env) (x : Wor
 defs_passed c d [] env x e = refl
 defs_passed c d (p ∷ ps) env x e = ap (λ (b : Bool). cond b (Some (λ at vs. body_sense c d (with_arguments (p ∷ ps) vs env) at)) (env.defs x)) e
 
-defs_through : (c : Check) (ds : List Definition) (env : Env) (x : Word) → Untitled x ds → (with_definitions c ds env).defs x ≡ env.defs x
+pub defs_through : (c : Check) (ds : List Definition) (env : Env) (x : Word) → Untitled x ds → (with_definitions c ds env).defs x ≡ env.defs x
 defs_through c [] env x h = refl
 defs_through c (d ∷ ds) env x h = defs_through c ds (defined c d d.params env) x h.1 ∙ defs_passed c d d.params env x h.0
 
-bound_defs : (w : Option Value) (e : Env) (x : Word) → (self_bound w e).defs x ≡ e.defs x
+pub bound_defs : (w : Option Value) (e : Env) (x : Word) → (self_bound w e).defs x ≡ e.defs x
 bound_defs (Some w) e x = refl
 bound_defs None e x = refl
 
@@ -242,7 +242,7 @@ module _ (o : Outside) (a : Algorithm) (h : IsAcceptedInFile o a) (values : Valu
     titled_other : (x : Word) → (is_own x || is_standard o.extended x) ≡ true → (t : Word) → Unreserved o t → bytes_eq t x ≡ false
     titled_other x e t u = false_among (bytes_eq t x) (λ q. never (sym e ∙ ap (λ w. is_own w || is_standard o.extended w) (sym ((bytes_eq-Decides t x).0 q)) ∙ u))
 
-    untitled : (x : Word) → (is_own x || is_standard o.extended x) ≡ true → bytes_eq (codes "ProcSet") x ≡ false → Untitled x (definitions_of P ++ extra_of a)
+    pub untitled : (x : Word) → (is_own x || is_standard o.extended x) ≡ true → bytes_eq (codes "ProcSet") x ≡ false → Untitled x (definitions_of P ++ extra_of a)
     untitled x e p =
         untitled_joined x (definitions_of P) (extra_of a)
         (untitled_joined x (found o.definitions) (map inner a.definitions)

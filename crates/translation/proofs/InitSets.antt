@@ -54,11 +54,11 @@ pub bound_ok : {X Y : Type 0} (o : Outcome X) (go : X → Outcome Y) (y : Y) →
 bound_ok (Ok x) go y e = (x, refl, e)
 bound_ok (Err k) go y e = cc
 
-untitled_joined : (x : Word) (ds es : List Definition) → Untitled x ds → Untitled x es → Untitled x (ds ++ es)
+pub untitled_joined : (x : Word) (ds es : List Definition) → Untitled x ds → Untitled x es → Untitled x (ds ++ es)
 untitled_joined x [] es h k = k
 untitled_joined x (d ∷ ds) es h k = (h.0, untitled_joined x ds es h.1 k)
 
-untitled_mapped : {X : Type 0} (x : Word) (f : X → Definition) (xs : List X) → ((y : X) → OneOf y xs → bytes_eq (f y).title x ≡ false) → Untitled x (map f xs)
+pub untitled_mapped : {X : Type 0} (x : Word) (f : X → Definition) (xs : List X) → ((y : X) → OneOf y xs → bytes_eq (f y).title x ≡ false) → Untitled x (map f xs)
 untitled_mapped x f [] h = tt
 untitled_mapped x f (y ∷ ys) h = (h y (inl refl), untitled_mapped x f ys (λ z k. h z (inr k)))
 
@@ -114,8 +114,8 @@ module _ (o : Outside) (a : Algorithm) (h : IsAcceptedInFile o a) (title : Word)
   variable_alone x e =
       let q = outer o a h values x e in (
         k.no_other x
-        (λ i. each_name (λ y. bytes_eq (codes "defaultInitValue") y ≡ false) (vars P) unset_differs x e i
-        || false_among (is_among (words o.constants) x) (λ m. never (sym (among_before (words o.constants) _ x m) ∙ q.unit)) i),
+            (λ i. each_name (λ y. bytes_eq (codes "defaultInitValue") y ≡ false) (vars P) unset_differs x e i
+            || false_among (is_among (words o.constants) x) (λ m. never (sym (among_before (words o.constants) _ x m) ∙ q.unit)) i),
         not_the (codes "Nat") x refl q.standard,
         not_the (codes "Int") x refl q.standard,
       )
@@ -273,14 +273,26 @@ module _ (o : Outside) (a : Algorithm) (h : IsAcceptedInFile o a) (title : Word)
     pub distinct : Distinct all
     pub ordered : ws ≡ sorted all
 
-  pub running_all : (ps : List Process) (ws : List Actor) → a.main ≡ processes ps → actors P ≡ Ok ws → Running ps ws
-  running_all ps ws e q =
-      let n = last_place a.name.place ps in
-      let (vs, d, f) = bound_ok (all_actors P (first_process a) ps) (λ vs. apart [] vs >>= (λ us. united P n us >>= (λ ts. Ok (sorted ts)))) ws (sym (ap (actors_in P) e) ∙ q) in
-      let (us, g, i) = bound_ok (apart [] vs) (λ us. united P n us >>= (λ ts. Ok (sorted ts))) ws f in
-      let (ts, j, l) = bound_ok (united P n us) (λ ts. Ok (sorted ts)) ws i in
+  -- what the list of all processes is made of
+  made_of : (n : Place) (vs us ts ws : List Actor) → apart [] vs ≡ Ok us → united P n us ≡ Ok ts → sorted ts ≡ ws → Distinct vs × (ws ≡ sorted vs)
+  made_of n vs us ts ws g j l =
       let away = apart_gives [] vs us g in
-      record { all = vs; given = d; distinct = away.1; ordered = sym (ok_is {x = sorted ts} {y = ws} l) ∙ ap sorted (sym (ok_is {x = us} {y = ts} j) ∙ away.0) }
+      (away.1, sym l ∙ ap sorted (sym (ok_is j) ∙ away.0))
+
+  pub running_all : (ps : List Process) (ws : List Actor) → a.main ≡ processes ps → actors P ≡ Ok ws → Running ps ws
+  running_all ps ws e q = by_all (all_actors P (first_process a) ps) refl (sym (ap (actors_in P) e) ∙ q)
+    where
+      by_union : (vs us : List Actor) → all_actors P (first_process a) ps ≡ Ok vs → apart [] vs ≡ Ok us → (x : Outcome (List Actor)) → united P (last_place a.name.place ps) us ≡ x → (x >>= (λ ts. Ok (sorted ts))) ≡ Ok ws → Running ps ws
+      by_union vs us d g (Ok ts) j l = (let m = made_of (last_place a.name.place ps) vs us ts ws g j (ok_is l) in record { all = vs; given = d; distinct = m.0; ordered = m.1 })
+      by_union vs us d g (Err z) j l = cc
+
+      by_apart : (vs : List Actor) → all_actors P (first_process a) ps ≡ Ok vs → (x : Outcome (List Actor)) → apart [] vs ≡ x → (x >>= (λ us. united P (last_place a.name.place ps) us >>= (λ ts. Ok (sorted ts)))) ≡ Ok ws → Running ps ws
+      by_apart vs d (Ok us) g l = by_union vs us d g (united P (last_place a.name.place ps) us) refl l
+      by_apart vs d (Err z) g l = cc
+
+      by_all : (x : Outcome (List Actor)) → all_actors P (first_process a) ps ≡ x → (x >>= (λ vs. apart [] vs >>= (λ us. united P (last_place a.name.place ps) us >>= (λ ts. Ok (sorted ts))))) ≡ Ok ws → Running ps ws
+      by_all (Ok vs) d l = by_apart vs d (apart [] vs) refl l
+      by_all (Err z) d l = cc
 
   pub process_set_gives : (s : State) (ps : List Process) (ws : List Actor) → a.main ≡ processes ps → Running ps ws → (eval plain process_set (E s)).value ≡ Ok (set (ids ws))
   process_set_gives s ps ws e g =

@@ -210,7 +210,7 @@ module _ (o : Outside) (a : Algorithm) (h : IsAcceptedInFile o a) (values : Valu
       by false true e = cc
       by false false e = refl
 
-  clear : NoEndLabels a
+  pub clear : NoEndLabels a
   clear = clear_labels a o (rules_of_names a o h.accepted.names).3
 
   no_end : (u : Routine) → OneOf u (routines a) → (l : Word) → OneOf l (label_words u.body) → is_among (codes "Done" ∷ codes "Error" ∷ []) l ≡ false
@@ -320,7 +320,7 @@ module _ (o : Outside) (a : Algorithm) (h : IsAcceptedInFile o a) (values : Valu
   taken_numbered n (p ∷ ps) r (inl e) = inl (ap (λ (z : Taken). z.routine) e)
   taken_numbered n (p ∷ ps) r (inr k) = inr (taken_numbered (suc n) ps r k)
 
-  main_routine : (m : Main) (r : Taken) → OneOf r (taken_main a m) → OneOf r.routine (main_routines a m)
+  pub main_routine : (m : Main) (r : Taken) → OneOf r (taken_main a m) → OneOf r.routine (main_routines a m)
   main_routine (alone ss) r (inl e) = inl (ap (λ (z : Taken). z.routine) e)
   main_routine (alone ss) r (inr k) = absurd k
   main_routine (processes ps) r k = taken_numbered (first_process a) ps r k

@@ -87,13 +87,13 @@ each_two : (A B C : Word → Type 0) → ((x : Word) → A x → B x → C x) �
 each_two A B C f [] h k = tt
 each_two A B C f (x ∷ xs) h k = (f x h.0 k.0, each_two A B C f xs h.1 k.1)
 
-one_single : (ds : List Declaration) → AllSingle ds → (d : Declaration) → OneOf d ds → IsSingle d.start
+pub one_single : (ds : List Declaration) → AllSingle ds → (d : Declaration) → OneOf d ds → IsSingle d.start
 one_single [] h d k = absurd k
 one_single (e ∷ ds) h d (inl q) = subst (λ (c : Declaration). IsSingle c.start) (sym q) h.0
 one_single (e ∷ ds) h d (inr k) = one_single ds h.1 d k
 
 -- an expression as the whole of a body
-abbrev whole : Tree → Statements
+abbrev pub whole : Tree → Statements
 whole e = then no_span (await e) done
 
 -- ---- a procedure's declarations
@@ -122,7 +122,7 @@ module _ (o : Outside) (a : Algorithm) where
       (both_none (rebound_all o.extended (standing_inside a o) (names_of (p.params ++ p.variables))) _ (both_none (locals_rebind o.extended (p.params ++ p.variables) (standing_inside a o)) _ r.0).0).1
   procedures_again n (p ∷ ps) q u (inr k) = procedures_again (suc n) ps (both_none (procedure_rebinds o.extended a.procedures (macro_rebinds o.extended a.procedures (reverse a.macros)) (standing_inside a o) p) _ q).1 u k
 
-  declared_again : rebind_offences_of a o ≡ [] → (p : Routine) → OneOf p (procedure_routines a) → starts_rebind o.extended any_name (locals p) (naming (declared (locals p)) (standing_inside a o)) ≡ []
+  pub declared_again : rebind_offences_of a o ≡ [] → (p : Routine) → OneOf p (procedure_routines a) → starts_rebind o.extended any_name (locals p) (naming (declared (locals p)) (standing_inside a o)) ≡ []
   declared_again q p k =
       let i = both_none (starts_rebind o.extended any_name a.globals (standing_inside a o)) _ q in
       let j = both_none (definitions_rebind o.extended a.definitions (standing_outside a o)) _ i.1 in
@@ -135,7 +135,7 @@ module _ (o : Outside) (a : Algorithm) where
       subst (λ (w : Routine). AllIn N (lists_in_declared (locals w))) (sym e) (in_both N (lists_in_declared (p.params ++ p.variables)) (lists_in_body p.body) (in_both N (lists_in_procedure p) _ h).0).0
   procedures_bound N n (p ∷ ps) h u (inr k) = procedures_bound N (suc n) ps (in_both N (lists_in_procedure p) _ h).1 u k
 
-  declared_bound : (N : Word → Type 0) → AllIn N (bound_lists a) → (p : Routine) → OneOf p (procedure_routines a) → AllIn N (lists_in_declared (locals p))
+  pub declared_bound : (N : Word → Type 0) → AllIn N (bound_lists a) → (p : Routine) → OneOf p (procedure_routines a) → AllIn N (lists_in_declared (locals p))
   declared_bound N g p k =
       let i = in_both N (lists_in_declared a.globals) _ g in
       let j = in_both N (flat_map (λ (c : Definition). lists_in c.body) a.definitions) _ i.1 in

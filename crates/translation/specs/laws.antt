@@ -10,3 +10,7 @@ pub mod StepsOnce
 pub mod LeftToProve
 pub mod PlacedStatements
 pub mod StepParts
+pub mod FreshReads
+pub mod StepNames
+pub mod NextLaws
+pub mod NothingPrimed

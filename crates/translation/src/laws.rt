@@ -1,11 +1,11 @@
 //! Laws of the written module, stated as what functions without a body ensure.
 
-ghost use Rattle.std.specs.Prelude.{◌≡◌, ℕ, List, [], Bool, false, not, Some, map, reverse, length, ◌≤◌};
+ghost use Rattle.std.specs.Prelude.{◌≡◌, ℕ, List, [], Bool, true, false, not, Some, map, reverse, length, ◌≤◌};
 ghost use Rattle.tla_tree.specs.Tree.{Word};
 ghost use Rattle.tla_value.specs.Outside.{Outside};
 ghost use Rattle.module_tree.specs.Module.{test, item, Module};
 ghost use Rattle.module_tree.specs.Reading.{Reads};
-ghost use Rattle.pcal_tree.specs.Algorithm.{Statements, Routine, locals, procedure_routines, routines, Definition, Algorithm};
+ghost use Rattle.pcal_tree.specs.Algorithm.{Statements, Routine, locals, procedure_routines, main_routines, routines, Definition, Algorithm};
 ghost use Rattle.pcal_tree.specs.OffencesNames.{repeated_names};
 ghost use Rattle.pcal_tree.specs.OffencesReserved.{reserved_declared};
 ghost use Rattle.pcal_tree.specs.OffencesLabels.{label_words, label_offences};
@@ -26,7 +26,7 @@ ghost use Rattle.pcal_tree.specs.Programs.{program_in};
 ghost use Rattle.tla_value.specs.Stops.{plain};
 ghost use Rattle.tla_value.specs.Definitions.{Valuation};
 ghost use Rattle.promise.specs.ConstantsAndStates.{program};
-ghost use Rattle.translation.specs.laws.LeftToProve.{NamesApartLaw, NamesGivenLaw, PreparedLaw, PairsLaw, NextOfRegionLaw, InitOfRegionLaw, RegionPlaced, PromiseKept};
+ghost use Rattle.translation.specs.laws.LeftToProve.{extra_of, Stance, may_bind, callable_for, NamesApartLaw, NamesGivenLaw, PreparedLaw, PairsLaw, ReadyLaw, NextOfRegionLaw, InitOfRegionLaw, RegionPlaced, PromiseKept};
 ghost use Rattle.pcal_tree.specs.Variables.{declared, vars};
 ghost use Rattle.pcal_tree.specs.Labelled.{labelled};
 ghost use Rattle.module_tree.specs.Around.{Around};
@@ -37,8 +37,8 @@ ghost use Rattle.first_path.specs.Placed.{translation_of};
 ghost use Rattle.action_builder.specs.WrittenNames.{with_names};
 ghost use Rattle.action_builder.specs.LabelActions.{at_test, items_from};
 ghost use Rattle.action_builder.specs.laws.Settling.{Callable};
-ghost use Rattle.action_builder.specs.laws.LabelSteps.{action_of};
-ghost use Rattle.action_builder.specs.laws.StepsOfLabels.{PcStands};
+ghost use Rattle.action_builder.specs.laws.LabelSteps.{IsReady, action_of};
+ghost use Rattle.action_builder.specs.laws.StepsOfLabels.{step_of, pair_env, AllSettledFor, PcStands};
 ghost use Rattle.translation.specs.laws.ActionNames.{action_names};
 ghost use Rattle.translation.specs.laws.Steps.{written_step};
 ghost use Rattle.module_tree.specs.laws.Kept.{IsFine};
@@ -56,7 +56,13 @@ ghost use Rattle.pcal_tree.specs.Grammar.{Syntax, Spells};
 ghost use Rattle.pcal_tree.specs.OffencesOfNames.{name_offences};
 ghost use Rattle.pcal_tree.specs.Expand.{expanded};
 ghost use Rattle.action_builder.specs.Assigned.{Names};
-ghost use Rattle.action_builder.specs.laws.Ready.{Once};
+ghost use Rattle.action_builder.specs.laws.Ready.{Readable, Once};
+ghost use Rattle.action_builder.specs.Prepared.{none};
+ghost use Rattle.pcal_tree.specs.Step.{Stand};
+ghost use Rattle.translation.specs.laws.FreshReads.{readable};
+ghost use Rattle.translation.specs.laws.NothingPrimed.{NothingPrimed};
+ghost use Rattle.translation.specs.laws.PlacedStatements.{Placed};
+ghost use Rattle.translation.specs.laws.NextLaws.{SetFaultsAgree};
 ghost use Rattle.translation.specs.laws.StepsOnce.{none_set, SetsOnce, JumpsOnce};
 ghost use Rattle.translation.specs.laws.JumpsEnd.{JumpsEnd};
 ghost use Rattle.translation.specs.laws.TypedAlgorithm.{IsTypedAlgorithm};
@@ -191,4 +197,34 @@ pub fn jumps_of_accepted_algorithms_can_be_written()
 pub fn written_names_stand_for_the_names_of_routines()
     ensures apart { NamesApartLaw IsAcceptedInFile }
     ensures given { NamesGivenLaw IsAcceptedInFile }
+{}
+
+/// Init of what is written of an accepted algorithm, with the algorithm's own places, is true exactly of the initial states: for all constants that give the processes
+/// different identifiers, and all states from which no initial value is a fault. Else it is false, and never a fault.
+pub fn init_is_true_of_the_initial_states()
+    ensures { InitOfRegionLaw IsAcceptedInFile }
+{}
+
+/// Where items can be written for each step, Next of what is written of an accepted algorithm, with the algorithm's own places, is true of two states exactly where some
+/// process steps from the first to the second, or all are done and nothing changes: for all constants, and all first states from which nothing is in trouble. Else it is
+/// false, and never a fault. And where all processes are of sets, it is a fault for some second state exactly if some process is in trouble in the first.
+pub fn next_is_true_of_the_steps()
+    ensures region { (U : Algorithm → Readable) → ReadyLaw IsAcceptedInFile U → NextOfRegionLaw IsAcceptedInFile }
+    ensures faults { (U : Algorithm → Readable) → ReadyLaw IsAcceptedInFile U → SetFaultsAgree IsAcceptedInFile }
+{}
+
+/// Where no rule on labels is broken, each loop is right after a label, a `return` is in a procedure, and no label is in a `with`, with macro calls written out.
+pub fn loops_follow_labels()
+    ensures procedures { (a : Algorithm) → label_offences a ≡ [] → (u : Routine) → OneOf u (procedure_routines a) → Placed true false false (expanded (reverse a.macros) u.body) }
+    ensures bodies { (a : Algorithm) → label_offences a ≡ [] → (u : Routine) → OneOf u (main_routines a a.main) → Placed false false false (expanded (reverse a.macros) u.body) }
+{}
+
+/// For each step of an accepted algorithm items can be written, also for calls and returns, where no name is primed, and where no definition that may be read reads what is assigned:
+/// nothing is assigned twice, left sides are variables, and no definition is used after a variable that it reads was assigned. A name may be read there if it is no definition,
+/// or one that reads, itself or through others, none of the variables that are assigned already.
+pub fn items_can_be_written_for_steps()
+    ensures { (o : Outside) (g : Algorithm) → IsAcceptedInFile o g → (values : Valuation) → NothingPrimed (program_in plain o g values) (extra_of g) → AllSettledFor (program_in plain o g values) (extra_of g) (readable g)
+        → (v : Actor) (d : Stand) → Stance (program_in plain o g values) v d
+        → IsReady (readable g) (vars (program_in plain o g values)) (pair_env (program_in plain o g values) (extra_of g) v) none
+        (step_of (program_in plain o g values) (extra_of g) v d (may_bind o (program_in plain o g values)) (callable_for (program_in plain o g values))) }
 {}
