@@ -109,3 +109,4 @@ pub mod InitLabels
 pub mod InitFollows
 pub mod InitTroubles
 pub mod InitOfRegion
+pub mod AgainWritten
