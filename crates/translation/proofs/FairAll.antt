@@ -1,27 +1,25 @@
 -- All formulas of fairness of the module of an accepted algorithm, with what each is to be true of, for each process that it speaks of.
-use Rattle.std.proofs.Common.{◌≡◌, ℕ, zero, suc, ◌+◌, ◌<◌, ◌≤◌, length, List, [], ◌∷◌, map, Bool, true, false, cond, Option, Some, None, ◌⊎◌, inl, inr, refl, sym, ap, ◌∙◌, subst, arith}
+use Rattle.std.proofs.Common.{◌≡◌, ℕ, zero, suc, ◌+◌, ◌<◌, ◌≤◌, length, List, [], ◌∷◌, map, Bool, true, false, cond, Some, ◌⊎◌, inl, inr, refl, sym, ap, ◌∙◌, subst, arith}
 use Rattle.std.specs.Prelude.{flat_map}
 use Rattle.std.specs.List.{AllByRecursion}
-use Rattle.tla_tree.specs.Tree.{Word, Tree}
-use Rattle.tla_value.specs.Value.{Value, TrueExactly, and_then}
+use Rattle.tla_tree.specs.Tree.{Word}
+use Rattle.tla_value.specs.Value.{TrueExactly, and_then}
 use Rattle.tla_value.specs.Outside.{Outside}
 use Rattle.tla_value.specs.Stops.{plain}
-use Rattle.tla_value.specs.Meaning.{Env, bind}
+use Rattle.tla_value.specs.Meaning.{Env}
 use Rattle.tla_value.specs.Definitions.{Valuation}
 use Rattle.module_tree.specs.Module.{Module, Fairness}
-use Rattle.module_tree.specs.ModuleTruth.{scope, acts_in}
-use Rattle.module_tree.specs.ActionTruth.{Verdict, acts_of, no_acts, call_holds}
+use Rattle.module_tree.specs.ModuleTruth.{scope}
+use Rattle.module_tree.specs.ActionTruth.{acts_of, no_acts, call_holds}
 use Rattle.pcal_tree.specs.declared.mark.Fairness.{Fairness as Wanted}
 use Rattle.pcal_tree.specs.declared.mark.Fairness.TheVariants.{Unfair, Weak, Strong}
 use Rattle.pcal_tree.specs.Algorithm.{Procedure, Process, Main, alone, processes, Routine, procedure_routine, numbered, first_procedure, first_process, procedure_routines, Algorithm}
-use Rattle.pcal_tree.specs.Calls.{label_name}
 use Rattle.pcal_tree.specs.Faults.{Sound}
 use Rattle.pcal_tree.specs.OffencesLabels.{label_words}
-use Rattle.pcal_tree.specs.Processes.{OneOf, IsActor}
+use Rattle.pcal_tree.specs.Processes.{OneOf}
 use Rattle.pcal_tree.specs.Program.{Program, Actor}
 use Rattle.pcal_tree.specs.Programs.{program_in}
 use Rattle.pcal_tree.specs.Scope.{State}
-use Rattle.pcal_tree.specs.Step.{Stand, StepFrom}
 use Rattle.pcal_tree.specs.Takers.{Takers, each_of, single, lone, Taken, taken_process, taken_main}
 use Rattle.pcal_tree.specs.Variables.{on_variables}
 use Rattle.pcal_tree.proofs.OneStand.{every_both}
@@ -37,42 +35,14 @@ use Rattle.fairness.specs.ReachedProcedures.{reached_within, reached}
 use Rattle.promise.specs.ConstantsAndStates.{AreConstants, IsState}
 use Rattle.translation.specs.Region.{region_of}
 use Rattle.translation.specs.laws.AcceptedAlgorithm.{IsAcceptedInFile}
+use Rattle.translation.specs.laws.ActionLaws.{guard_holds, env_over, StepsFromNames, Told}
 use Rattle.translation.specs.laws.LeftToProve.{PreparedLaw, ReadyLaw}
 use Rattle.translation.proofs.FairLabels.{strong_is_label}
-use Rattle.translation.proofs.FairTests.{guard_holds}
 use Rattle.translation.proofs.FairTrue.{routine_line, label_line}
 use Rattle.translation.proofs.NextOfRegion.{SingleClearLaw}
 use Rattle.translation.proofs.NextTitles.{all_actions}
 use Rattle.translation.proofs.NextTrue.{env_for}
 use Rattle.translation.proofs.RegionActions.{one_filtered}
-
--- ---- what a formula is to be true of
-
--- the process that a formula speaks of has its identifier for the bound name
-abbrev pub env_over : Option (Word × Tree) → Value → Env → Env
-env_over None w e = e
-env_over (Some (x, s)) w e = bind x w e
-
--- the test, and then the action, of one process
-abbrev pub line_holds : Module → Valuation → Valuation → Valuation → Actor → Fairness → Verdict
-line_holds m values s t v l =
-    and_then (guard_holds (env_over l.over (id v) (scope plain m values s t)) l.guard)
-    (call_holds plain (env_over l.over (id v) (scope plain m values s t)) (acts_in plain m values s t) l.action)
-
--- the process steps from one of these labels, by their written names
-abbrev pub StepsFromNames : Program → Actor → List Word → State → State → Type 0
-StepsFromNames P v ls s t = (d : Stand) × OneOf (label_name P d.routine d.label) ls × StepFrom P v d s t
-
--- whose steps are demanded; none: those of all processes together
-abbrev pub taken_of : Demand → Option Taken
-taken_of all_steps = None
-taken_of (routine_steps r strong u) = Some r
-taken_of (label_steps r u l) = Some r
-
--- a demand's formula is true of its obligation's steps, for each process that it is of
-abbrev pub Told : Module → Program → Valuation → State → State → Demand → Type 0
-Told m P values s t D = (r : Taken) → taken_of D ≡ Some r → (v : Actor) → IsActor P v → v.own ≡ r.routine
-    → TrueExactly (line_holds m values (on_variables P s) (on_variables P t) v (line_of P D)) (StepsFromNames P v (obligation_of P D).labels s t)
 
 -- ---- routines
 

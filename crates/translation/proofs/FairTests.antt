@@ -16,7 +16,6 @@ use Rattle.tla_value.specs.Stops.{plain, truth_at}
 use Rattle.tla_value.specs.Strict.{applied, strict_value, strict_test, same_truth}
 use Rattle.tla_value.specs.Meaning.{Env, just, eval, evals, part_values}
 use Rattle.tla_value.proofs.OrderSets.{holds_set_from}
-use Rattle.module_tree.specs.ActionTruth.{Verdict, truth_in}
 use Rattle.module_tree.specs.Formulas.{named, quoted, at, is_in}
 use Rattle.module_tree.specs.Formulas as formulas
 use Rattle.pcal_tree.specs.Processes.{OneOf}
@@ -29,6 +28,7 @@ use Rattle.pcal_tree.proofs.ProcessesInOrder.{id}
 use Rattle.action_builder.specs.laws.Jumps.{AllUnlike}
 use Rattle.fairness.specs.FairnessLines.{identifier_of, guard_of}
 use Rattle.fairness.specs.laws.LinesOfObligations.{SharedOut}
+use Rattle.translation.specs.laws.ActionLaws.{guard_holds}
 use Rattle.translation.proofs.NamesApart.{never}
 use Rattle.translation.proofs.RoutinesNamed.{one_each_of}
 
@@ -51,11 +51,6 @@ held_to w (y ∷ xs) h = by (held_to w xs) (or_cases (same w (text y)) (among_te
     by f (inr q) = (let k = f q in (k.0, inr k.1, k.2))
 
 -- ---- the test
-
--- where there is none, it is true
-abbrev pub guard_holds : Env → Option Tree → Verdict
-guard_holds env None = Ok true
-guard_holds env (Some e) = truth_in plain env e
 
 quoted_values : (xs : List Word) (env : Env) → part_values (evals plain (trees_from (map quoted xs))) env ≡ Ok (map text xs)
 quoted_values [] env = refl

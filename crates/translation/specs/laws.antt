@@ -14,3 +14,4 @@ pub mod FreshReads
 pub mod StepNames
 pub mod NextLaws
 pub mod NothingPrimed
+pub mod ActionLaws

@@ -26,7 +26,7 @@ ghost use Rattle.pcal_tree.specs.Programs.{program_in};
 ghost use Rattle.tla_value.specs.Stops.{plain};
 ghost use Rattle.tla_value.specs.Definitions.{Valuation};
 ghost use Rattle.promise.specs.ConstantsAndStates.{program};
-ghost use Rattle.translation.specs.laws.LeftToProve.{extra_of, Stance, may_bind, callable_for, NamesApartLaw, NamesGivenLaw, PreparedLaw, PairsLaw, ReadyLaw, NextOfRegionLaw, InitOfRegionLaw, RegionPlaced, PromiseKept};
+ghost use Rattle.translation.specs.laws.LeftToProve.{extra_of, Stance, may_bind, callable_for, NamesApartLaw, NamesGivenLaw, PreparedLaw, PairsLaw, ReadyLaw, ActionLaw, NextOfRegionLaw, InitOfRegionLaw, RegionPlaced, PromiseKept};
 ghost use Rattle.pcal_tree.specs.Variables.{declared, vars};
 ghost use Rattle.pcal_tree.specs.Labelled.{labelled};
 ghost use Rattle.module_tree.specs.Around.{Around};
@@ -40,6 +40,7 @@ ghost use Rattle.action_builder.specs.laws.Settling.{Callable};
 ghost use Rattle.action_builder.specs.laws.LabelSteps.{IsReady, action_of};
 ghost use Rattle.action_builder.specs.laws.StepsOfLabels.{step_of, pair_env, AllSettledFor, PcStands};
 ghost use Rattle.translation.specs.laws.ActionNames.{action_names};
+ghost use Rattle.translation.specs.laws.ActionLaws.{FairnessLaw, ProcessSetLaw, TerminationLaw, AgainLaw};
 ghost use Rattle.translation.specs.laws.Steps.{written_step};
 ghost use Rattle.module_tree.specs.laws.Kept.{IsFine};
 ghost use Rattle.module_tree.specs.laws.Outsides.{HasOutside, SameOutside};
@@ -227,4 +228,25 @@ pub fn items_can_be_written_for_steps()
         → (v : Actor) (d : Stand) → Stance (program_in plain o g values) v d
         → IsReady (readable g) (vars (program_in plain o g values)) (pair_env (program_in plain o g values) (extra_of g) v) none
         (step_of (program_in plain o g values) (extra_of g) v d (may_bind o (program_in plain o g values)) (callable_for (program_in plain o g values))) }
+{}
+
+/// Where items can be written for each step, the action of each label of an accepted algorithm, called by a process that may run its routine, is true of two states exactly where
+/// the process steps from that label to the second, from sound states; so an action that stands in a formula of fairness is the step that it is to be. And of each formula of fairness
+/// of a process the test and then the action are true exactly of the process's steps from the labels of the formula's obligation.
+pub fn actions_are_true_of_the_steps_from_their_labels()
+    ensures actions { (U : Algorithm → Readable) → ReadyLaw IsAcceptedInFile U → ActionLaw IsAcceptedInFile }
+    ensures fairness { (U : Algorithm → Readable) → ReadyLaw IsAcceptedInFile U → FairnessLaw IsAcceptedInFile }
+{}
+
+/// In the module of an accepted algorithm ProcSet has just the identifiers of the processes, and the test of Termination is true of a sound state exactly where
+/// all processes are done; else it is false, and never a fault.
+pub fn process_set_and_termination_are_of_all_processes()
+    ensures set { ProcessSetLaw IsAcceptedInFile }
+    ensures ended { TerminationLaw IsAcceptedInFile }
+{}
+
+/// Translating again changes nothing: of an algorithm that is the accepted one but for places, as that in the translated file is, beside what that file has outside, the same
+/// is written, and where it is put in again, the file stays as it is.
+pub fn translating_again_changes_nothing()
+    ensures { AgainLaw }
 {}
