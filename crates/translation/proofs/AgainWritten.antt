@@ -14,15 +14,18 @@ use Rattle.module_tree.specs.WithTranslation.{begin_line, end_line, line_end_if_
 use Rattle.module_tree.specs.laws.Kept.{IsFine}
 use Rattle.module_tree.specs.laws.Walks.{IsInside}
 use Rattle.module_tree.specs.laws.Outsides.{HasOutside, SameOutside}
+use Rattle.module_tree.proofs.FineKept.{fine_kept}
 use Rattle.module_tree.proofs.ModuleKept.{outside_kept}
 use Rattle.module_tree.proofs.OutsideAlike.{alike_after, same_outside}
 use Rattle.module_tree.proofs.SomeOutside.{one_outside_of}
+use Rattle.module_tree.proofs.WalkKept.{has_spot}
 use Rattle.module_tree.proofs.WalkSame.{keeps_file, put_again}
 use Rattle.module_tree.proofs.WrittenRegion.{layout_inside}
 use Rattle.pcal_tree.specs.Algorithm.{Algorithm}
 use Rattle.pcal_tree.specs.Placeless.{placeless}
 use Rattle.pcal_tree.specs.Programs.{program_in}
 use Rattle.promise.specs.Headline.{Stands}
+use Rattle.first_path.proofs.Placing.{put_there}
 use Rattle.first_path.proofs.SpelledInFile.{stands_kept}
 use Rattle.translation.specs.Region.{region_of, written_region}
 use Rattle.translation.specs.laws.AcceptedAlgorithm.{IsAccepted}
@@ -72,3 +75,10 @@ module _ (b : Bool) (x w : Text) (o : Outside) (g : Algorithm) (accepted : IsAcc
   pub text_again : (q : Outside) → HasOutside (walk w) q → (c : Algorithm) → placeless c ≡ placeless g → (u : Text) → WithTranslation w (layout (written_region b q c)) u → u ≡ w
   text_again q there c e u again =
       one_text x t u w (put_again x t w t u fine inside inside put (subst (λ r. WithTranslation w (layout r) u) (region_again q there c e) again)) put
+
+  -- there is such a text
+  pub put_again_there : (q : Outside) → HasOutside (walk w) q → (c : Algorithm) → placeless c ≡ placeless g → WithTranslation w (layout (written_region b q c)) w
+  put_again_there q there c e =
+      let s = has_spot w (fine_kept x t w fine inside put) in
+      let next = put_there w (layout (written_region b q c)) s.0 s.1 in
+      subst (WithTranslation w (layout (written_region b q c))) (text_again q there c e _ next) next

@@ -96,4 +96,4 @@ module _ (Accepted : Outside → Algorithm → Type 0) where
 abbrev pub AgainLaw : Type 0
 AgainLaw = (b : Bool) (x w : Text) (o : Outside) (g : Algorithm) → IsAccepted o g → length x ≤ most_bytes → IsFine x → HasOutside (walk x) o → WithTranslation x (layout (written_region b o g)) w
     → (q : Outside) → HasOutside (walk w) q → (h : Algorithm) → placeless h ≡ placeless g
-    → (written_region b q h ≡ written_region b o g) × ((u : Text) → WithTranslation w (layout (written_region b q h)) u → u ≡ w)
+    → (written_region b q h ≡ written_region b o g) × WithTranslation w (layout (written_region b q h)) w × ((u : Text) → WithTranslation w (layout (written_region b q h)) u → u ≡ w)

@@ -1,6 +1,6 @@
 -- Proves the law `translating_again_changes_nothing`.
-use Rattle.translation.proofs.AgainWritten.{region_again, text_again}
+use Rattle.translation.proofs.AgainWritten.{region_again, put_again_there, text_again}
 use Rattle.translation.proofs.laws.translating_again_changes_nothing.Goals as goal
 
 pub returns : goal.returns
-returns c = λ b x w o g a short fine outside put q there h e. (region_again b x w o g a short fine outside put q there h e, text_again b x w o g a short fine outside put q there h e)
+returns c = λ b x w o g a short fine outside put q there h e. (region_again b x w o g a short fine outside put q there h e, put_again_there b x w o g a short fine outside put q there h e, text_again b x w o g a short fine outside put q there h e)
