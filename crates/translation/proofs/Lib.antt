@@ -110,3 +110,4 @@ pub mod InitFollows
 pub mod InitTroubles
 pub mod InitOfRegion
 pub mod AgainWritten
+pub mod AgainLabels
