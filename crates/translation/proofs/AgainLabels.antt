@@ -1,26 +1,16 @@
 -- A translated file to whose algorithm no labels are added is translated to itself.
-use Rattle.std.proofs.Common.{◌≡◌, ◌≤◌, length, List, [], ◌∷◌, ◌++◌, map, Bool, false, ◌||◌, ◌&&◌, cond, codes, refl, sym, ap, ◌∙◌}
+use Rattle.std.proofs.Common.{◌≡◌, List, [], ◌∷◌, ◌++◌, map, Bool, false, ◌||◌, ◌&&◌, cond, codes, refl, sym, ap, ◌∙◌}
 use Rattle.std.specs.List.{flat_map}
 use Rattle.std.proofs.lemmas.List.{map-append}
-use Rattle.tla_token.specs.Limits.{most_bytes}
 use Rattle.tla_tree.specs.Tree.{Word}
-use Rattle.tla_value.specs.Outside.{Outside}
-use Rattle.module_tree.specs.Layout.{layout}
-use Rattle.module_tree.specs.TextFront.{Text}
-use Rattle.module_tree.specs.Walk.{walk}
-use Rattle.module_tree.specs.WithTranslation.{WithTranslation}
-use Rattle.module_tree.specs.laws.Kept.{IsFine}
-use Rattle.module_tree.specs.laws.Outsides.{HasOutside}
 use Rattle.pcal_tree.specs.Algorithm.{Macro, Procedure, Process, Main, alone, processes, Algorithm}
 use Rattle.pcal_tree.specs.Labelled.{with_labels, is_alone, typed_labels, labelled}
 use Rattle.pcal_tree.specs.OffencesLabels.{Label, labels, labels_of_main}
 use Rattle.pcal_tree.specs.OffencesSteps.{call_effect}
 use Rattle.pcal_tree.specs.Placeless.{statements_placeless, macros_placeless, procedures_placeless, processes_placeless, main_placeless, placeless}
 use Rattle.pcal_tree.specs.Tests.{is_empty}
-use Rattle.promise.specs.Headline.{Stands}
 use Rattle.file_answer.proofs.OneTree.{one_stands}
-use Rattle.translation.specs.Region.{written_region}
-use Rattle.translation.specs.laws.AcceptedAlgorithm.{IsAccepted}
+use Rattle.translation.specs.laws.ActionLaws.{adds_labels, FileAgainLaw}
 use Rattle.translation.proofs.AgainWritten.{algorithm_again, region_again, put_again_there, text_again}
 use Rattle.translation.proofs.NoPlaces.{all_labels}
 
@@ -68,9 +58,6 @@ alone_bare (processes ps) = refl
 
 -- ---- where none are added
 
-abbrev pub adds_labels : Bool → Algorithm → Bool
-adds_labels forced a = forced || (is_alone a.main && is_empty (typed_labels a))
-
 adds_bare : (forced : Bool) (a : Algorithm) → adds_labels forced (placeless a) ≡ adds_labels forced a
 adds_bare forced a = λ i. forced || (alone_bare a.main i && is_empty (typed_bare a i))
 
@@ -83,10 +70,7 @@ same_labels_added forced a c e q =
 
 -- ---- files
 
-pub again_in_file : (b forced : Bool) (x w : Text) (o : Outside) (a : Algorithm) → adds_labels forced a ≡ false → Stands x a → IsAccepted o (labelled forced a) → length x ≤ most_bytes → IsFine x → HasOutside (walk x) o
-    → WithTranslation x (layout (written_region b o (labelled forced a))) w → (q : Outside) → HasOutside (walk w) q → (c : Algorithm) → Stands w c
-    → (written_region b q (labelled forced c) ≡ written_region b o (labelled forced a)) × WithTranslation w (layout (written_region b q (labelled forced c))) w
-        × ((u : Text) → WithTranslation w (layout (written_region b q (labelled forced c))) u → u ≡ w)
+pub again_in_file : FileAgainLaw
 again_in_file b forced x w o a none stands accepted short fine outside put q there c here =
     let (d, also, same) = algorithm_again b x w o (labelled forced a) accepted short fine outside put a stands in
     let e = same_labels_added forced a c none (ap placeless (one_stands w c d here also) ∙ same) in (

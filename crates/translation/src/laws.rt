@@ -40,7 +40,7 @@ ghost use Rattle.action_builder.specs.laws.Settling.{Callable};
 ghost use Rattle.action_builder.specs.laws.LabelSteps.{IsReady, action_of};
 ghost use Rattle.action_builder.specs.laws.StepsOfLabels.{step_of, pair_env, AllSettledFor, PcStands};
 ghost use Rattle.translation.specs.laws.ActionNames.{action_names};
-ghost use Rattle.translation.specs.laws.ActionLaws.{FairnessLaw, ProcessSetLaw, TerminationLaw, AgainLaw};
+ghost use Rattle.translation.specs.laws.ActionLaws.{FairnessLaw, ProcessSetLaw, TerminationLaw, AgainLaw, FileAgainLaw};
 ghost use Rattle.translation.specs.laws.Steps.{written_step};
 ghost use Rattle.module_tree.specs.laws.Kept.{IsFine};
 ghost use Rattle.module_tree.specs.laws.Outsides.{HasOutside, SameOutside};
@@ -246,7 +246,8 @@ pub fn process_set_and_termination_are_of_all_processes()
 {}
 
 /// Translating again changes nothing: of an algorithm that is the accepted one but for places, as that in the translated file is, beside what that file has outside, the same
-/// is written, and where it is put in again, the file stays as it is.
+/// is written, and where it is put in again, the file stays as it is. So a translated file to whose algorithm no labels are added is translated to itself.
 pub fn translating_again_changes_nothing()
-    ensures { AgainLaw }
+    ensures alike { AgainLaw }
+    ensures files { FileAgainLaw }
 {}
