@@ -75,7 +75,6 @@ pub mod ProcedureStarts
 pub mod TidySteps
 pub mod FramesAccepted
 pub mod PreparedSteps
-pub mod RowsAccepted
 pub mod ReadyNames
 pub mod ReadyFrames
 pub mod LocalNames
@@ -90,3 +89,7 @@ pub mod InitLabels
 pub mod InitFollows
 pub mod InitTroubles
 pub mod InitOfRegion
+pub mod OutsideSettled
+pub mod InnerSettled
+pub mod AllSettled
+pub mod RowsAccepted
