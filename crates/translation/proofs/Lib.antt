@@ -80,8 +80,6 @@ pub mod ReadyNames
 pub mod ReadyFrames
 pub mod LocalNames
 pub mod ReadyAccepted
-pub mod PlacedStatements
-pub mod ReadiedSteps
 pub mod InitScopes
 pub mod InitNames
 pub mod InitSets
@@ -90,3 +88,4 @@ pub mod InitLabels
 pub mod InitFollows
 pub mod InitTroubles
 pub mod InitOfRegion
+pub mod InitKept
