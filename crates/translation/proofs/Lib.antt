@@ -89,3 +89,4 @@ pub mod InitFollows
 pub mod InitTroubles
 pub mod InitOfRegion
 pub mod InitKept
+pub mod InitRows
