@@ -1,7 +1,6 @@
 -- Init of an algorithm with a procedure, which is accepted in its file, by the law: true of a state where its variables have their initial values, false of another.
-use Rattle.std.proofs.Common.{◌≡◌, List, [], ◌∷◌, Bool, true, false, ◌||◌, cond, bytes_eq, codes, Option, Some, None, refl, sym, ◌∙◌, ap, subst, Ok, Err}
+use Rattle.std.proofs.Common.{◌≡◌, Bool, true, false, ◌||◌, cond, bytes_eq, codes, Option, Some, None, refl, sym, ◌∙◌, ap, subst, Ok, Err}
 use Rattle.std.specs.Prelude.{pos}
-use Rattle.tla_tree.specs.Tree.{Word}
 use Rattle.tla_value.specs.Value.{Value, text, int, Outcome, TrueExactly}
 use Rattle.tla_value.specs.Order.{IsCanonical}
 use Rattle.tla_value.specs.Stops.{plain}
@@ -12,11 +11,11 @@ use Rattle.pcal_tree.specs.Algorithm.{Algorithm}
 use Rattle.pcal_tree.specs.Calls.{defaultInitValue}
 use Rattle.pcal_tree.specs.Grammar.{algorithm_of}
 use Rattle.pcal_tree.specs.InitialStates.{allowed, empty_stack, Initial}
-use Rattle.pcal_tree.specs.Processes.{actors, Proper}
+use Rattle.pcal_tree.specs.Processes.{Proper}
 use Rattle.pcal_tree.specs.Program.{Program}
 use Rattle.pcal_tree.specs.Programs.{program_in}
 use Rattle.pcal_tree.specs.Scope.{State}
-use Rattle.pcal_tree.specs.Variables.{vars, on_variables}
+use Rattle.pcal_tree.specs.Variables.{on_variables}
 use Rattle.action_builder.specs.WrittenNames.{with_names}
 use Rattle.promise.specs.ConstantsAndStates.{AreConstants, IsState}
 use Rattle.translation.specs.Region.{region_of}
