@@ -90,3 +90,4 @@ pub mod InitTroubles
 pub mod InitOfRegion
 pub mod InitKept
 pub mod InitRows
+pub mod InitRowsProcesses
