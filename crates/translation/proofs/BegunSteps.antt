@@ -257,9 +257,10 @@ module _ (ds : List Reading) (F : Further) (E : Effects) (r : Bool) (C V : Word 
 looked_fine : (ds : List Reading) (ns : List Name) (ss : List Spot) → flat_map (stale_at ds ns) ss ≡ [] → AreFine ds ss
 looked_fine ds ns [] h = tt
 looked_fine ds ns (s ∷ ss) h =
-    let k = nothing_left (stale_at ds ns s) (flat_map (stale_at ds ns) ss) h in
-    (no_offence (has_assigned s.path (through ds s.name.word)) DefinedStale s.name.place (nothing_left (offence_if (has_assigned s.path (through ds s.name.word)) DefinedStale s.name.place) _ k),
-     looked_fine ds ns ss (nothing_right (stale_at ds ns s) (flat_map (stale_at ds ns) ss) h))
+    let k = nothing_left (stale_at ds ns s) (flat_map (stale_at ds ns) ss) h in (
+      no_offence (has_assigned s.path (through ds s.name.word)) DefinedStale s.name.place (nothing_left (offence_if (has_assigned s.path (through ds s.name.word)) DefinedStale s.name.place) _ k),
+      looked_fine ds ns ss (nothing_right (stale_at ds ns s) (flat_map (stale_at ds ns) ss) h),
+    )
 
 module _ (a : Algorithm) where
   abbrev ds : List Reading
@@ -346,14 +347,14 @@ module _ (a : Algorithm) (u : Routine) (E : Effects) (r : Bool) (N : Word → Ty
       → AskedIn (asked (readings_of a) a.procedures (is_procedure a) (is_variable a u) N E r) none_set (expanded (reverse a.macros) b.items)
   step_asked l b q t =
       let h = begun (readings_of a) (jumps_use a.procedures) E r (is_procedure a) (is_variable a u) (declared (locals u)) (written_out (reverse a.macros)) false (declared (locals u)) (λ e. refl) l unlabelled u.body u.exit
-          (record {
-            sets = (none_set, steps_once a typed labels u one);
-            calls = (none_set, calls);
-            placed = (false, placed);
-            ends = jumps_end a labels u one;
-            written = written;
-            fine = (false, Some [], fine);
-          }) b q in
+      (record {
+        sets = (none_set, steps_once a typed labels u one);
+        calls = (none_set, calls);
+        placed = (false, placed);
+        ends = jumps_end a labels u one;
+        written = written;
+        fine = (false, Some [], fine);
+      }) b q in
       list_asked (readings_of a) a.procedures (is_procedure a) (is_variable a u) N E r unread false true none_set (Some []) (declared (locals u)) (expanded (reverse a.macros) b.items)
       has_none (λ x e. absurd (never e)) (λ e x. refl) own h.sets h.calls h.placed h.ends h.written (t h.written) h.fine
     where

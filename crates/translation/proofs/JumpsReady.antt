@@ -259,10 +259,12 @@ module _ (P : Program) (u : Routine) (N : Word → Type 0) (k : StepNames P u N)
 
     pub return_ready : (A B : Names) → Became r A B → IsWithin A V → Apart A (declared (locals u)) → (at : Place) → Readied U vs B (graft_all h (return_written P u at))
     return_ready A B q w p at =
-        ready_from A B q w (return_written P u at)
-        (one_write A at pc (kept_field at pc) (fields_restored at xs (one_assignment (name_at at stack) (stack_rest at))) (k.pc_among, k.pc_new) (field_anyhow A at stack pc f.head_untitled (name_anyhow A at stack f.stack_among))
-        (restored_writes A at xs (one_assignment (name_at at stack) (stack_rest at)) f.head_untitled f.stack_among owned_new
-        (one_write A at stack (stack_rest at) no_assignments stack_is (rest_anyhow A at f.tail_untitled f.stack_among) tt)), tt)
+        ready_from A B q w (return_written P u at) (
+          one_write A at pc (kept_field at pc) (fields_restored at xs (one_assignment (name_at at stack) (stack_rest at))) (k.pc_among, k.pc_new) (field_anyhow A at stack pc f.head_untitled (name_anyhow A at stack f.stack_among))
+              (restored_writes A at xs (one_assignment (name_at at stack) (stack_rest at)) f.head_untitled f.stack_among owned_new
+              (one_write A at stack (stack_rest at) no_assignments stack_is (rest_anyhow A at f.tail_untitled f.stack_among) tt)),
+          tt,
+        )
         (subst (Each (λ x. B x ≡ false)) (sym all) (pc_free A B q w, each_joined (λ x. B x ≡ false) xs (stack ∷ []) (owned_free A B q w p) (stack_free A B q w, tt)))
         (subst AllUnlike (sym all) (each_joined (λ x. bytes_eq pc x ≡ false) xs (stack ∷ []) f.unlike.pc (refl, tt), unlike_last xs stack f.unlike.each f.unlike.stack))
       where
@@ -347,10 +349,12 @@ module _ (P : Program) (u : Routine) (N : Word → Type 0) (k : StepNames P u N)
       -- what is said of the stack, the variables and what follows is said of what the call assigns
       pub call_each : (Q : Word → Type 0) (at : Place) (e : Tree) (ts : Trees) (place : Declaration → Place) (last : Statements) → Q stack → Each Q (written_all P q (locals q)) → Each Q (all_roots last)
           → Each Q (all_roots (then (spot at) (assign (assignment (name_at at stack) e (arguments_assigned (written_all P q q.params) ts))) (variables_written P q place (λ d. initial_tree P q d.start) q.variables last)))
-      call_each Q at e ts place last x y z =
-          (x, each_arguments Q (written_all P q q.params) ts _ (subst (λ (ws : List Word). Each Q (written_all P q q.params ++ ws)) (sym (variables_roots P q place _ q.variables last))
-          (subst (Each Q) (joined_lists (written_all P q q.params) (written_all P q q.variables) (all_roots last))
-          (each_joined Q (written_all P q q.params ++ written_all P q q.variables) (all_roots last) (subst (Each Q) (parameters_first P q) y) z))))
+      call_each Q at e ts place last x y z = (
+        x,
+        each_arguments Q (written_all P q q.params) ts _ (subst (λ (ws : List Word). Each Q (written_all P q q.params ++ ws)) (sym (variables_roots P q place _ q.variables last))
+            (subst (Each Q) (joined_lists (written_all P q q.params) (written_all P q q.variables) (all_roots last))
+            (each_joined Q (written_all P q q.params ++ written_all P q q.variables) (all_roots last) (subst (Each Q) (parameters_first P q) y) z))),
+      )
 
       pub call_unlike : (at : Place) (e : Tree) (ts : Trees) (place : Declaration → Place) (last : Statements) → Each (λ x. bytes_eq stack x ≡ false) (written_all P q (locals q)) → Each (λ x. bytes_eq stack x ≡ false) (all_roots last)
           → AllUnlike (written_all P q (locals q) ++ all_roots last)
@@ -360,7 +364,7 @@ module _ (P : Program) (u : Routine) (N : Word → Type 0) (k : StepNames P u N)
           let v = variables_roots P q place (λ d. initial_tree P q d.start) q.variables last in
           let j = joined_lists w (written_all P q q.variables) (all_roots last) in (
             each_arguments (λ x. bytes_eq stack x ≡ false) w ts _ (subst (λ (ws : List Word). Each (λ x. bytes_eq stack x ≡ false) (w ++ ws)) (sym v) (subst (Each (λ x. bytes_eq stack x ≡ false)) j
-            (each_joined (λ x. bytes_eq stack x ≡ false) (w ++ written_all P q q.variables) (all_roots last) (subst (Each (λ x. bytes_eq stack x ≡ false)) (parameters_first P q) x) y))),
+                (each_joined (λ x. bytes_eq stack x ≡ false) (w ++ written_all P q q.variables) (all_roots last) (subst (Each (λ x. bytes_eq stack x ≡ false)) (parameters_first P q) x) y))),
             unlike_arguments w ts _ (subst (λ (ws : List Word). AllUnlike (w ++ ws)) (sym v) (subst AllUnlike j (subst (λ (ws : List Word). AllUnlike (ws ++ all_roots last)) (parameters_first P q) z))),
           )
 

@@ -91,7 +91,7 @@ mutual
   names_free N (node m at ts) xs w b k h = (
     form_free N xs k m at (used_by_parts (seen_names m) ts xs) h,
     parts_free N (seen_names m) ts xs w.4 b.1 (each_seen N m b.0) k
-    (form_parts N xs m at (used_by_parts (seen_names m) ts xs) h (λ x e. name_alone x ts (subst (λ (f : Form). Shaped f (count ts)) e w.0) (seen_names m) xs N)),
+        (form_parts N xs m at (used_by_parts (seen_names m) ts xs) h (λ x e. name_alone x ts (subst (λ (f : Form). Shaped f (count ts)) e w.0) (seen_names m) xs N)),
   )
 
   pub parts_free : (N : Word → Type 0) (names : List (List Word)) (ts : Trees) (xs : List Word) → AreWritable ts → EveryOf (BindsOf N) ts → EachList N names → ((x : Word) → In xs x → N x) → AllOf N (used_by_parts names ts xs) → FreeInParts N N names ts
