@@ -79,8 +79,6 @@ pub mod ReadyNames
 pub mod ReadyFrames
 pub mod LocalNames
 pub mod ReadyAccepted
-pub mod PlacedStatements
-pub mod ReadiedSteps
 pub mod InitScopes
 pub mod InitNames
 pub mod InitSets
@@ -93,3 +91,6 @@ pub mod OutsideSettled
 pub mod InnerSettled
 pub mod AllSettled
 pub mod RowsAccepted
+pub mod InitKept
+pub mod InitRows
+pub mod InitRowsProcesses

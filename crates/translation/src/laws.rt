@@ -27,6 +27,7 @@ ghost use Rattle.tla_value.specs.Stops.{plain};
 ghost use Rattle.tla_value.specs.Definitions.{Valuation};
 ghost use Rattle.promise.specs.ConstantsAndStates.{program};
 ghost use Rattle.translation.specs.laws.LeftToProve.{extra_of, Stance, may_bind, callable_for, NamesApartLaw, NamesGivenLaw, PreparedLaw, PairsLaw, NextOfRegionLaw, InitOfRegionLaw, RegionPlaced, PromiseKept};
+ghost use Rattle.promise.specs.NextAndInit.{InitIs};
 ghost use Rattle.pcal_tree.specs.Variables.{declared, vars};
 ghost use Rattle.pcal_tree.specs.Labelled.{labelled};
 ghost use Rattle.module_tree.specs.Around.{Around};
@@ -198,10 +199,13 @@ pub fn written_names_stand_for_the_names_of_routines()
     ensures given { NamesGivenLaw IsAcceptedInFile }
 {}
 
-/// Init of what is written of an accepted algorithm, with the algorithm's own places, is true exactly of the initial states: for all constants that give the processes
-/// different identifiers, and all states from which no initial value is a fault. Else it is false, and never a fault.
+/// Init of what is written of an accepted algorithm is true exactly of its initial states: for all constants that give the processes different identifiers, and all
+/// states from which no initial value is a fault. Else it is false, and never a fault. That is so of the region that has the algorithm's own places, and of each module
+/// that the translated file is read as.
 pub fn init_is_true_of_the_initial_states()
-    ensures { InitOfRegionLaw IsAcceptedInFile }
+    ensures region { InitOfRegionLaw IsAcceptedInFile }
+    ensures files { (no_terminating : Bool) (x w : Text) (o : Outside) (a : Algorithm) → IsAccepted o a → length x ≤ most_bytes → IsFine x → HasOutside (walk x) o
+        → WithTranslation x (layout (written_region no_terminating o a)) w → (m : Module) → Reads w m → InitIs a m }
 {}
 
 /// Where no rule on labels is broken, each loop is right after a label, a `return` is in a procedure, and no label is in a `with`, with macro calls written out.
