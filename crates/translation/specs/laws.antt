@@ -12,4 +12,5 @@ pub mod PlacedStatements
 pub mod StepParts
 pub mod FreshReads
 pub mod StepNames
+pub mod NextLaws
 pub mod NothingPrimed
