@@ -1,5 +1,5 @@
 -- Where no rule on labels is broken, and no definition is used after a variable that it reads was assigned, each part of a step has what is asked of it.
-use Rattle.std.proofs.Common.{◌≡◌, List, [], ◌∷◌, ◌++◌, map, Bool, true, false, ◌||◌, not, cond, bytes_eq, Option, Some, None, option_map, ◌⊎◌, inl, inr, refl, sym, ap, subst, ◌∙◌}
+use Rattle.std.proofs.Common.{◌≡◌, List, [], ◌∷◌, ◌++◌, map, Bool, true, false, ◌||◌, not, bytes_eq, Option, Some, None, option_map, ◌⊎◌, inl, inr, refl, sym, ap, subst, ◌∙◌}
 use Rattle.std.proofs.lemmas.Bool.{or_parts}
 use Rattle.std.proofs.lemmas.Option.{same_Some}
 use Rattle.std.proofs.lemmas.Slice.Eq.{bytes_eq-Decides}
@@ -10,10 +10,9 @@ use Rattle.tla_token.proofs.Spelled.{same_bytes}
 use Rattle.tla_tree.specs.Tree.{Word, Name, words, Form, Tree, Trees, Every, EveryOf}
 use Rattle.tla_tree.specs.laws.Writable.{IsWritable, AreWritable}
 use Rattle.tla_value.proofs.Facts.{each_weaker, every_weaker, every_of_weaker}
-use Rattle.pcal_tree.specs.Algorithm.{Span, Assignments, no_assignments, assignment, Binds, no_binds, one_of, is, Statement, assign, await, print, assert, skip, branch, either, with, while, goto, macro, call, return, Statements, done, then, mark, Branches, no_branches, or, Procedure}
+use Rattle.pcal_tree.specs.Algorithm.{Assignments, no_assignments, assignment, Binds, no_binds, one_of, is, Statement, assign, await, print, assert, skip, branch, either, with, while, goto, macro, call, return, Statements, done, then, mark, Branches, no_branches, or, Procedure}
 use Rattle.pcal_tree.specs.BoundNames.{names_of_binds}
-use Rattle.pcal_tree.specs.OffencesStale.{used_by_call, self_at, jumps_use}
-use Rattle.pcal_tree.specs.OffencesSteps.{effect_with}
+use Rattle.pcal_tree.specs.OffencesStale.{used_by_call, jumps_use}
 use Rattle.pcal_tree.specs.Paths as path
 use Rattle.pcal_tree.specs.Paths.{Effects, Path, root, some_word, roots, joined, after_one, after, after_some, has_assigned, rounds}
 use Rattle.pcal_tree.specs.Reads.{named, used, used_by_all, used_by_assignments, used_by_binds, Reading, through}

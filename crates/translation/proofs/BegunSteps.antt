@@ -1,7 +1,7 @@
 -- From each label of a body on, with macro calls written out: each part of the step has what is asked of it.
-use Rattle.std.proofs.Common.{◌≡◌, ℕ, suc, List, [], ◌∷◌, ◌++◌, reverse, Bool, true, false, cond, bytes_eq, codes, Option, Some, None, ◌⊎◌, inl, inr, refl, sym, ap, subst, ◌∙◌}
+use Rattle.std.proofs.Common.{◌≡◌, ℕ, suc, List, [], ◌∷◌, ◌++◌, reverse, Bool, true, false, cond, bytes_eq, Option, Some, None, ◌⊎◌, inl, inr, refl, sym, subst}
 use Rattle.std.proofs.lemmas.Option.{same_Some}
-use Rattle.std.specs.List.{flat_map, AllByRecursion}
+use Rattle.std.specs.List.{flat_map}
 use Rattle.std.specs.Option.{option_or}
 use Rattle.tla_token.specs.declared.rule.Rule.TheVariants.{DefinedStale}
 use Rattle.tla_tree.specs.Tree.{Word, words, Trees}
@@ -10,7 +10,7 @@ use Rattle.pcal_tree.specs.BoundNames.{names_of_binds}
 use Rattle.pcal_tree.specs.Expand.{followed_by, Writing, expand_one, expand, expand_some, written_out, expanded}
 use Rattle.pcal_tree.specs.Offences.{offence_if}
 use Rattle.pcal_tree.specs.OffencesLabels.{label_offences}
-use Rattle.pcal_tree.specs.OffencesStale.{jumps_use, stands_for, stale_at, stale_in, stale_in_procedure, stale_in_process, stale_in_main, written_out_spots, stale_offences, Looking}
+use Rattle.pcal_tree.specs.OffencesStale.{jumps_use, stale_at, stale_in_procedure, stale_in_process, stale_in_main, written_out_spots, stale_offences, Looking}
 use Rattle.pcal_tree.specs.OffencesSteps.{call_effect, effects_in, effect_with}
 use Rattle.pcal_tree.specs.Paths as path
 use Rattle.pcal_tree.specs.Paths.{Effects, nothing, Path, after_one, has_assigned}
@@ -30,7 +30,7 @@ use Rattle.translation.specs.laws.FreshReads.{Plain, asked}
 use Rattle.translation.specs.laws.JumpsEnd.{JumpsEnd, AllJumpsEnd}
 use Rattle.translation.specs.laws.PlacedStatements.{Placed, AllPlaced}
 use Rattle.translation.specs.laws.StepParts.{AskedIn}
-use Rattle.translation.specs.laws.StepsOnce.{set_by, set_in, none_set, SetsOnce, SetsOnceSome, JumpsOnceOne, JumpsOnce, JumpsOnceSome}
+use Rattle.translation.specs.laws.StepsOnce.{set_by, none_set, SetsOnce, SetsOnceSome, JumpsOnceOne, JumpsOnce, JumpsOnceSome}
 use Rattle.translation.specs.laws.TypedAlgorithm.{IsTypedAlgorithm}
 use Rattle.translation.specs.laws.WritableAlgorithm.{is_procedure, is_variable, AreWritableStatements, AreWritableBranches}
 use Rattle.translation.proofs.AcceptedNames.{no_offence}
@@ -38,7 +38,7 @@ use Rattle.translation.proofs.AskedSteps.{two_fine, IsFine, AreFine, Unread, lis
 use Rattle.translation.proofs.EachStepOnce.{steps_once, jumps_once}
 use Rattle.translation.proofs.EndingJumps.{jumps_end}
 use Rattle.translation.proofs.PlacedStatements.{procedure_placed, body_placed_in}
-use Rattle.translation.proofs.StepsOnce.{In, Has}
+use Rattle.translation.proofs.StepsOnce.{Has}
 
 -- ---- from a label on
 

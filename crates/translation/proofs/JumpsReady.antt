@@ -1,5 +1,5 @@
 -- The assignments for jumps, calls and returns are such as items can be written for, where what they assign was not assigned before.
-use Rattle.std.proofs.Common.{◌≡◌, ℕ, suc, List, [], ◌∷◌, ◌++◌, Bool, true, false, ◌||◌, nat_eq, cond, bytes_eq, codes, map, Option, Some, None, ◌⊎◌, inl, inr, refl, sym, ap, subst, ◌∙◌}
+use Rattle.std.proofs.Common.{◌≡◌, ℕ, suc, List, [], ◌∷◌, ◌++◌, Bool, true, false, ◌||◌, nat_eq, cond, bytes_eq, codes, Some, refl, sym, ap, subst, ◌∙◌}
 use Rattle.std.proofs.lemmas.Bool.{both_ways, or_right}
 use Rattle.std.proofs.lemmas.Option.{same_Some}
 use Rattle.std.proofs.lemmas.Slice.Eq.{bytes_eq-Decides}
@@ -7,37 +7,34 @@ use Rattle.std.specs.List.{flat_map, AllByRecursion}
 use Rattle.tla_token.specs.declared.place.Place.{Place}
 use Rattle.tla_token.specs.Places.{nowhere}
 use Rattle.tla_token.specs.Signs.{is_among}
-use Rattle.tla_token.proofs.Spelled.{same_bytes}
 use Rattle.tla_tree.specs.declared.op.Op.TheVariants.{Concat}
-use Rattle.tla_tree.specs.Tree.{Word, Name, name, string, Strict, operator, tuple, fields, select, strict, operator_call, Tree, node, Trees, no_trees, tree, Each, Graft, graft, grafts, root_place}
+use Rattle.tla_tree.specs.Tree.{Word, Name, Strict, operator, tuple, fields, select, strict, operator_call, Tree, node, Trees, no_trees, tree, Each, Graft, grafts, root_place}
 use Rattle.tla_value.specs.Grafts.{owned}
-use Rattle.module_tree.specs.Formulas.{self, unset_value}
-use Rattle.pcal_tree.specs.Algorithm.{Start, unset, equals, among, Declaration, declares, Routine, locals, Assignments, no_assignments, assignment, Span, Statements, done, then, assign, call, return, Procedure, procedure_routine, numbered, first_procedure, procedure_routines, Algorithm}
+use Rattle.module_tree.specs.Formulas.{self}
+use Rattle.pcal_tree.specs.Algorithm.{Start, unset, equals, among, Declaration, declares, Routine, locals, Assignments, no_assignments, assignment, Statements, then, assign, Procedure, procedure_routine, numbered, Algorithm}
 use Rattle.pcal_tree.specs.Calls.{label_name, first_label, frame_fields, routine_named}
 use Rattle.pcal_tree.specs.Expand.{graft_all}
 use Rattle.pcal_tree.specs.OffencesStale.{used_by_variables, used_by_call}
-use Rattle.pcal_tree.specs.OffencesSteps.{effect_with}
 use Rattle.pcal_tree.specs.Paths.{roots}
 use Rattle.pcal_tree.specs.Program.{Program, written}
 use Rattle.pcal_tree.specs.Reads.{used, initial, Reading, through, readings_of}
-use Rattle.pcal_tree.specs.Run.{Partner, no_partner, goto_partner, return_partner}
 use Rattle.pcal_tree.specs.Variables.{vars, declared, written_all, pc, stack}
 use Rattle.action_builder.specs.Assigned.{Names}
-use Rattle.action_builder.specs.Jumps.{name_at, text_at, one_assignment, spot, jump_written, field_of, kept_field, stack_rest, fields_restored, return_assignments, return_written, names_at, pushed_on, stack_pushed, arguments_assigned, variables_written, call_written}
+use Rattle.action_builder.specs.Jumps.{name_at, text_at, one_assignment, spot, jump_written, field_of, kept_field, stack_rest, fields_restored, return_written, names_at, pushed_on, stack_pushed, arguments_assigned, variables_written, call_written}
 use Rattle.action_builder.specs.LabelActions.{initial_tree}
 use Rattle.action_builder.specs.OwnVariables.{is_own_variable}
-use Rattle.action_builder.specs.WrittenNames.{renames, renamed}
+use Rattle.action_builder.specs.WrittenNames.{renames}
 use Rattle.action_builder.specs.laws.Jumps.{Unlike, AllUnlike}
 use Rattle.action_builder.specs.laws.Ready.{Readable, IsWithin, Apart}
-use Rattle.action_builder.proofs.FitJumps.{parameters_first, unlike_first}
+use Rattle.action_builder.proofs.FitJumps.{parameters_first}
 use Rattle.action_builder.proofs.FitWritten.{among_each}
-use Rattle.translation.specs.laws.FreshReads.{fresh, ReadsFresh, AllReadFresh, AllFresh}
-use Rattle.translation.specs.laws.StepNames.{name_of, Unused, StepNames, Unlikes, StartReads, Called, Frames}
+use Rattle.translation.specs.laws.FreshReads.{fresh, AllReadFresh}
+use Rattle.translation.specs.laws.StepNames.{name_of, Unused, StepNames, StartReads, Called, Frames}
 use Rattle.translation.specs.laws.StepParts.{Readied}
 use Rattle.translation.specs.laws.WritableAlgorithm.{is_variable}
 use Rattle.translation.proofs.AskedSteps.{tree_fresh}
 use Rattle.translation.proofs.ReadiedSteps.{Became}
-use Rattle.translation.proofs.StepNames.{not_true, GlobalsOf, became_global, became_variables, variable_apart, fresh_globals, unused_fresh, variable_fresh, named_reads, named_trees}
+use Rattle.translation.proofs.StepNames.{not_true, GlobalsOf, became_global, became_variables, variable_apart, fresh_globals, unused_fresh, named_reads, named_trees}
 use Rattle.translation.proofs.StepsOnce as steps
 use Rattle.translation.proofs.StraightSteps.{all_roots, ReadsAnyhow, WritesAnyhow, AllAnyhow, straight_ready}
 use Rattle.translation.proofs.NamesFree.{AllOf, both_of}

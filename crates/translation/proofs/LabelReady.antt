@@ -4,17 +4,17 @@ use Rattle.tla_tree.specs.Tree.{Word}
 use Rattle.tla_value.specs.Stops.{plain}
 use Rattle.tla_value.specs.Standard.{printed, asserted, standard_sense}
 use Rattle.tla_value.specs.Definitions.{Definition}
-use Rattle.pcal_tree.specs.Algorithm.{declares, Routine, locals, procedure_routines, Algorithm}
+use Rattle.pcal_tree.specs.Algorithm.{declares, Routine, locals, procedure_routines}
 use Rattle.pcal_tree.specs.Expand.{expanded}
 use Rattle.pcal_tree.specs.OffencesLabels.{label_offences}
 use Rattle.pcal_tree.specs.OffencesStale.{stale_offences}
 use Rattle.pcal_tree.specs.Processes.{OneOf}
 use Rattle.pcal_tree.specs.Program.{Program, Actor}
-use Rattle.pcal_tree.specs.Reads.{through, readings_of}
+use Rattle.pcal_tree.specs.Reads.{readings_of}
 use Rattle.pcal_tree.specs.Scope.{State}
 use Rattle.pcal_tree.specs.Step.{Stand}
 use Rattle.pcal_tree.specs.StepStart.{at_label}
-use Rattle.pcal_tree.specs.Variables.{vars, declared}
+use Rattle.pcal_tree.specs.Variables.{vars}
 use Rattle.pcal_tree.specs.laws.Expansion.{Throughout}
 use Rattle.action_builder.specs.Prepared.{none}
 use Rattle.action_builder.specs.laws.LabelSteps.{IsReady}

@@ -109,5 +109,11 @@ pub mod InitLabels
 pub mod InitFollows
 pub mod InitTroubles
 pub mod InitOfRegion
+pub mod OutsideSettled
+pub mod InnerSettled
+pub mod AllSettled
+pub mod InitKept
+pub mod InitRows
+pub mod InitRowsProcesses
 pub mod AgainWritten
 pub mod AgainLabels

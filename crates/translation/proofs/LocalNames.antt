@@ -1,12 +1,12 @@
 -- A routine's own names are in scope nowhere around it, and the number of a process is no procedure's.
-use Rattle.std.proofs.Common.{◌≡◌, ◌≤◌, ◌<◌, ℕ, suc, ◌+◌, length, List, [], ◌∷◌, ◌++◌, reverse, Bool, true, false, ◌&&◌, not, cond, bytes_eq, ◌⊎◌, inl, inr, refl, sym, ap, subst, ◌∙◌, arith}
+use Rattle.std.proofs.Common.{◌≡◌, ◌≤◌, ◌<◌, ℕ, suc, ◌+◌, length, List, [], ◌∷◌, ◌++◌, reverse, true, false, ◌&&◌, not, ◌⊎◌, inl, inr, refl, sym, ap, subst, ◌∙◌, arith}
 use Rattle.std.specs.List.{flat_map}
 use Rattle.tla_token.specs.declared.rule.Rule.TheVariants.{Rebind}
-use Rattle.tla_tree.specs.Tree.{Word, words, Each}
+use Rattle.tla_tree.specs.Tree.{Word, Each}
 use Rattle.tla_value.specs.Outside.{Outside}
 use Rattle.pcal_tree.specs.Algorithm.{Declaration, declares, Procedure, Process, Main, alone, processes, Routine, locals, procedure_routine, process_routine, numbered, first_procedure, first_process, procedure_routines, main_routines, routines, Algorithm}
 use Rattle.pcal_tree.specs.OffencesNames.{names_of}
-use Rattle.pcal_tree.specs.OffencesRebind.{in_scope, may_rebind, standing_inside, standing_outside, naming, any_name, Standings, rebound, rebound_all, starts_rebind, definitions_rebind, texts_rebind, macro_rebinds, locals_rebind, procedure_rebinds, process_rebinds, main_rebinds, whole_rebinds, rebind_offences_of}
+use Rattle.pcal_tree.specs.OffencesRebind.{in_scope, may_rebind, standing_inside, standing_outside, any_name, Standings, rebound, rebound_all, starts_rebind, definitions_rebind, texts_rebind, macro_rebinds, locals_rebind, procedure_rebinds, process_rebinds, main_rebinds, whole_rebinds, rebind_offences_of}
 use Rattle.pcal_tree.specs.Processes.{OneOf}
 use Rattle.pcal_tree.specs.Variables.{declared}
 use Rattle.pcal_tree.proofs.ClearLabels.{both_none}

@@ -200,7 +200,7 @@ pub record Outer (o : Outside) (a : Algorithm) (x : Word) : Type 0 where
   pub unit : is_among (unit_names o) x ≡ false
   pub defined : (d : tree.Definition) → OneOf d a.definitions → bytes_eq d.name.word x ≡ false
 
-no_standard : (e : List Word) (x : Word) → is_standard e x ≡ false → is_among standard_names x ≡ false
+pub no_standard : (e : List Word) (x : Word) → is_standard e x ≡ false → is_among standard_names x ≡ false
 no_standard e x h =
     (or_parts (is_among standard_names x) _ (or_parts _ _ h).0).0
 

@@ -1,9 +1,9 @@
 -- The names that an expression uses are those that it reads free, and where its bound names are of N, all names and operators that it reads are.
-use Rattle.std.proofs.Common.{◌≡◌, ℕ, ◌+◌, List, [], ◌∷◌, ◌++◌, Bool, true, false, ◌||◌, cond, bytes_eq, refl, ap, subst, arith}
+use Rattle.std.proofs.Common.{◌≡◌, ℕ, ◌+◌, List, [], ◌∷◌, ◌++◌, Bool, true, false, ◌||◌, cond, bytes_eq, refl, subst, arith}
 use Rattle.tla_token.specs.declared.place.Place.{Place}
 use Rattle.tla_token.specs.Signs.{is_among}
 use Rattle.tla_token.proofs.Spelled.{same_bytes}
-use Rattle.tla_tree.specs.Tree.{Word, Form, number, string, truth, booleans, strings, name, next, operator_call, Tree, node, Trees, no_trees, tree, Each, Every, EveryOf, binders, seen_names}
+use Rattle.tla_tree.specs.Tree.{Word, Form, name, operator_call, Tree, node, Trees, no_trees, tree, Each, Every, EveryOf, binders, seen_names}
 use Rattle.tla_tree.specs.Shapes.{Shaped}
 use Rattle.tla_tree.specs.laws.Writable.{IsWritable, AreWritable, count}
 use Rattle.tla_value.specs.laws.FreeNames.{Also, FormReads, FreeNames, FreeInParts}

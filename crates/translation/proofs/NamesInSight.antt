@@ -83,7 +83,7 @@ pub record UsedOutside (o : Outside) (N : Word → Type 0) : Type 0 where
   pub self : N (codes "self")
   pub standard : (x : Word) → is_among standard_names x ≡ true → N x
 
-table_standard : (d : StandardName) → OneOf d standard_table → is_among standard_names d.title ≡ true
+pub table_standard : (d : StandardName) → OneOf d standard_table → is_among standard_names d.title ≡ true
 table_standard d k = every standard_table (refl, (refl, (refl, (refl, (refl, (refl, (refl, (refl, (refl, (refl, (refl, (refl, tt)))))))))))) k
   where
     every : (ds : List StandardName) → AllByRecursion (λ (c : StandardName). is_among standard_names c.title ≡ true) ds → OneOf d ds → is_among standard_names d.title ≡ true
@@ -179,7 +179,7 @@ definition_free v N r d e =
     tree_free v (Also d.params N) d.params (λ y m. among_also N d.params y m) (λ i x m. in_also N d.params x (r i x m)) false d.body l.0
 
 -- a definition that is found by its name
-found_one : (ds : List Definition) (x : Word) (n : ℕ) → read.is_arity (read.arity ds x) n ≡ true → (d : Definition) × OneOf d ds × (d.title ≡ x)
+pub found_one : (ds : List Definition) (x : Word) (n : ℕ) → read.is_arity (read.arity ds x) n ≡ true → (d : Definition) × OneOf d ds × (d.title ≡ x)
 found_one [] x n e = cc
 found_one (d ∷ ds) x n e = by (read.arity ds x) refl (bytes_eq d.title x) refl e (found_one ds x n)
   where
@@ -197,7 +197,7 @@ found_one (d ∷ ds) x n e = by (read.arity ds x) refl (bytes_eq d.title x) refl
         never : false ≡ true → ⊥
         never k = cc
 
-standard_found : (v : read.Sight) (inf : Bool) (n : ℕ) (ds : List StandardName) (x : Word) → ((d : StandardName) → OneOf d ds → is_among standard_names d.title ≡ true) → read.standard_reads v inf (standard_in ds x) n ≡ true → is_among standard_names x ≡ true
+pub standard_found : (v : read.Sight) (inf : Bool) (n : ℕ) (ds : List StandardName) (x : Word) → ((d : StandardName) → OneOf d ds → is_among standard_names d.title ≡ true) → read.standard_reads v inf (standard_in ds x) n ≡ true → is_among standard_names x ≡ true
 standard_found v inf n [] x h e = cc
 standard_found v inf n (d ∷ ds) x h e = by (bytes_eq d.title x) refl e (standard_found v inf n ds x (λ c k. h c (inr k)))
   where
@@ -216,7 +216,7 @@ readable v N c d s inf x e = by (is_among v.constants x) refl e
     by true q k = c x q
     by false q k = by_arity (read.is_arity (read.arity v.earlier x) 0) refl k
 
-more_none : (N : Word → Type 0) (ds : List Definition) → ((d : Definition) → OneOf d ds → N d.title) → (d : Definition) → OneOf d (ds ++ []) → N d.title
+pub more_none : (N : Word → Type 0) (ds : List Definition) → ((d : Definition) → OneOf d ds → N d.title) → (d : Definition) → OneOf d (ds ++ []) → N d.title
 more_none N ds e d k = by (one_either d ds [] k)
   where
     by : OneOf d ds ⊎ OneOf d [] → N d.title
@@ -254,7 +254,7 @@ found_joined N (constants xs ∷ us) ys h k = found_joined N us ys h k
 found_joined N (opaque q ∷ us) ys h k = found_joined N us ys h k
 found_joined N (defines d ∷ us) ys h k = (h.0, found_joined N us ys h.1 k)
 
-one_before : (d : ReadDefinition) (us ys : List OutsideUnit) → OneOf d (flat_map definitions_of us) ⊎ OneOf d (flat_map definitions_of ys) → OneOf d (flat_map definitions_of (us ++ ys))
+pub one_before : (d : ReadDefinition) (us ys : List OutsideUnit) → OneOf d (flat_map definitions_of us) ⊎ OneOf d (flat_map definitions_of ys) → OneOf d (flat_map definitions_of (us ++ ys))
 one_before d [] ys (inl k) = absurd k
 one_before d [] ys (inr k) = k
 one_before d (extends ms ∷ us) ys h = one_before d us ys h

@@ -64,7 +64,7 @@ not_own o x h = (or_parts (is_own x) (is_standard o.extended x) h).0
 pub not_standard : (o : Outside) (x : Word) → Unreserved o x → is_standard o.extended x ≡ false
 not_standard o x h = (or_parts (is_own x) (is_standard o.extended x) h).1
 
-names_unreserved : (o : Outside) (ns : List Name) → flat_map (reserved_name o) ns ≡ [] → Each (Unreserved o) (words ns)
+pub names_unreserved : (o : Outside) (ns : List Name) → flat_map (reserved_name o) ns ≡ [] → Each (Unreserved o) (words ns)
 names_unreserved o [] e = tt
 names_unreserved o (n ∷ ns) e =
     let p = both_none (reserved_name o n) (flat_map (reserved_name o) ns) e in

@@ -1,15 +1,15 @@
 -- A call that is one statement with a return is such that items can be written for it: the name for the old stack is written by the stack, which the first item needs.
-use Rattle.std.proofs.Common.{◌≡◌, List, [], ◌∷◌, ◌++◌, Bool, true, false, ◌||◌, nat_eq, cond, bytes_eq, codes, Option, Some, None, ◌⊎◌, inl, inr, refl, sym, ap, subst, ◌∙◌, Ok, Err}
+use Rattle.std.proofs.Common.{◌≡◌, List, [], ◌∷◌, ◌++◌, Bool, true, false, nat_eq, cond, bytes_eq, codes, Some, None, refl, sym, ap, subst, ◌∙◌, Ok, Err}
 use Rattle.std.proofs.lemmas.Bool.{both_ways, or_right}
 use Rattle.std.proofs.lemmas.Slice.Eq.{bytes_eq-Decides}
 use Rattle.tla_token.specs.declared.place.Place.{Place}
 use Rattle.tla_token.specs.Places.{nowhere}
 use Rattle.tla_token.specs.Signs.{is_among}
 use Rattle.tla_tree.specs.declared.op.Op.TheVariants.{Concat}
-use Rattle.tla_tree.specs.Tree.{Word, Form, name, next, Strict, operator, tuple, fields, apply, select, except, strict, operator_call, Slot, Tree, node, Trees, no_trees, tree, Each, Every, EveryOf, binders, Graft, grafted_name, graft, grafts, root_place}
+use Rattle.tla_tree.specs.Tree.{Word, Form, name, next, Strict, operator, tuple, fields, apply, select, except, strict, operator_call, Tree, node, Trees, no_trees, tree, Each, Every, EveryOf, binders, Graft, grafted_name, graft, grafts, root_place}
 use Rattle.tla_value.specs.Value.{Outcome, ◌>>=◌, IsBad, and_then}
-use Rattle.tla_value.specs.Stops.{Check, plain}
-use Rattle.tla_value.specs.Meaning.{Env, bind, eval, evals, part_values}
+use Rattle.tla_value.specs.Stops.{plain}
+use Rattle.tla_value.specs.Meaning.{Env, eval, evals, part_values}
 use Rattle.tla_value.specs.Definitions.{Valuation}
 use Rattle.tla_value.specs.Grafts.{owned, own_part, primes}
 use Rattle.tla_value.specs.laws.FreeNames.{NotFree}
@@ -17,9 +17,9 @@ use Rattle.tla_value.specs.laws.Grafting.{Clear, BindsClear, Unread}
 use Rattle.tla_value.proofs.Facts.{each_weaker, every_weaker}
 use Rattle.tla_value.proofs.FreeNames.{not_free}
 use Rattle.module_tree.specs.Formulas.{self}
-use Rattle.module_tree.specs.Module.{setting, Items, no_items, item}
+use Rattle.module_tree.specs.Module.{setting, Items, item}
 use Rattle.module_tree.specs.ActionTruth.{item_holds, items_hold}
-use Rattle.pcal_tree.specs.Algorithm.{declares, Declaration, Routine, locals, Assignments, no_assignments, assignment, Binds, is, no_binds, Statements, done, then, mark, assign, with, Algorithm}
+use Rattle.pcal_tree.specs.Algorithm.{declares, Routine, locals, Assignments, no_assignments, assignment, Statements, done, then, mark, assign, Algorithm}
 use Rattle.pcal_tree.specs.Calls.{label_name, first_label, frame_fields}
 use Rattle.pcal_tree.specs.Expand.{graft_left, graft_assignments, graft_all}
 use Rattle.pcal_tree.specs.Paths.{roots}
@@ -27,18 +27,18 @@ use Rattle.pcal_tree.specs.Program.{Program, written}
 use Rattle.pcal_tree.specs.Reads.{Reading, readings_of}
 use Rattle.pcal_tree.specs.Variables.{vars, declared, written_all, pc, stack}
 use Rattle.action_builder.specs.Assigned.{Names, more, head_of, without, heads}
-use Rattle.action_builder.specs.Jumps.{name_at, text_at, one_assignment, spot, jump_written, field_of, kept_field, kept_fields, names_at, values_kept, stack_rest, stack_replaced, pushed_on, fields_of, others_restored, arguments_assigned, variables_written, pair_body, pair_written}
+use Rattle.action_builder.specs.Jumps.{name_at, text_at, spot, jump_written, field_of, kept_field, kept_fields, names_at, values_kept, stack_rest, stack_replaced, fields_of, others_restored, arguments_assigned, variables_written, pair_body, pair_written}
 use Rattle.action_builder.specs.LabelActions.{initial_tree}
 use Rattle.action_builder.specs.OwnVariables.{is_own_variable}
 use Rattle.action_builder.specs.SingleProcess.{in_place_of, graft_items}
-use Rattle.action_builder.specs.Written.{Key, sub, fixed, subs, keys_in, keys_of, keys_first, subscripts, own, slots_of, slot_trees, except_of, sets_whole, side_of, primed, settings_of, old_stack, is_old, put_in, write}
+use Rattle.action_builder.specs.Written.{Key, sub, fixed, subs, keys_in, keys_of, keys_first, subscripts, own, slots_of, slot_trees, except_of, sets_whole, side_of, primed, settings_of, old_stack, put_in, write}
 use Rattle.action_builder.specs.WrittenNames.{renames}
 use Rattle.action_builder.specs.laws.Grafts.{ClearItems}
 use Rattle.action_builder.specs.laws.Jumps.{Unlike, AllUnlike}
-use Rattle.action_builder.specs.laws.Ready.{Readable, IsWithin, Apart, KeptValue, Kept, Needs}
+use Rattle.action_builder.specs.laws.Ready.{Readable, IsWithin, Apart, KeptValue, Needs}
 use Rattle.action_builder.proofs.SetAgain.{bad_then}
-use Rattle.translation.specs.laws.FreshReads.{fresh, Plain, ReadsFresh, AllReadFresh}
-use Rattle.translation.specs.laws.StepNames.{name_of, Unused, StepNames, Called, Frames}
+use Rattle.translation.specs.laws.FreshReads.{fresh, Plain, AllReadFresh}
+use Rattle.translation.specs.laws.StepNames.{name_of, StepNames, Called, Frames}
 use Rattle.translation.specs.laws.StepParts.{Readied}
 use Rattle.translation.specs.laws.WritableAlgorithm.{is_variable}
 use Rattle.translation.proofs.JumpsReady.{used_in, each_joined, each_written, AllReadAnyhow, Writes, Straight, IsNew, unused_anyhow, name_anyhow, none_anyhow, and_anyhow, field_anyhow, rest_anyhow, names_anyhow, pushed_anyhow, one_write, jump_straight, pc_free, ready_from, owned_new, owned_free, stack_free, all_new, called_free, call_straight, call_each, call_unlike}

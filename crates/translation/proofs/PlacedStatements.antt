@@ -1,19 +1,18 @@
 -- Where no rule on labels is broken, each loop is right after a label, no `return` is outside procedures, and no label is in a `with`, with macro calls written out.
-use Rattle.std.proofs.Common.{◌≡◌, ℕ, suc, List, [], ◌∷◌, ◌++◌, reverse, Bool, true, false, not, ◌||◌, cond, bytes_eq, codes, Some, None, ◌⊎◌, inl, inr, refl, sym, subst, ◌∙◌}
+use Rattle.std.proofs.Common.{◌≡◌, ℕ, suc, List, [], ◌∷◌, ◌++◌, reverse, Bool, true, false, not, ◌||◌, cond, bytes_eq, codes, Some, None, inl, inr, refl, sym, subst, ◌∙◌}
 use Rattle.std.proofs.lemmas.Grind.{flat_map-append}
 use Rattle.std.specs.List.{flat_map, AllByRecursion}
 use Rattle.tla_token.specs.declared.rule.Rule.TheVariants.{FirstLabel, LabelInside, ReturnOutside}
 use Rattle.tla_tree.specs.Tree.{Word, Trees, Graft}
-use Rattle.pcal_tree.specs.Algorithm.{Span, Statement, assign, await, print, assert, skip, branch, either, with, while, goto, macro, call, return, Statements, done, then, mark, Branches, no_branches, or, Macro, Procedure, Process, Main, alone, processes, Routine, procedure_routine, process_routine, numbered, first_procedure, first_process, procedure_routines, main_routines, routines, Algorithm}
+use Rattle.pcal_tree.specs.Algorithm.{Span, Statement, assign, await, print, assert, skip, branch, either, with, while, goto, macro, call, return, Statements, done, then, mark, Branches, no_branches, or, Macro, Procedure, Process, Main, alone, processes, Routine, procedure_routine, process_routine, numbered, first_procedure, first_process, procedure_routines, main_routines, Algorithm}
 use Rattle.pcal_tree.specs.Expand.{graft_one, graft_all, graft_some, followed_by, Writing, expand_one, expand, expand_some, written_out, expanded}
 use Rattle.pcal_tree.specs.Offences.{offence_if}
-use Rattle.pcal_tree.specs.OffencesSteps.{Before, at_label, inside, next, Visit, visits_inside, visits, visits_of_some, due_offence, missing_label, offences_at, at_first, missing_in_body, missing_in_macro, nothing_put, call_effect, procedure_effects, outer_effects}
+use Rattle.pcal_tree.specs.OffencesSteps.{Before, at_label, inside, next, Visit, visits_inside, visits, visits_of_some, due_offence, missing_label, offences_at, at_first, missing_in_body, missing_in_macro, call_effect, procedure_effects, outer_effects}
 use Rattle.pcal_tree.specs.OffencesLabels.{Within, within_with, jump_offences_here, jump_offences_inside, jump_offences, jump_offences_of_some, label_words, of_macro, of_procedure, of_body, of_main, label_offences}
 use Rattle.pcal_tree.specs.Paths.{Effect, Effects, nothing, after_one}
 use Rattle.pcal_tree.specs.Processes.{OneOf}
 use Rattle.pcal_tree.specs.Run.{Partner, partner_of, arguments}
 use Rattle.pcal_tree.proofs.ClearLabels.{nothing_left, nothing_right}
-use Rattle.pcal_tree.proofs.RoutineNames.{one_either}
 use Rattle.translation.specs.laws.PlacedStatements.{PlacedOne, Placed, AllPlaced}
 use Rattle.translation.proofs.AcceptedNames.{no_offence, each_none}
 use Rattle.translation.proofs.EndingJumps.{while_missing, each_one}

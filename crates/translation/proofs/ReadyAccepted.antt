@@ -1,13 +1,9 @@
--- Items can be written for each step of an accepted algorithm, where its definitions are settled and nothing in it is primed.
-use Rattle.std.proofs.Common.{◌≡◌, List, [], ◌++◌, reverse, Bool, true, false, ◌||◌, codes, Some, ◌⊎◌, inl, inr, refl, ◌∙◌}
-use Rattle.tla_tree.specs.Tree.{Word}
-use Rattle.tla_token.specs.Words.{is_own, is_standard}
+-- Items can be written for each step of an accepted algorithm in which nothing is primed.
+use Rattle.std.proofs.Common.{◌≡◌, [], ◌++◌, Bool, true, false, codes, ◌⊎◌, inl, inr, refl, ◌∙◌}
 use Rattle.tla_value.specs.Definitions.{Valuation}
 use Rattle.tla_value.specs.Outside.{Outside}
 use Rattle.tla_value.specs.Stops.{plain}
-use Rattle.tla_value.specs.Standard.{printed, asserted, standard_sense}
 use Rattle.pcal_tree.specs.Algorithm.{Routine, procedure_routines, main_routines, routines, Algorithm}
-use Rattle.pcal_tree.specs.Expand.{expanded}
 use Rattle.pcal_tree.specs.Processes.{OneOf, IsActor}
 use Rattle.pcal_tree.specs.Program.{Program, Actor}
 use Rattle.pcal_tree.specs.Programs.{program_in}
@@ -15,22 +11,20 @@ use Rattle.pcal_tree.specs.OffencesStale.{stale_offences}
 use Rattle.pcal_tree.specs.OffencesOfNames.{offences_of_uses, offences_of_declarations, offences_of_reads, through_each_call, name_offences}
 use Rattle.pcal_tree.specs.OffencesReads.{process_offences, own_offences, order_offences}
 use Rattle.pcal_tree.specs.OffencesSelf.{self_offences}
-use Rattle.pcal_tree.specs.Reads.{readings_of}
 use Rattle.pcal_tree.specs.Step.{Stand, routines_of}
-use Rattle.pcal_tree.specs.StepStart.{Begin, at_label}
 use Rattle.pcal_tree.specs.Variables.{vars}
 use Rattle.pcal_tree.proofs.ClearLabels.{both_none}
 use Rattle.pcal_tree.proofs.OneStand.{runs_routine}
 use Rattle.pcal_tree.proofs.RoutineNames.{one_either}
 use Rattle.action_builder.specs.Prepared.{none}
 use Rattle.action_builder.specs.laws.LabelSteps.{IsReady}
-use Rattle.action_builder.specs.laws.Ready.{Readable}
-use Rattle.action_builder.specs.laws.StepsOfLabels.{step_of, pair_env, AllUnprimed, AllSettledFor}
+use Rattle.action_builder.specs.laws.StepsOfLabels.{step_of, pair_env}
 use Rattle.action_builder.specs.laws.WrittenScope.{definitions_of}
 use Rattle.translation.specs.laws.AcceptedAlgorithm.{IsAcceptedInFile}
 use Rattle.translation.specs.laws.FreshReads.{readable}
 use Rattle.translation.specs.laws.LeftToProve.{extra_of, Stance, may_bind, callable_for, ReadyLaw}
 use Rattle.translation.specs.laws.NothingPrimed.{NothingPrimed}
+use Rattle.translation.proofs.AllSettled.{all_settled}
 use Rattle.translation.proofs.BegunSteps.{IsRoutine}
 use Rattle.translation.proofs.FramesAccepted.{untitled, bound_defs, defs_through}
 use Rattle.translation.proofs.LabelReady.{NamesSound, label_ready}
@@ -47,7 +41,7 @@ stale_none a o e =
     let s = (both_none (own_offences a) _ (both_none (process_offences a) _ r).1).1 in
     (both_none (stale_offences a) (self_offences a) (both_none (order_offences a) _ s).1).0
 
-module _ (o : Outside) (a : Algorithm) (h : IsAcceptedInFile o a) (values : Valuation) (primes : NothingPrimed (program_in plain o a values) (extra_of a)) (settled : AllSettledFor (program_in plain o a values) (extra_of a) (readable a)) where
+module _ (o : Outside) (a : Algorithm) (h : IsAcceptedInFile o a) (values : Valuation) (primes : NothingPrimed (program_in plain o a values) (extra_of a)) where
   abbrev P : Program
   P = program_in plain o a values
 
@@ -59,7 +53,7 @@ module _ (o : Outside) (a : Algorithm) (h : IsAcceptedInFile o a) (values : Valu
         frames = frames_ready o a h values primes.starts v actor r u one;
         local = λ x m. outside_unused o a h values x (local_outside o a h u j x m);
         apart = apart;
-        settled = settled;
+        settled = λ A w. all_settled o a h values A w apart.definitions apart.untitled;
         unprimed = primes.definitions;
         print = λ s t. bound_defs v.self _ (codes "PrintT") ∙ defs_through plain (definitions_of P ++ extra_of a) _ (codes "PrintT") (untitled o a h values v actor (codes "PrintT") refl refl);
         assert = λ s t. bound_defs v.self _ (codes "Assert") ∙ defs_through plain (definitions_of P ++ extra_of a) _ (codes "Assert") (untitled o a h values v actor (codes "Assert") refl refl);
@@ -82,6 +76,5 @@ module _ (o : Outside) (a : Algorithm) (h : IsAcceptedInFile o a) (values : Valu
       by j (inr k) = ready false j k
 
 -- where that is so of each accepted algorithm
-pub ready_law : ((o : Outside) (g : Algorithm) (h : IsAcceptedInFile o g) (values : Valuation) → NothingPrimed (program_in plain o g values) (extra_of g)) → ((o : Outside) (g : Algorithm) → IsAcceptedInFile o g → (values : Valuation) → AllSettledFor (program_in plain o g values) (extra_of g) (readable g))
-    → ReadyLaw IsAcceptedInFile readable
-ready_law primes settled o g h values v d stance = step_is_ready o g h values (primes o g h values) (settled o g h values) v d stance
+pub ready_law : ((o : Outside) (g : Algorithm) → IsAcceptedInFile o g → (values : Valuation) → NothingPrimed (program_in plain o g values) (extra_of g)) → ReadyLaw IsAcceptedInFile readable
+ready_law primes o g h values v d stance = step_is_ready o g h values (primes o g h values) v d stance

@@ -1,21 +1,19 @@
 -- What an accepted algorithm's calls and returns ask of names; and that no name is bound in a step which is a variable's or a definition's.
-use Rattle.std.proofs.Common.{◌≡◌, ℕ, List, [], ◌∷◌, ◌++◌, reverse, Bool, true, false, ◌||◌, ◌&&◌, not, nat_eq, cond, bytes_eq, codes, Some, None, ◌⊎◌, inl, inr, refl, sym, ap, subst, ◌∙◌}
+use Rattle.std.proofs.Common.{◌≡◌, List, [], ◌∷◌, ◌++◌, reverse, Bool, true, false, ◌||◌, ◌&&◌, not, nat_eq, cond, codes, Some, inl, inr, refl, sym, ap, subst, ◌∙◌}
 use Rattle.std.proofs.lemmas.Bool.{both_ways, eq-eqb, eqb-true}
-use Rattle.std.proofs.lemmas.Slice.Eq.{bytes_eq-Decides}
-use Rattle.std.specs.List.{AllByRecursion, flat_map}
+use Rattle.std.specs.List.{AllByRecursion}
 use Rattle.tla_token.specs.declared.place.Place.{Place}
-use Rattle.tla_token.specs.Signs.{is_among}
 use Rattle.tla_token.specs.Words.{is_own, is_standard}
-use Rattle.tla_tree.specs.Tree.{Word, words, Form, name, next, operator_call, binding, local, Tree, node, Trees, no_trees, tree, Each, Every, EveryOf, binders}
+use Rattle.tla_tree.specs.Tree.{Word, Form, name, next, operator_call, binding, local, Tree, node, Trees, no_trees, tree, Each, Every, EveryOf, binders}
 use Rattle.tla_tree.specs.laws.Writable.{IsIdentifier, IsWritable, AreWritable, names_in}
 use Rattle.tla_value.specs.Definitions.{Valuation}
 use Rattle.tla_value.specs.Outside.{Outside}
 use Rattle.tla_value.specs.Stops.{plain}
 use Rattle.tla_value.specs.laws.Grafting.{IsUnprimed}
 use Rattle.pcal_tree.specs.Algorithm.{Assignments, no_assignments, assignment, Binds, no_binds, one_of, is, Statement, assign, await, print, assert, skip, branch, either, with, while, goto, macro, call, return, Statements, done, then, mark, Branches, no_branches, or, Start, unset, equals, among, Declaration, Definition, declares, Routine, locals, procedure_routines, main_routines, routines, Algorithm}
-use Rattle.pcal_tree.specs.BoundNames.{bound_lists, lists_in, lists_in_start, lists_in_body}
+use Rattle.pcal_tree.specs.BoundNames.{lists_in_start, lists_in_body}
 use Rattle.pcal_tree.specs.Expand.{expanded}
-use Rattle.pcal_tree.specs.OffencesRebind.{Standings, in_scope, may_rebind, standing_inside, naming, any_name, start_rebinds, macro_rebinds, tree_rebinds}
+use Rattle.pcal_tree.specs.OffencesRebind.{Standings, in_scope, may_rebind, standing_inside, naming, any_name, start_rebinds, macro_rebinds}
 use Rattle.pcal_tree.specs.Calls.{routine_named}
 use Rattle.pcal_tree.specs.Names.{taken_at_start, wanted}
 use Rattle.pcal_tree.specs.Processes.{OneOf, IsActor}
@@ -29,7 +27,6 @@ use Rattle.pcal_tree.specs.laws.Expansion.{ThroughoutAssignments, ThroughoutBind
 use Rattle.pcal_tree.proofs.CallsFine.{throughout_both}
 use Rattle.pcal_tree.proofs.FreeNames.{given_apart}
 use Rattle.pcal_tree.proofs.NothingCaptured.{Free, BindsFree, written_bare}
-use Rattle.pcal_tree.proofs.RebindNames.{scope_of_both}
 use Rattle.pcal_tree.proofs.TroubleLaws.{one_left, one_right}
 use Rattle.pcal_tree.proofs.Uncaptured.{throughout_weaker}
 use Rattle.action_builder.specs.Written.{old_stack}
@@ -38,7 +35,7 @@ use Rattle.translation.specs.laws.AcceptedAlgorithm.{IsAcceptedInFile}
 use Rattle.translation.specs.laws.FreshReads.{Plain}
 use Rattle.translation.specs.laws.LeftToProve.{extra_of}
 use Rattle.translation.specs.laws.NothingPrimed.{NonePrimed, StartUnprimed}
-use Rattle.translation.specs.laws.StepNames.{name_of, Unused, StepNames, StartReads, Called, Frames}
+use Rattle.translation.specs.laws.StepNames.{name_of, Unused, StartReads, Called, Frames}
 use Rattle.translation.specs.laws.TypedAlgorithm.{IsTypedDefinition}
 use Rattle.translation.specs.laws.WritableAlgorithm.{is_variable, IsWritableStart, AreWritableAssignments, AreWritableBinds, IsWritableStatement, AreWritableStatements, AreWritableBranches}
 use Rattle.translation.proofs.AcceptedNames.{each_none}
@@ -46,7 +43,7 @@ use Rattle.translation.proofs.BegunSteps.{IsRoutine, routine_one}
 use Rattle.translation.proofs.BoundOf.{AllIn, BindsAll, body_bound, tree_bound, in_flat}
 use Rattle.translation.proofs.CalledProcedures.{one_declared}
 use Rattle.translation.proofs.FramesAccepted.{stack_among, old_no_variable}
-use Rattle.translation.proofs.FromLabels.{from_label, bound_pass, More, NoneAgain, again_pass}
+use Rattle.translation.proofs.FromLabels.{from_label, bound_pass, NoneAgain, again_pass}
 use Rattle.translation.proofs.LocalNames.{main_apart, local_outside}
 use Rattle.translation.proofs.MacrosSound.{typed, macros_bound, in_rest}
 use Rattle.translation.proofs.NamedBodies.{among_one}

@@ -1,18 +1,15 @@
 -- The names of an accepted algorithm are such as the steps of its routines ask for.
-use Rattle.std.proofs.Common.{◌≡◌, ℕ, List, [], ◌∷◌, ◌++◌, reverse, Bool, true, false, ◌||◌, ◌&&◌, not, nat_eq, cond, bytes_eq, codes, map, filter, Some, None, ◌⊎◌, inl, inr, refl, sym, ap, subst, ◌∙◌}
-use Rattle.std.proofs.lemmas.Bool.{both_ways, or_left, or_right, eqb-true}
+use Rattle.std.proofs.Common.{◌≡◌, List, [], ◌∷◌, ◌++◌, reverse, Bool, true, false, ◌||◌, cond, bytes_eq, map, filter, inl, inr, refl, sym, ap, ◌∙◌}
+use Rattle.std.proofs.lemmas.Bool.{or_left, or_right}
 use Rattle.std.proofs.lemmas.Slice.Eq.{bytes_eq-Decides}
-use Rattle.std.specs.List.{AllByRecursion, flat_map}
 use Rattle.tla_token.specs.Signs.{is_among}
 use Rattle.tla_token.specs.Words.{is_own, is_standard}
-use Rattle.tla_tree.specs.Tree.{Word, words, Each}
-use Rattle.tla_tree.specs.laws.Writable.{IsIdentifier}
+use Rattle.tla_tree.specs.Tree.{Word, words}
 use Rattle.tla_value.specs.Definitions.{Valuation}
 use Rattle.tla_value.specs.Outside.{Outside}
 use Rattle.tla_value.specs.Stops.{plain}
 use Rattle.module_tree.specs.Formulas.{self}
-use Rattle.pcal_tree.specs.Algorithm.{Definition, declares, Routine, locals, procedure_routines, main_routines, routines, Algorithm}
-use Rattle.pcal_tree.specs.BoundNames.{all_of, bound_lists}
+use Rattle.pcal_tree.specs.Algorithm.{Definition, declares, Routine, locals, routines, Algorithm}
 use Rattle.pcal_tree.specs.OffencesRebind.{in_scope, standing_inside}
 use Rattle.pcal_tree.specs.Outside.{unit_names}
 use Rattle.pcal_tree.specs.Processes.{OneOf}
@@ -20,8 +17,6 @@ use Rattle.pcal_tree.specs.Program.{Program, Actor, written}
 use Rattle.pcal_tree.specs.Programs.{program_in}
 use Rattle.pcal_tree.specs.Reads.{used, through, among_looked_at, readings, readings_of}
 use Rattle.pcal_tree.specs.Variables.{vars, declared, pc, stack}
-use Rattle.pcal_tree.proofs.RoutineNames.{one_either}
-use Rattle.action_builder.specs.OwnVariables.{is_own_variable}
 use Rattle.action_builder.specs.Written.{old_stack}
 use Rattle.action_builder.specs.laws.WrittenScope.{NamesApart}
 use Rattle.translation.specs.laws.AcceptedAlgorithm.{IsAcceptedInFile}
@@ -31,15 +26,15 @@ use Rattle.translation.specs.laws.WritableAlgorithm.{is_variable}
 use Rattle.translation.proofs.FramesAccepted.{pc_among}
 use Rattle.translation.proofs.MacrosSound.{in_named, in_rest}
 use Rattle.translation.proofs.NamedBodies.{among_one}
-use Rattle.translation.proofs.NamesApart.{own_differs, false_among, never, Outer, writable, free, outer, kept_differs}
+use Rattle.translation.proofs.NamesApart.{own_differs, false_among, never, writable, free, outer, kept_differs}
 use Rattle.translation.proofs.NamesGiven.{Bound, bound_kept}
 use Rattle.translation.proofs.NamesInSight.{one_reversed}
 use Rattle.translation.proofs.NamesOfRules.{Unreserved, not_own, turned}
-use Rattle.translation.proofs.RoutinesNamed.{variables_named, names_fit, local_free, among_before, among_later, one_each_of}
+use Rattle.translation.proofs.RoutinesNamed.{variables_named, names_fit, local_free, among_before, one_each_of}
 use Rattle.translation.proofs.VariableNames.{none_among, each_from, vars_each, one_is_among}
 
 -- no definition of the name, so it reads nothing as one
-through_none : (gs : List Word) (ds : List Definition) (x : Word) → ((d : Definition) → OneOf d ds → bytes_eq d.name.word x ≡ false) → through (readings gs ds) x ≡ []
+pub through_none : (gs : List Word) (ds : List Definition) (x : Word) → ((d : Definition) → OneOf d ds → bytes_eq d.name.word x ≡ false) → through (readings gs ds) x ≡ []
 through_none gs [] x h = refl
 through_none gs (d ∷ older) x h =
     ap (λ (b : Bool). cond b (filter (among_looked_at (readings gs older) (used d.body (words d.params))) gs) (through (readings gs older) x)) (h d (inl refl)) ∙ through_none gs older x (λ e m. h e (inr m))

@@ -1,20 +1,20 @@
 -- A step of a routine is such that items can be written for it, where names are apart, no rule on labels and definitions is broken.
-use Rattle.std.proofs.Common.{◌≡◌, List, [], ◌∷◌, Bool, true, false, nat_eq, cond, bytes_eq, Option, Some, None, inl, inr, reverse, refl, sym, ap, subst, ◌∙◌}
+use Rattle.std.proofs.Common.{◌≡◌, List, [], ◌∷◌, Bool, true, false, nat_eq, cond, bytes_eq, Option, Some, inl, inr, refl, sym, ap, subst, ◌∙◌}
 use Rattle.std.proofs.lemmas.Bool.{both_ways}
 use Rattle.std.proofs.lemmas.Option.{same_Some}
-use Rattle.tla_tree.specs.Tree.{Word, Tree, Trees, Graft, graft, grafts}
+use Rattle.tla_tree.specs.Tree.{Word, Trees, Graft, grafts}
 use Rattle.tla_value.specs.Grafts.{owned}
 use Rattle.module_tree.specs.Formulas.{self}
-use Rattle.pcal_tree.specs.Algorithm.{nowhere, Name, Span, declares, Routine, locals, Assignments, Binds, Statements, call, return, Algorithm, first_procedure, procedure_routines, main_routines, routines}
-use Rattle.pcal_tree.specs.Calls.{label_name, first_label, routine_named}
-use Rattle.pcal_tree.specs.Expand.{graft_all, expanded}
+use Rattle.pcal_tree.specs.Algorithm.{nowhere, Name, Span, Routine, locals, Statements, call, return, Algorithm, first_procedure, procedure_routines}
+use Rattle.pcal_tree.specs.Calls.{label_name, routine_named}
+use Rattle.pcal_tree.specs.Expand.{graft_all}
 use Rattle.pcal_tree.specs.OffencesStale.{used_by_call}
-use Rattle.pcal_tree.specs.OffencesSteps.{call_effect, effects_in, effect_with}
-use Rattle.pcal_tree.specs.Paths.{sets_once, nothing, roots}
+use Rattle.pcal_tree.specs.OffencesSteps.{effect_with}
+use Rattle.pcal_tree.specs.Paths.{sets_once, nothing}
 use Rattle.pcal_tree.specs.Processes.{OneOf}
 use Rattle.pcal_tree.specs.Program.{Program}
 use Rattle.pcal_tree.specs.Reads.{Reading, readings_of}
-use Rattle.pcal_tree.specs.Run.{Partner, no_partner, goto_partner, return_partner, unlabelled}
+use Rattle.pcal_tree.specs.Run.{Partner, no_partner, goto_partner, return_partner}
 use Rattle.pcal_tree.specs.Variables.{vars, declared}
 use Rattle.action_builder.specs.Assigned.{Names}
 use Rattle.action_builder.specs.Jumps.{written_jumps, call_to, call_with}
@@ -22,9 +22,9 @@ use Rattle.action_builder.specs.LabelActions.{no_jump_places, written_initials}
 use Rattle.action_builder.specs.OwnVariables.{is_own_variable}
 use Rattle.action_builder.specs.Prepared.{prepared, none}
 use Rattle.action_builder.specs.Settled.{WrittenJumps}
-use Rattle.action_builder.specs.WrittenNames.{renames, written_statements}
-use Rattle.action_builder.specs.laws.Ready.{Readable, IsWithin, Apart}
-use Rattle.translation.specs.laws.FreshReads.{fresh, ReadsFresh, AllReadFresh, AllFresh, MayReturn, asked}
+use Rattle.action_builder.specs.WrittenNames.{renames}
+use Rattle.action_builder.specs.laws.Ready.{Readable, Apart}
+use Rattle.translation.specs.laws.FreshReads.{fresh, AllFresh, MayReturn, asked}
 use Rattle.translation.specs.laws.StepNames.{name_of, StepNames, Called, Frames}
 use Rattle.translation.specs.laws.StepParts.{Asked, AskedIn, Readied}
 use Rattle.translation.specs.laws.WritableAlgorithm.{is_procedure, is_variable}
@@ -32,7 +32,7 @@ use Rattle.translation.proofs.BegunSteps.{effects_of}
 use Rattle.translation.proofs.CalledProcedures.{is_called}
 use Rattle.translation.proofs.JumpsReady.{used_in, used_called, goto_ready, return_ready, call_ready}
 use Rattle.translation.proofs.PairsReady.{pair_ready}
-use Rattle.translation.proofs.ReadiedSteps.{From, Became, PartsFit, list_ready}
+use Rattle.translation.proofs.ReadiedSteps.{Became, PartsFit, list_ready}
 use Rattle.translation.proofs.StepNames.{assigned_from, assignments_fine, assignments_apart, tree_fine, binds_fine, binds_new}
 use Rattle.translation.proofs.NamesFree.{AllOf}
 

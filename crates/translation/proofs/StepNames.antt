@@ -4,10 +4,9 @@ use Rattle.std.proofs.lemmas.Bool.{both_ways, or_parts}
 use Rattle.std.proofs.lemmas.Slice.Eq.{bytes_eq-Decides}
 use Rattle.std.specs.List.{list_any}
 use Rattle.tla_token.specs.declared.place.Place.{Place}
-use Rattle.tla_token.specs.Places.{nowhere}
 use Rattle.tla_token.specs.Signs.{is_among}
 use Rattle.tla_token.proofs.Spelled.{same_bytes}
-use Rattle.tla_tree.specs.Tree.{Word, words, Form, name, next, Tree, node, Trees, no_trees, tree, Each, Every, EveryOf, binders, Graft, graft, grafts}
+use Rattle.tla_tree.specs.Tree.{Word, words, Form, name, next, Tree, node, Trees, no_trees, Every, binders, Graft, graft, grafts}
 use Rattle.tla_value.specs.Grafts.{owned, own_part}
 use Rattle.tla_value.specs.laws.Grafting.{In, BindsNone, IsUnprimed}
 use Rattle.tla_value.proofs.Facts.{each_weaker, every_weaker}
@@ -20,10 +19,10 @@ use Rattle.pcal_tree.specs.Reads.{Reading, used, through, among_looked_at, readi
 use Rattle.pcal_tree.specs.Variables.{vars}
 use Rattle.action_builder.specs.Assigned.{Names, head_of, without, heads}
 use Rattle.action_builder.specs.OwnVariables.{is_own_variable}
-use Rattle.action_builder.specs.Written.{is_old, old_stack}
+use Rattle.action_builder.specs.Written.{is_old}
 use Rattle.action_builder.specs.WrittenNames.{renames}
 use Rattle.action_builder.specs.laws.Ready.{Readable, IsWithin, IsLeft, LeftSides, FineTree, FineSides, FineAssignments, FineBinds, Apart}
-use Rattle.action_builder.proofs.Main.{append_cases, in_front, behind}
+use Rattle.action_builder.proofs.Main.{in_front, behind}
 use Rattle.translation.specs.laws.FreshReads.{fresh, Plain, ReadsFresh, AllReadFresh, SidesReadFresh, BindsReadFresh}
 use Rattle.translation.specs.laws.StepNames.{name_of, Unused, StepNames}
 use Rattle.translation.specs.laws.WritableAlgorithm.{is_variable, AreWritableAssignments}
@@ -51,7 +50,7 @@ among_kept f (x ∷ xs) y m = by (f x) m (among_kept f xs y)
     by true k g = either (bytes_eq x y) (is_among (filter f xs) y) (is_among xs y) g k
     by false k g = later (bytes_eq x y) (is_among xs y) (g k)
 
-readings_global : (gs : List Word) (ds : List Definition) (x y : Word) → is_among (through (readings gs ds) x) y ≡ true → is_among gs y ≡ true
+pub readings_global : (gs : List Word) (ds : List Definition) (x y : Word) → is_among (through (readings gs ds) x) y ≡ true → is_among gs y ≡ true
 readings_global gs [] x y m = cc
 readings_global gs (d ∷ older) x y m = by (among_looked_at (readings gs older) (used d.body (words d.params))) (bytes_eq d.name.word x) m (readings_global gs older x y)
   where
@@ -64,7 +63,7 @@ through_global a x y m = readings_global _ _ x y m
 
 -- ---- booleans
 
-any_none : (A : Names) (ys : List Word) → ((y : Word) → is_among ys y ≡ true → A y ≡ false) → list_any A ys ≡ false
+pub any_none : (A : Names) (ys : List Word) → ((y : Word) → is_among ys y ≡ true → A y ≡ false) → list_any A ys ≡ false
 any_none A [] h = refl
 any_none A (y ∷ ys) h = by (A y) (h y (here y ys)) (any_none A ys (λ x m. h x (later (bytes_eq y x) (is_among ys x) m)))
   where
@@ -82,7 +81,7 @@ any_none A (y ∷ ys) h = by (A y) (h y (here y ys)) (any_none A ys (λ x m. h x
     by true e k = absurd cc
     by false e k = k
 
-any_each : (A : Names) (ys : List Word) → list_any A ys ≡ false → (y : Word) → is_among ys y ≡ true → A y ≡ false
+pub any_each : (A : Names) (ys : List Word) → list_any A ys ≡ false → (y : Word) → is_among ys y ≡ true → A y ≡ false
 any_each A [] h y m = cc
 any_each A (x ∷ xs) h y m =
     let p = or_parts (A x) (list_any A xs) h in
@@ -92,11 +91,11 @@ any_each A (x ∷ xs) h y m =
     by true e k q f = ap A (sym (same_bytes x y e)) ∙ q
     by false e k q f = f k
 
-negated : (b : Bool) → b ≡ false → not b ≡ true
+pub negated : (b : Bool) → b ≡ false → not b ≡ true
 negated true e = cc
 negated false e = refl
 
-negated_back : (b : Bool) → not b ≡ true → b ≡ false
+pub negated_back : (b : Bool) → not b ≡ true → b ≡ false
 negated_back true e = cc
 negated_back false e = refl
 

@@ -1,13 +1,13 @@
 -- Assignments one after the other, to different variables that are assigned nowhere before: items can be written for them.
-use Rattle.std.proofs.Common.{◌≡◌, List, [], ◌∷◌, ◌++◌, Bool, true, false, ◌||◌, cond, bytes_eq, Option, Some, None, ◌⊎◌, inl, inr, refl, sym, ap, subst, ◌∙◌}
-use Rattle.std.proofs.lemmas.Bool.{both_ways, or_parts}
+use Rattle.std.proofs.Common.{◌≡◌, List, [], ◌∷◌, ◌++◌, Bool, true, false, ◌||◌, bytes_eq, Option, Some, ◌⊎◌, inl, inr, refl, sym, subst, ◌∙◌}
+use Rattle.std.proofs.lemmas.Bool.{both_ways}
 use Rattle.std.proofs.lemmas.Slice.Eq.{bytes_eq-Decides}
 use Rattle.tla_token.specs.Signs.{is_among}
 use Rattle.tla_token.proofs.Spelled.{same_bytes}
-use Rattle.tla_tree.specs.Tree.{Word, Tree, Trees, Each, Graft, graft}
+use Rattle.tla_tree.specs.Tree.{Word, Tree, Graft, graft}
 use Rattle.tla_value.specs.Grafts.{owned}
 use Rattle.module_tree.specs.Formulas.{self}
-use Rattle.pcal_tree.specs.Algorithm.{declares, Routine, Assignments, no_assignments, assignment, Statement, assign, Statements, done, then, mark, Algorithm}
+use Rattle.pcal_tree.specs.Algorithm.{declares, Routine, Assignments, no_assignments, assignment, assign, Statements, done, then, mark, Algorithm}
 use Rattle.pcal_tree.specs.Expand.{graft_left, graft_assignments, graft_all}
 use Rattle.pcal_tree.specs.Paths.{root, some_word, roots}
 use Rattle.pcal_tree.specs.Program.{Program}
@@ -15,7 +15,7 @@ use Rattle.pcal_tree.specs.Reads.{Reading, readings_of}
 use Rattle.pcal_tree.specs.Variables.{vars}
 use Rattle.action_builder.specs.Assigned.{Names, more, head_of, without, heads}
 use Rattle.action_builder.specs.OwnVariables.{is_own_variable}
-use Rattle.action_builder.specs.laws.Jumps.{Unlike, AllUnlike}
+use Rattle.action_builder.specs.laws.Jumps.{AllUnlike}
 use Rattle.action_builder.specs.laws.Ready.{Readable, IsWithin, LeftSides, FineSides, FineAssignments, Apart}
 use Rattle.action_builder.proofs.FitWritten.{among_each}
 use Rattle.action_builder.proofs.Main.{append_cases, in_front, behind}

@@ -27,6 +27,7 @@ ghost use Rattle.tla_value.specs.Stops.{plain};
 ghost use Rattle.tla_value.specs.Definitions.{Valuation};
 ghost use Rattle.promise.specs.ConstantsAndStates.{program};
 ghost use Rattle.translation.specs.laws.LeftToProve.{extra_of, Stance, may_bind, callable_for, NamesApartLaw, NamesGivenLaw, PreparedLaw, PairsLaw, ReadyLaw, ActionLaw, NextOfRegionLaw, InitOfRegionLaw, RegionPlaced, PromiseKept};
+ghost use Rattle.promise.specs.NextAndInit.{InitIs};
 ghost use Rattle.pcal_tree.specs.Variables.{declared, vars};
 ghost use Rattle.pcal_tree.specs.Labelled.{labelled};
 ghost use Rattle.module_tree.specs.Around.{Around};
@@ -38,7 +39,7 @@ ghost use Rattle.action_builder.specs.WrittenNames.{with_names};
 ghost use Rattle.action_builder.specs.LabelActions.{at_test, items_from};
 ghost use Rattle.action_builder.specs.laws.Settling.{Callable};
 ghost use Rattle.action_builder.specs.laws.LabelSteps.{IsReady, action_of};
-ghost use Rattle.action_builder.specs.laws.StepsOfLabels.{step_of, pair_env, AllSettledFor, PcStands};
+ghost use Rattle.action_builder.specs.laws.StepsOfLabels.{step_of, pair_env, PcStands};
 ghost use Rattle.translation.specs.laws.ActionNames.{action_names};
 ghost use Rattle.translation.specs.laws.ActionLaws.{FairnessLaw, ProcessSetLaw, TerminationLaw, AgainLaw, FileAgainLaw};
 ghost use Rattle.translation.specs.laws.Steps.{written_step};
@@ -200,10 +201,13 @@ pub fn written_names_stand_for_the_names_of_routines()
     ensures given { NamesGivenLaw IsAcceptedInFile }
 {}
 
-/// Init of what is written of an accepted algorithm, with the algorithm's own places, is true exactly of the initial states: for all constants that give the processes
-/// different identifiers, and all states from which no initial value is a fault. Else it is false, and never a fault.
+/// Init of what is written of an accepted algorithm is true exactly of its initial states: for all constants that give the processes different identifiers, and all
+/// states from which no initial value is a fault. Else it is false, and never a fault. That is so of the region that has the algorithm's own places, and of each module
+/// that the translated file is read as.
 pub fn init_is_true_of_the_initial_states()
-    ensures { InitOfRegionLaw IsAcceptedInFile }
+    ensures region { InitOfRegionLaw IsAcceptedInFile }
+    ensures files { (no_terminating : Bool) (x w : Text) (o : Outside) (a : Algorithm) → IsAccepted o a → length x ≤ most_bytes → IsFine x → HasOutside (walk x) o
+        → WithTranslation x (layout (written_region no_terminating o a)) w → (m : Module) → Reads w m → InitIs a m }
 {}
 
 /// Where items can be written for each step, Next of what is written of an accepted algorithm, with the algorithm's own places, is true of two states exactly where some
@@ -220,11 +224,10 @@ pub fn loops_follow_labels()
     ensures bodies { (a : Algorithm) → label_offences a ≡ [] → (u : Routine) → OneOf u (main_routines a a.main) → Placed false false false (expanded (reverse a.macros) u.body) }
 {}
 
-/// For each step of an accepted algorithm items can be written, also for calls and returns, where no name is primed, and where no definition that may be read reads what is assigned:
-/// nothing is assigned twice, left sides are variables, and no definition is used after a variable that it reads was assigned. A name may be read there if it is no definition,
+/// For each step of an accepted algorithm in which no name is primed items can be written, also for calls and returns: nothing is assigned twice, left sides are variables, and no definition is used after a variable that it reads was assigned. A name may be read there if it is no definition,
 /// or one that reads, itself or through others, none of the variables that are assigned already.
 pub fn items_can_be_written_for_steps()
-    ensures { (o : Outside) (g : Algorithm) → IsAcceptedInFile o g → (values : Valuation) → NothingPrimed (program_in plain o g values) (extra_of g) → AllSettledFor (program_in plain o g values) (extra_of g) (readable g)
+    ensures { (o : Outside) (g : Algorithm) → IsAcceptedInFile o g → (values : Valuation) → NothingPrimed (program_in plain o g values) (extra_of g)
         → (v : Actor) (d : Stand) → Stance (program_in plain o g values) v d
         → IsReady (readable g) (vars (program_in plain o g values)) (pair_env (program_in plain o g values) (extra_of g) v) none
         (step_of (program_in plain o g values) (extra_of g) v d (may_bind o (program_in plain o g values)) (callable_for (program_in plain o g values))) }

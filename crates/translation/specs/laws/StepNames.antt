@@ -1,6 +1,6 @@
 -- What is asked of the names of a routine's steps, so that its expressions read, under written names, what may be read where variables are assigned ("A PlusCal User's Manual",
 -- section 4, on names in the translation).
-use Rattle.std.specs.Prelude.{◌≡◌, List, [], Bool, true, false, cond, bytes_eq, nat_eq, codes, Some}
+use Rattle.std.specs.Prelude.{◌≡◌, [], Bool, true, false, cond, bytes_eq, nat_eq, codes, Some}
 use Rattle.std.specs.List.{AllByRecursion}
 use Rattle.tla_token.specs.Signs.{is_among}
 use Rattle.tla_tree.specs.Tree.{Word, Every}
