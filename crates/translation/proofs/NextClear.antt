@@ -1,7 +1,6 @@
 -- Where no bound name of statements is in the way of a tree that is put in for a name, none of the items that are written for them is.
-use Rattle.std.proofs.Common.{◌≡◌, List, [], ◌∷◌, ◌++◌, Bool, true, false, not, ◌&&◌, cond, bytes_eq, Option, Some, None}
+use Rattle.std.proofs.Common.{List, [], ◌∷◌, ◌++◌, Bool, true, false, cond, bytes_eq, Some, None}
 use Rattle.tla_token.specs.declared.place.Place.{Place}
-use Rattle.tla_token.specs.Signs.{is_among}
 use Rattle.tla_tree.specs.Tree.{Word, select, Form, name, next, strict, Tree, node, Trees, no_trees, tree, Every, EveryOf, Graft, graft, root_place}
 use Rattle.tla_value.specs.Grafts.{primes}
 use Rattle.tla_value.specs.Stops.{Check}
@@ -14,7 +13,7 @@ use Rattle.pcal_tree.proofs.NothingCaptured.{Has, pub_keeps}
 use Rattle.action_builder.specs.Assigned.{Names, more, head_of, heads, assigned, assigned_in, assigned_by}
 use Rattle.action_builder.specs.Prepared.{none, action_items}
 use Rattle.action_builder.specs.SingleProcess.{in_place_of, graft_item, graft_items, graft_branches}
-use Rattle.action_builder.specs.Written.{Key, sub, fixed, subs, keys_in, keys_of, keys_first, steps_of, subscripts, own, slot_trees, except_of, sets_whole, side_of, primed, left_of, unchanged_of, onto, filled, settings_of, is_old, put_in, nested_items, branch_items, write_one, write, write_some}
+use Rattle.action_builder.specs.Written.{Key, sub, fixed, subs, keys_in, keys_of, keys_first, subscripts, own, slot_trees, except_of, sets_whole, side_of, primed, left_of, unchanged_of, onto, filled, settings_of, is_old, put_in, nested_items, branch_items, write_one, write, write_some}
 use Rattle.action_builder.specs.laws.Grafts.{ClearItem, ClearItems, ClearBranches}
 
 module _ (c : Check) (g : Graft) where

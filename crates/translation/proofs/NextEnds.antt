@@ -1,5 +1,5 @@
 -- Terminating is true exactly where all processes are done and nothing changes.
-use Rattle.std.proofs.Common.{◌≡◌, ◌↔◌, List, [], ◌∷◌, ◌++◌, Bool, true, false, ◌&&◌, cond, bytes_eq, codes, Option, Some, None, ◌⊎◌, inl, inr, refl, sym, ap, ◌∙◌, subst, Ok, Err}
+use Rattle.std.proofs.Common.{◌≡◌, ◌↔◌, List, [], ◌∷◌, Bool, true, false, cond, codes, Option, Some, None, inl, inr, refl, sym, ap, ◌∙◌, subst, Ok, Err}
 use Rattle.std.proofs.lemmas.Bool.{and_parts, and_from}
 use Rattle.std.specs.Option.{ok_or}
 use Rattle.tla_token.specs.declared.place.Place.{Place}
@@ -13,16 +13,15 @@ use Rattle.tla_value.specs.Order.{same, found_at}
 use Rattle.tla_value.specs.OrderLaws.{same_is, same_self}
 use Rattle.tla_value.specs.Stops.{plain, truth_at}
 use Rattle.tla_value.specs.Strict.{applied, strict_value}
-use Rattle.tla_value.specs.Meaning.{Env, just, bind, eval}
+use Rattle.tla_value.specs.Meaning.{Env, just, eval}
 use Rattle.tla_value.proofs.Outcomes.{ok_is}
 use Rattle.tla_value.proofs.Quantified.{EachIn, Gives, every, for_all_law}
-use Rattle.module_tree.specs.Formulas.{self, named, quoted, process_set, equal, at, for_all_self}
+use Rattle.module_tree.specs.Formulas.{self, named, quoted, process_set, equal, at}
 use Rattle.module_tree.specs.Module.{test, unchanged, no_items, item, call, one_way, all_of, Action}
-use Rattle.module_tree.specs.ModuleTruth.{terminating}
-use Rattle.module_tree.specs.ActionTruth.{Acts, acted, is_unchanged, are_unchanged, truth_in, items_hold, some_way_holds}
+use Rattle.module_tree.specs.ActionTruth.{Acts, acted, is_unchanged, are_unchanged, truth_in, some_way_holds}
 use Rattle.module_tree.proofs.Tells.{tells_and, tells_as, tells_of}
 use Rattle.pcal_tree.specs.Algorithm.{Main, alone, processes}
-use Rattle.pcal_tree.specs.Processes.{OneOf, actors, IsActor}
+use Rattle.pcal_tree.specs.Processes.{OneOf, actors}
 use Rattle.pcal_tree.specs.Program.{Program, Actor, index, read_at}
 use Rattle.pcal_tree.specs.Scope.{State}
 use Rattle.pcal_tree.specs.Step.{pc_of, Stutters}
@@ -153,8 +152,10 @@ module _ (s : State) (env : Env) (reads : env.now pc nowhere ≡ just (s pc)) wh
   all_done_true vs (alone ss) (v, e, n) = (
     same (s pc) (text (codes "Done")),
     equal_is pc (quoted (codes "Done")) env (s pc) (text (codes "Done")) reads refl,
-    (λ h w k. subst (λ z. pc_of z s ≡ Ok (text (codes "Done"))) (sym (only w k)) (here ∙ ap (λ z. Ok z) (same_is (s pc) (text (codes "Done")) h)),
-    λ h. ap (λ (o : Outcome Value). is_done o) (sym here ∙ h v (subst (OneOf v) (sym e) (inl refl))) ∙ same_self (text (codes "Done"))),
+    (
+      λ h w k. subst (λ z. pc_of z s ≡ Ok (text (codes "Done"))) (sym (only w k)) (here ∙ ap (λ z. Ok z) (same_is (s pc) (text (codes "Done")) h)),
+      λ h. ap (λ (o : Outcome Value). is_done o) (sym here ∙ h v (subst (OneOf v) (sym e) (inl refl))) ∙ same_self (text (codes "Done")),
+    ),
   )
     where
       here : pc_of v s ≡ Ok (s pc)

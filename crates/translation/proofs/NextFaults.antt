@@ -1,5 +1,5 @@
 -- Where a process of an accepted algorithm without single processes is in trouble, Next of its region is a fault for some second state; and so these agree.
-use Rattle.std.proofs.Common.{◌≡◌, ◌↔◌, List, [], ◌∷◌, ◌++◌, map, Bool, true, false, cond, bytes_eq, codes, Option, Some, None, ◌⊎◌, inl, inr, refl, sym, ap, ◌∙◌, subst, Ok, Err}
+use Rattle.std.proofs.Common.{◌≡◌, ◌↔◌, List, [], ◌∷◌, ◌++◌, map, Bool, true, false, cond, Option, Some, None, inl, inr, refl, sym, ap, ◌∙◌, subst, Ok, Err}
 use Rattle.std.specs.Option.{ok_or}
 use Rattle.tla_token.specs.declared.place.Place.{Place}
 use Rattle.tla_token.specs.Places.{nowhere}
@@ -7,7 +7,7 @@ use Rattle.tla_tree.specs.Tree.{Word, Tree, operator, apply, name, no_trees, gra
 use Rattle.tla_tree.specs.declared.op.Op.TheVariants.{Equal}
 use Rattle.tla_value.specs.declared.fault.FaultKind.TheVariants.{NotInDomain}
 use Rattle.tla_value.specs.Value.{Value, truth, int, text, model, set, fun, Trouble, Outcome, fault, ◌>>=◌, IsBad, and_then, or_all}
-use Rattle.tla_value.specs.Order.{same, found_at}
+use Rattle.tla_value.specs.Order.{found_at}
 use Rattle.tla_value.specs.OrderLaws.{same_self}
 use Rattle.tla_value.specs.Outside.{Outside}
 use Rattle.tla_value.specs.Stops.{plain, members_at, truth_at}
@@ -16,8 +16,8 @@ use Rattle.tla_value.specs.Meaning.{Env, just, bind, eval}
 use Rattle.tla_value.specs.Grafts.{own_part}
 use Rattle.tla_value.specs.Definitions.{Valuation, scope_of}
 use Rattle.tla_value.proofs.Outcomes.{ok_is}
-use Rattle.module_tree.specs.Formulas.{self, named, process_set}
-use Rattle.module_tree.specs.Module.{call, call_with, Way, one_way, some_way, Module}
+use Rattle.module_tree.specs.Formulas.{self, named}
+use Rattle.module_tree.specs.Module.{call, call_with, Way, one_way, Module}
 use Rattle.module_tree.specs.ModuleTruth.{next_holds}
 use Rattle.module_tree.specs.ActionTruth.{Verdict, Acts, acted, truth_in, items_hold, some_member, way_holds, some_way_holds}
 use Rattle.pcal_tree.specs.Algorithm.{Statements, Process, Main, alone, processes, Routine, alone_routine, procedure_routines, main_routines, Algorithm}
@@ -28,20 +28,19 @@ use Rattle.pcal_tree.specs.OffencesLabels.{label_words}
 use Rattle.pcal_tree.specs.Processes.{OneOf, identifier, actors_in, actors, IsActor, Proper}
 use Rattle.pcal_tree.specs.Program.{Program, Actor, index, read_at}
 use Rattle.pcal_tree.specs.Programs.{program_in}
-use Rattle.pcal_tree.specs.Run.{Has, unlabelled}
+use Rattle.pcal_tree.specs.Run.{unlabelled}
 use Rattle.pcal_tree.specs.Scope.{State}
-use Rattle.pcal_tree.specs.Step.{Stand, pc_of, routines_of, StandsAt, course_of}
+use Rattle.pcal_tree.specs.Step.{pc_of, routines_of}
 use Rattle.pcal_tree.specs.StepStart.{Begin, at_label}
 use Rattle.pcal_tree.specs.Takers.{Takers, each_of, single, lone, Taken, taken_main}
 use Rattle.pcal_tree.specs.Variables.{pc, vars, on_variables}
 use Rattle.pcal_tree.proofs.BodyLabels.{same_labels}
-use Rattle.pcal_tree.proofs.OneStand.{own_is_main, runs_routine}
+use Rattle.pcal_tree.proofs.OneStand.{own_is_main}
 use Rattle.pcal_tree.proofs.ProcessesInOrder.{id, ids}
 use Rattle.pcal_tree.proofs.TroubleLaws.{one_left, one_right, label_listed}
 use Rattle.action_builder.specs.LabelActions.{procedure_takers, at_test, items_by, items_from, label_action, title_of}
 use Rattle.action_builder.specs.NextFormula.{own_way, main_ways}
 use Rattle.action_builder.specs.OwnVariables.{is_own_variable}
-use Rattle.action_builder.specs.Prepared.{none}
 use Rattle.action_builder.specs.WrittenNames.{with_names}
 use Rattle.action_builder.specs.laws.LabelSteps.{action_of}
 use Rattle.action_builder.specs.laws.Ready.{Readable, values_of, holds_on}
@@ -53,13 +52,14 @@ use Rattle.action_builder.proofs.StepsOfLabels.{outcome_is}
 use Rattle.promise.specs.ConstantsAndStates.{AreConstants, IsState}
 use Rattle.translation.specs.Region.{region_of}
 use Rattle.translation.specs.laws.AcceptedAlgorithm.{IsAcceptedInFile}
-use Rattle.translation.specs.laws.LeftToProve.{extra_of, may_bind, callable_for, Stance, ReadyLaw}
+use Rattle.translation.specs.laws.LeftToProve.{extra_of, may_bind, callable_for, Stance}
 use Rattle.translation.specs.laws.WritableAlgorithm.{IsLabelled}
 use Rattle.translation.proofs.FramesAccepted.{pc_path}
 use Rattle.translation.proofs.NamesApart.{writable, self_some, self_none, names_apart_law}
 use Rattle.translation.proofs.NamesGiven.{names_given_law}
-use Rattle.translation.proofs.NextFound.{Finds, FindsLabels, FindsOwn, one_mapped}
+use Rattle.translation.proofs.NextFound.{Finds, FindsOwn, one_mapped}
 use Rattle.translation.proofs.NextHolds.{ways_of}
+use Rattle.translation.proofs.NextLabels.{ReadyHere}
 use Rattle.translation.proofs.NextOfRegion.{HasSingle}
 use Rattle.translation.proofs.NextParts.{acts, reads, taken_by, procedure_found, body_found, process_found}
 use Rattle.translation.proofs.NextScopes.{Identified, taken_there, set_there}
@@ -188,7 +188,7 @@ begun u l m = by (at_label u l) refl (begins l unlabelled u.body u.exit (subst (
     by None e i = absurd i
     by (Some c) e i = (c, e)
 
-module _ (U : Algorithm → Readable) (ready : ReadyLaw IsAcceptedInFile U) (b : Bool) (title : Word) (o : Outside) (g : Algorithm) (h : IsAcceptedInFile o g) (values : Valuation) (s : State) (k : AreConstants (record { title = title; outside = o; region = region_of b (with_names o g) }) values) where
+module _ (U : Readable) (b : Bool) (title : Word) (o : Outside) (g : Algorithm) (h : IsAcceptedInFile o g) (values : Valuation) (ready : ReadyHere U o g values) (s : State) (k : AreConstants (record { title = title; outside = o; region = region_of b (with_names o g) }) values) where
   abbrev first : Module
   first = record { title = title; outside = o; region = region_of b (with_names o g) }
 
@@ -232,7 +232,7 @@ module _ (U : Algorithm → Readable) (ready : ReadyLaw IsAcceptedInFile U) (b :
   bad_of v a q (inr (d, st, has)) =
       let stance : Stance P v d = record { actor = a; routine = st.0; label = st.1 } in
       let step = step_of P (extra_of g) v d (may_bind o P) (callable_for P) in
-      let stops = action_stops step (prepared_law o g h values k.unset v d stance) (U g) (vars P) (pair_env P (extra_of g) v) (ready o g h values v d stance) s in
+      let stops = action_stops step (prepared_law o g h values k.unset v d stance) U (vars P) (pair_env P (extra_of g) v) (ready v d stance) s in
       let fault = stops.1 (q, subst (λ (A : Type 0). A) (sym (outcome_is P (extra_of g) v d (may_bind o P) (callable_for P) refl (names_apart_law o g h values v d.routine a st.0) (names_given_law o g h values v d stance) s (Err q))) has) in
       record {
         later = fault.0;
@@ -323,4 +323,4 @@ module _ (U : Algorithm → Readable) (ready : ReadyLaw IsAcceptedInFile U) (b :
       to (v, q, a, z) = (let x = bad_of v a q z in (x.later, by_main a.0 a.1 v a.2 x.later lacks g.main refl x.routine x.runs x.label x.listed x.bad))
 
       from : (t : State) × IsBad (next_holds plain first values (on_variables P s) (on_variables P t)) → (v : Actor) × (q : Trouble) × IsActor P v × Troubled P s v q
-      from (t, f) = next_troubles U ready b title o g h values s t k is (λ c. absurd (lacks c)) proper f
+      from (t, f) = next_troubles U b title o g h values s t ready k is (λ c. absurd (lacks c)) proper f

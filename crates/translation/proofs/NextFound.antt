@@ -1,9 +1,9 @@
 -- In Next the actions of labels, procedures and processes are found under their names, where no two have one name.
-use Rattle.std.proofs.Common.{◌≡◌, List, [], ◌∷◌, ◌++◌, map, false, bytes_eq, Some, inl, inr, refl, sym, ap, ◌∙◌, subst}
+use Rattle.std.proofs.Common.{◌≡◌, List, [], ◌∷◌, ◌++◌, map, false, bytes_eq, Some, inl, inr, sym, ap, ◌∙◌, subst}
 use Rattle.std.specs.List.{flat_map}
 use Rattle.std.proofs.lemmas.List.{append-nil, append_assoc, map-append}
 use Rattle.tla_token.specs.Signs.{is_among}
-use Rattle.tla_tree.specs.Tree.{Word, Each}
+use Rattle.tla_tree.specs.Tree.{Word}
 use Rattle.tla_value.specs.Stops.{plain}
 use Rattle.tla_value.specs.Meaning.{Env}
 use Rattle.tla_value.specs.Definitions.{Valuation}
@@ -11,7 +11,6 @@ use Rattle.module_tree.specs.Module.{Action}
 use Rattle.module_tree.specs.ActionTruth.{Acts, action_of, acts_of}
 use Rattle.module_tree.proofs.ActionFound.{titles, action_found}
 use Rattle.pcal_tree.specs.OffencesLabels.{label_words}
-use Rattle.pcal_tree.specs.Calls.{label_name}
 use Rattle.pcal_tree.specs.Processes.{OneOf}
 use Rattle.pcal_tree.specs.Program.{Program}
 use Rattle.pcal_tree.specs.Takers.{Taken}

@@ -1,5 +1,5 @@
 -- Next is true exactly where some process steps, or all are done and nothing changes.
-use Rattle.std.proofs.Common.{◌≡◌, List, [], ◌∷◌, ◌++◌, map, Bool, true, false, cond, codes, ◌⊎◌, inl, inr, refl, sym, ap, ◌∙◌, subst, Ok}
+use Rattle.std.proofs.Common.{◌≡◌, List, [], ◌∷◌, ◌++◌, map, Bool, true, false, cond, codes, ◌⊎◌, refl, sym, subst, Ok}
 use Rattle.std.proofs.lemmas.List.{append-nil, append_assoc}
 use Rattle.tla_value.specs.Value.{TrueExactly}
 use Rattle.tla_value.specs.Stops.{plain}
@@ -7,7 +7,7 @@ use Rattle.tla_value.specs.Meaning.{Env, just}
 use Rattle.tla_token.specs.Places.{nowhere}
 use Rattle.module_tree.specs.Module.{call, Way, one_way}
 use Rattle.module_tree.specs.ActionTruth.{Acts, some_way_holds}
-use Rattle.module_tree.proofs.Tells.{tells_as, tells_of}
+use Rattle.module_tree.proofs.Tells.{tells_as}
 use Rattle.pcal_tree.specs.Algorithm.{Main}
 use Rattle.pcal_tree.specs.Processes.{OneOf, actors}
 use Rattle.pcal_tree.specs.Program.{Program, Actor}

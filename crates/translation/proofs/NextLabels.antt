@@ -1,11 +1,10 @@
 -- Each label's action of an accepted algorithm is true exactly of the steps from that label, for each process that takes it, from a sound state.
-use Rattle.std.proofs.Common.{◌≡◌, List, [], ◌∷◌, ◌++◌, Bool, cond, codes, Option, Some, None, inl, inr, refl, sym, ap, ◌∙◌, subst, Ok, Err}
+use Rattle.std.proofs.Common.{◌≡◌, ◌++◌, codes, Option, Some, None, inl, inr, refl, sym, ◌∙◌, subst, Ok, Err}
 use Rattle.tla_tree.specs.Tree.{Word, Tree}
-use Rattle.tla_value.specs.Value.{Value, Trouble, Outcome, TrueExactly}
-use Rattle.tla_value.specs.Order.{IsCanonical}
+use Rattle.tla_value.specs.Value.{Value, Outcome, TrueExactly}
 use Rattle.tla_value.specs.Outside.{Outside, found}
 use Rattle.tla_value.specs.Stops.{plain}
-use Rattle.tla_value.specs.Meaning.{Env, bind, eval}
+use Rattle.tla_value.specs.Meaning.{Env, eval}
 use Rattle.tla_value.specs.Definitions.{Valuation, scope_of}
 use Rattle.tla_value.specs.laws.CanonicalNames.{Sound as SoundNames, TestsByValue}
 use Rattle.tla_value.proofs.CanonicalTests.{value_kept, means_its_value}
@@ -20,24 +19,26 @@ use Rattle.pcal_tree.specs.OffencesLabels.{label_words}
 use Rattle.pcal_tree.specs.Processes.{OneOf, IsActor}
 use Rattle.pcal_tree.specs.Program.{Program, Actor}
 use Rattle.pcal_tree.specs.Programs.{program_in}
-use Rattle.pcal_tree.specs.Run.{Has, unlabelled}
+use Rattle.pcal_tree.specs.Run.{unlabelled}
 use Rattle.pcal_tree.specs.Scope.{State}
-use Rattle.pcal_tree.specs.Step.{Stand, pc_of, routines_of, StandsAt, StepFrom, course_of}
+use Rattle.pcal_tree.specs.Step.{Stand, pc_of, routines_of, StepFrom}
 use Rattle.pcal_tree.specs.StepStart.{Begin, at_label}
-use Rattle.pcal_tree.specs.Takers.{Takers, each_of, single, lone, Taken}
+use Rattle.pcal_tree.specs.Takers.{each_of, single, lone}
 use Rattle.pcal_tree.specs.Variables.{vars}
 use Rattle.pcal_tree.proofs.BodyLabels.{same_labels}
 use Rattle.pcal_tree.proofs.ProcessesInOrder.{id}
-use Rattle.action_builder.specs.LabelActions.{items_from, items_by}
+use Rattle.action_builder.specs.LabelActions.{items_from}
 use Rattle.action_builder.specs.SingleProcess.{in_place_of}
 use Rattle.action_builder.specs.laws.Grafts.{ClearItems}
 use Rattle.action_builder.specs.laws.Ready.{Readable, values_of}
-use Rattle.action_builder.specs.laws.StepsOfLabels.{pair_env}
+use Rattle.action_builder.specs.laws.StepsOfLabels.{step_of, pair_env}
+use Rattle.action_builder.specs.laws.LabelSteps.{IsReady}
+use Rattle.action_builder.specs.Prepared.{none}
 use Rattle.action_builder.specs.laws.WrittenScope.{self_bound, definitions_of}
 use Rattle.action_builder.proofs.ActionsOfLabels.{label_true}
 use Rattle.action_builder.proofs.SingleProcess.{meant_law}
 use Rattle.translation.specs.laws.AcceptedAlgorithm.{IsAcceptedInFile}
-use Rattle.translation.specs.laws.LeftToProve.{extra_of, may_bind, callable_for, Stance, PreparedLaw, ReadyLaw}
+use Rattle.translation.specs.laws.LeftToProve.{extra_of, may_bind, callable_for, Stance, PreparedLaw}
 use Rattle.translation.proofs.FramesAccepted.{pc_among, pc_path}
 use Rattle.translation.proofs.NamesApart.{names_apart_law}
 use Rattle.translation.proofs.NamesGiven.{names_given_law}
@@ -52,7 +53,12 @@ some_is e = cc
 same_begin : (P : Program) (v : Actor) (s t : State) (u : Routine) (l : Word) (b : Begin) → at_label u l ≡ Some b → FromLabel P s t v u l → StepFrom P v (record { routine = u; label = l; begins = b }) s t
 same_begin P v s t u l b e (c, d, h) = subst (λ z. StepFrom P v (record { routine = u; label = l; begins = z }) s t) (some_is (sym d ∙ e)) h
 
-module _ (U : Algorithm → Readable) (prepared : PreparedLaw IsAcceptedInFile) (ready : ReadyLaw IsAcceptedInFile U) (o : Outside) (g : Algorithm) (h : IsAcceptedInFile o g) (values : Valuation) (unset : values (codes "defaultInitValue") ≡ Some defaultInitValue) where
+-- items can be written for each step of this algorithm
+abbrev pub ReadyHere : Readable → Outside → Algorithm → Valuation → Type 0
+ReadyHere U o g values = (v : Actor) (d : Stand) → Stance (program_in plain o g values) v d
+    → (let P = program_in plain o g values in IsReady U (vars P) (pair_env P (extra_of g) v) none (step_of P (extra_of g) v d (may_bind o P) (callable_for P)))
+
+module _ (U : Readable) (prepared : PreparedLaw IsAcceptedInFile) (o : Outside) (g : Algorithm) (h : IsAcceptedInFile o g) (values : Valuation) (ready : ReadyHere U o g values) (unset : values (codes "defaultInitValue") ≡ Some defaultInitValue) where
   abbrev P : Program
   P = program_in plain o g values
 
@@ -73,7 +79,7 @@ module _ (U : Algorithm → Readable) (prepared : PreparedLaw IsAcceptedInFile) 
         let stance : Stance P v d = record { actor = k; routine = one; label = at } in
         label_true values (found o.definitions) g (naming g o) (extra_of g) v d (names_apart_law o g h values v d.routine k one) (record { among = pc_among o g h values; path = pc_path o g h values v k }) t
         s (pc_read v k).value (pc_read v k).read one at (names_given_law o g h values v d stance) (may_bind o P) (callable_for P) (prepared o g h values unset v d stance)
-        (U g) (ready o g h values v d stance) (λ q st has. sound.1 v q k (inr (d, st, has)))
+        U (ready v d stance) (λ q st has. sound.1 v q k (inr (d, st, has)))
 
     -- under the name self, where the process has an identifier
     label_holds : (v : Actor) → IsActor P v → (u : Routine) → OneOf u (routines_of P v) → (l : Word) → OneOf l (label_words u.body)

@@ -2,22 +2,30 @@
 -- where all processes are of sets, it is a fault for some second state exactly if some process is in trouble.
 use Rattle.std.proofs.Common.{◌≡◌, Bool, true, cond, refl, sym, ap, ◌∙◌, subst, inl, inr}
 use Rattle.tla_tree.specs.Tree.{Tree}
+use Rattle.tla_value.specs.Outside.{Outside}
 use Rattle.pcal_tree.specs.Algorithm.{Main, alone, processes, first_process, Algorithm}
 use Rattle.pcal_tree.specs.OffencesReads.{processes_of}
 use Rattle.pcal_tree.specs.Processes.{OneOf}
-use Rattle.pcal_tree.specs.Takers.{Takers, each_of, single, lone, Taken, taken_main}
+use Rattle.pcal_tree.specs.Takers.{each_of, single, lone, Taken, taken_main}
 use Rattle.action_builder.specs.laws.Ready.{Readable}
 use Rattle.translation.specs.laws.AcceptedAlgorithm.{IsAcceptedInFile}
-use Rattle.translation.specs.laws.LeftToProve.{ReadyLaw, NextOfRegionLaw}
-use Rattle.translation.specs.laws.NextLaws.{AllSets, SetFaultsAgree}
+use Rattle.translation.specs.laws.LeftToProve.{ReadyLaw, NextOfRegionLaw, PromiseKept}
+use Rattle.translation.specs.laws.NextLaws.{AllSets, SetFaultsAgree, AcceptedUnprimed}
+use Rattle.translation.specs.laws.FreshReads.{readable}
+use Rattle.translation.proofs.InitOfRegion.{init_of_region_law}
 use Rattle.translation.proofs.NextFaults.{faults_agree}
 use Rattle.translation.proofs.NextOfRegion.{HasSingle, next_of_region}
 use Rattle.translation.proofs.NextScopes.{numbered_of}
 use Rattle.translation.proofs.NextSingle.{single_clear, one_of_at}
 use Rattle.translation.proofs.PreparedSteps.{prepared_law}
+use Rattle.translation.proofs.PromiseKept.{promise_kept}
+use Rattle.translation.proofs.ReadyAccepted.{step_is_ready}
+use Rattle.translation.proofs.RegionPlaced.{region_placed}
 
-pub next_where_ready : (U : Algorithm → Readable) → ReadyLaw IsAcceptedInFile U → NextOfRegionLaw IsAcceptedInFile
-next_where_ready U ready = next_of_region U prepared_law ready single_clear
+-- of accepted algorithms for whose steps items can be written
+module _ (A : Outside → Algorithm → Type 0) (inside : (o : Outside) (g : Algorithm) → A o g → IsAcceptedInFile o g) (U : Algorithm → Readable) (ready : ReadyLaw A U) where
+  pub next_where_ready : NextOfRegionLaw A
+  next_where_ready = next_of_region A inside U prepared_law ready single_clear
 
 no_single : (g : Algorithm) → AllSets g → HasSingle g → ⊥
 no_single g sets h = by g.main refl h.among
@@ -39,5 +47,23 @@ no_single g sets h = by g.main refl h.among
         set_single n.process.several n.process.identity h.expression
         (sets n.process (subst (λ m. OneOf n.process (processes_of m)) (sym d) (one_of_at n.process n.number ps (first_process g) n.at))) (sym (ap (λ (r : Taken). r.takers) n.is) ∙ h.is)
 
-pub faults_where_ready : (U : Algorithm → Readable) → ReadyLaw IsAcceptedInFile U → SetFaultsAgree IsAcceptedInFile
-faults_where_ready U ready b title o g h sets values s k is proper = faults_agree U ready b title o g h values s k (no_single g sets) is proper
+pub faults_where_ready : (A : Outside → Algorithm → Type 0) → ((o : Outside) (g : Algorithm) → A o g → IsAcceptedInFile o g) → (U : Algorithm → Readable) → ReadyLaw A U → SetFaultsAgree A
+faults_where_ready A inside U ready b title o g a sets values s k is proper = faults_agree (U g) b title o g (inside o g a) values (ready o g a values) s k (no_single g sets) is proper
+
+-- ---- where no name is primed
+
+inside : (o : Outside) (g : Algorithm) → AcceptedUnprimed o g → IsAcceptedInFile o g
+inside o g a = a.0
+
+ready : ReadyLaw AcceptedUnprimed readable
+ready o g a values v d stance = step_is_ready o g a.0 values (a.1 values) v d stance
+
+pub next_law : NextOfRegionLaw AcceptedUnprimed
+next_law = next_where_ready AcceptedUnprimed inside readable ready
+
+pub faults_law : SetFaultsAgree AcceptedUnprimed
+faults_law = faults_where_ready AcceptedUnprimed inside readable ready
+
+-- so each module that a translated file is read as keeps the promise
+pub kept_law : PromiseKept AcceptedUnprimed
+kept_law = promise_kept AcceptedUnprimed next_law (λ b title o g a. init_of_region_law b title o g a.0) region_placed

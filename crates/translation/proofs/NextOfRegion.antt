@@ -1,38 +1,29 @@
 -- Next of an accepted algorithm's region is true exactly of its steps, and of the end that stutters, from sound states.
-use Rattle.std.proofs.Common.{◌≡◌, List, [], ◌∷◌, ◌++◌, map, Bool, true, false, cond, codes, Option, Some, None, ◌⊎◌, inl, inr, refl, sym, ap, ◌∙◌, subst, Ok, Err}
-use Rattle.std.specs.List.{flat_map}
-use Rattle.tla_token.specs.Places.{nowhere}
-use Rattle.tla_token.specs.Words.{is_own}
+use Rattle.std.proofs.Common.{◌≡◌, List, [], ◌∷◌, ◌++◌, Bool, Some, None, inl, inr, refl, sym, ap, ◌∙◌, subst, Ok}
 use Rattle.tla_tree.specs.Tree.{Word, Tree}
-use Rattle.tla_value.specs.Value.{Value, Values, TrueExactly}
-use Rattle.tla_value.specs.Outside.{Outside, ReadDefinition, found}
+use Rattle.tla_value.specs.Value.{Values, TrueExactly}
+use Rattle.tla_value.specs.Outside.{Outside}
 use Rattle.tla_value.specs.Stops.{plain}
-use Rattle.tla_value.specs.Meaning.{Env, just, eval}
-use Rattle.tla_value.specs.Definitions.{Valuation, Definition, or_sense, base, in_states, scope_of}
-use Rattle.tla_value.specs.laws.Untitled.{Untitled}
+use Rattle.tla_value.specs.Meaning.{Env}
+use Rattle.tla_value.specs.Definitions.{Valuation, scope_of}
 use Rattle.tla_value.proofs.Outcomes.{ok_is}
-use Rattle.tla_value.proofs.Untitled.{looked_through}
 use Rattle.module_tree.specs.Formulas.{self, process_set}
 use Rattle.module_tree.specs.Module.{Module}
-use Rattle.module_tree.specs.ModuleTruth.{process_set_defined, terminating, next_holds}
-use Rattle.module_tree.specs.ActionTruth.{Acts, acts_of, no_acts, some_way_holds}
+use Rattle.module_tree.specs.ModuleTruth.{next_holds}
+use Rattle.module_tree.specs.ActionTruth.{some_way_holds}
 use Rattle.pcal_tree.specs.Algorithm.{Statements, Process, Main, alone, processes, Routine, alone_routine, procedure_routines, Algorithm}
-use Rattle.pcal_tree.specs.Calls.{defaultInitValue}
 use Rattle.pcal_tree.specs.Faults.{Sound}
 use Rattle.pcal_tree.specs.InitialStates.{running}
 use Rattle.pcal_tree.specs.OffencesLabels.{label_words}
 use Rattle.pcal_tree.specs.Processes.{OneOf, identifier, actors_of, actors_in, actors, IsActor}
-use Rattle.pcal_tree.specs.Program.{Program, Actor, inner}
+use Rattle.pcal_tree.specs.Program.{Program, Actor}
 use Rattle.pcal_tree.specs.Programs.{program_in}
 use Rattle.pcal_tree.specs.Scope.{State}
-use Rattle.pcal_tree.specs.Step.{routines_of}
 use Rattle.pcal_tree.specs.StepStart.{at_label}
 use Rattle.pcal_tree.specs.Takers.{Takers, each_of, single, lone, Taken, taken_main}
-use Rattle.pcal_tree.specs.Variables.{pc, vars}
-use Rattle.pcal_tree.proofs.ProcessesInOrder.{id, ids}
-use Rattle.pcal_tree.proofs.TroubleLaws.{one_left, one_right}
-use Rattle.action_builder.specs.LabelActions.{items_from, label_actions, routine_actions, taken_procedures, procedure_takers, main_actions, actions}
-use Rattle.action_builder.specs.NextFormula.{ended, next}
+use Rattle.pcal_tree.specs.Variables.{vars}
+use Rattle.pcal_tree.proofs.ProcessesInOrder.{id}
+use Rattle.action_builder.specs.LabelActions.{items_from}
 use Rattle.action_builder.specs.SingleProcess.{in_place_of}
 use Rattle.action_builder.specs.WrittenNames.{with_names}
 use Rattle.action_builder.specs.laws.Grafts.{ClearItems}
@@ -43,18 +34,14 @@ use Rattle.promise.specs.NextAndInit.{Moves}
 use Rattle.translation.specs.Region.{region_of}
 use Rattle.translation.specs.laws.AcceptedAlgorithm.{IsAcceptedInFile}
 use Rattle.translation.specs.laws.LeftToProve.{extra_of, PreparedLaw, ReadyLaw, NextOfRegionLaw}
-use Rattle.translation.proofs.FramesAccepted.{pc_among}
-use Rattle.translation.proofs.NamesApart.{self_some, self_none, free, own_differs, extra_untitled_by, untitled_mapped, untitled_joined}
-use Rattle.translation.proofs.NamesOfRules.{not_own, turned}
-use Rattle.translation.proofs.NextEnds.{AllThere, Named, terminating_action}
-use Rattle.translation.proofs.NextFound.{Finds, FindsLabels, FindsOwn, Within, within_flat, within_first, within_last, one_mapped, one_found, labels_found, own_found}
+use Rattle.translation.proofs.NamesApart.{self_some, self_none}
 use Rattle.translation.proofs.NextHolds.{ways_of, AllTrue, next_true}
-use Rattle.translation.proofs.NextLabels.{pc_read, named_true, lone_true, single_true}
+use Rattle.translation.proofs.NextLabels.{ReadyHere, pc_read, named_true, lone_true, single_true}
 use Rattle.translation.proofs.NextParts.{acts, reads, taken_by, procedure_found, ends_found, body_found, process_found}
-use Rattle.translation.proofs.NextScopes.{names_sound, names_by_value, Identified, TakenThere, taken_there, set_there, own_is}
+use Rattle.translation.proofs.NextScopes.{names_sound, names_by_value, Identified, taken_there, set_there, own_is}
 use Rattle.translation.proofs.NextSteps.{running_one}
-use Rattle.translation.proofs.NextTitles.{all_actions, titles_once, unmapped}
-use Rattle.translation.proofs.NextTrue.{procedures_taken, TakenBy, LabelTrue, RoutineTrue, MainTrue}
+use Rattle.translation.proofs.NextTitles.{unmapped}
+use Rattle.translation.proofs.NextTrue.{procedures_taken, RoutineTrue}
 
 one_only : (w v : Actor) → OneOf v (w ∷ []) → v ≡ w
 one_only w v (inl e) = e
@@ -72,8 +59,8 @@ pub record HasSingle (g : Algorithm) : Type 0 where
   pub among : OneOf taken (taken_main g g.main)
   pub is : taken.takers ≡ single expression
 
-module _ (U : Algorithm → Readable) (prepared : PreparedLaw IsAcceptedInFile) (ready : ReadyLaw IsAcceptedInFile U) (clear : SingleClearLaw) where
-  module _ (b : Bool) (title : Word) (o : Outside) (g : Algorithm) (h : IsAcceptedInFile o g) (values : Valuation) (s t : State) where
+module _ (U : Readable) (prepared : PreparedLaw IsAcceptedInFile) (clear : SingleClearLaw) where
+  module _ (b : Bool) (title : Word) (o : Outside) (g : Algorithm) (h : IsAcceptedInFile o g) (values : Valuation) (s t : State) (ready : ReadyHere U o g values) where
     abbrev first : Module
     first = record { title = title; outside = o; region = region_of b (with_names o g) }
 
@@ -118,13 +105,13 @@ module _ (U : Algorithm → Readable) (prepared : PreparedLaw IsAcceptedInFile) 
           lone_procedure u n = record {
             taken = (body, only);
             found = procedure_found b o g h values s t (alone ss) e u n;
-            labels = λ v m. lone_true U prepared ready o g h values k.unset s t sound v (self_none P v ss e (actor v m)) (actor v m) u (inr n);
+            labels = λ v m. lone_true U prepared o g h values ready k.unset s t sound v (self_none P v ss e (actor v m)) (actor v m) u (inr n);
           }
 
           alone_true : AllTrue P s t X (reads b o g h values s t) (acts b o g h values s t (alone ss)) vs (alone ss) e all b
           alone_true = record {
             procedures = each_procedure (alone ss) lone_procedure;
-            main = (body, only, body_found b o g h values s t ss e, lone_true U prepared ready o g h values k.unset s t sound body refl (actor body here) (alone_routine g ss) (inl refl));
+            main = (body, only, body_found b o g h values s t ss e, lone_true U prepared o g h values ready k.unset s t sound body refl (actor body here) (alone_routine g ss) (inl refl));
             there = (body, only, refl);
             ends = ends_found b o g h values s t (alone ss) e;
           }
@@ -139,7 +126,7 @@ module _ (U : Algorithm → Readable) (prepared : PreparedLaw IsAcceptedInFile) 
           set_procedure u n = record {
             taken = set_there o g h title first.region values k s t ps vs e all;
             found = procedure_found b o g h values s t (processes ps) e u n;
-            labels = λ v m. named_true U prepared ready o g h values k.unset s t sound v (self_is v m) (actor v m) u (inr n) process_set;
+            labels = λ v m. named_true U prepared o g h values ready k.unset s t sound v (self_is v m) (actor v m) u (inr n) process_set;
           }
 
           in_main : (u : Routine) (f : Tree) → OneOf (record { takers = single f; routine = u }) (taken_main g (processes ps)) → OneOf (record { takers = single f; routine = u }) (taken_main g g.main)
@@ -152,14 +139,14 @@ module _ (U : Algorithm → Readable) (prepared : PreparedLaw IsAcceptedInFile) 
             taken = i;
             found = process_found b o g h values s t ps e (record { takers = each_of f; routine = u }) n;
             labels = λ v m.
-                named_true U prepared ready o g h values k.unset s t sound v (self_is v (running_one u v vs m)) (actor v (running_one u v vs m)) u
+                named_true U prepared o g h values ready k.unset s t sound v (self_is v (running_one u v vs m)) (actor v (running_one u v vs m)) u
                 (inl (sym (own_is u v is (subst (OneOf v) order m)))) f;
           }
           process_true (single f) u n is order (w, only, q) = record {
             taken = (w, only);
             found = process_found b o g h values s t ps e (record { takers = single f; routine = u }) n;
             labels = λ v m.
-                single_true U prepared ready o g h values k.unset s t sound (names_sound o g h title first.region values k s t is_canonical (it (record { taken = record { takers = single f; routine = u }; expression = f; among = in_main u f n; is = refl }))) (names_by_value o g h title first.region values k s t) v (self_is v (running_one u v vs m))
+                single_true U prepared o g h values ready k.unset s t sound (names_sound o g h title first.region values k s t is_canonical (it (record { taken = record { takers = single f; routine = u }; expression = f; among = in_main u f n; is = refl }))) (names_by_value o g h title first.region values k s t) v (self_is v (running_one u v vs m))
                 (actor v (running_one u v vs m)) u (inl (sym (own_is u v is (subst (OneOf v) order m)))) f (q ∙ ap (λ (z : Actor). Ok (id z)) (sym (one_only w v (subst (OneOf v) only m))))
                 (clear o g h values (record { takers = single f; routine = u }) (in_main u f n) f refl);
           }
@@ -174,7 +161,7 @@ module _ (U : Algorithm → Readable) (prepared : PreparedLaw IsAcceptedInFile) 
           processes_true = record {
             procedures = each_procedure (processes ps) set_procedure;
             main = each_process;
-            there = ((λ v m. (self_is v m, pc_read U prepared ready o g h values k.unset s t sound v (actor v m))), set_there o g h title first.region values k s t ps vs e all);
+            there = ((λ v m. (self_is v m, pc_read U prepared o g h values ready k.unset s t sound v (actor v m))), set_there o g h title first.region values k s t ps vs e all);
             ends = ends_found b o g h values s t (processes ps) e;
           }
 
@@ -185,6 +172,6 @@ module _ (U : Algorithm → Readable) (prepared : PreparedLaw IsAcceptedInFile) 
       pub next_is : TrueExactly (next_holds plain first values S T) (Moves b P s t)
       next_is = by_main sound.0.0 sound.0.1 g.main refl
 
-  -- Next of the region is as the promise asks
-  pub next_of_region : NextOfRegionLaw IsAcceptedInFile
-  next_of_region b title o g h values s t k is it sound = next_is b title o g h values s t k is (λ c. it) sound
+-- Next of the region is as the promise asks, of accepted algorithms for whose steps items can be written
+pub next_of_region : (A : Outside → Algorithm → Type 0) → ((o : Outside) (g : Algorithm) → A o g → IsAcceptedInFile o g) → (U : Algorithm → Readable) → PreparedLaw IsAcceptedInFile → ReadyLaw A U → SingleClearLaw → NextOfRegionLaw A
+next_of_region A inside U prepared ready clear b title o g a values s t k is it sound = next_is (U g) prepared clear b title o g (inside o g a) values s t (ready o g a values) k is (λ c. it) sound

@@ -1,59 +1,36 @@
 -- The actions of Next of an accepted algorithm's region: each is found under its name; and pc is read in their scope.
-use Rattle.std.proofs.Common.{◌≡◌, List, [], ◌∷◌, ◌++◌, map, Bool, true, false, cond, codes, Option, Some, None, ◌⊎◌, inl, inr, refl, sym, ap, ◌∙◌, subst, Ok, Err}
+use Rattle.std.proofs.Common.{◌≡◌, List, ◌++◌, map, Bool, false, cond, Some, None, inl, refl, sym, ap, ◌∙◌, subst}
 use Rattle.std.specs.List.{flat_map}
 use Rattle.tla_token.specs.Places.{nowhere}
-use Rattle.tla_token.specs.Words.{is_own}
-use Rattle.tla_tree.specs.Tree.{Word, Tree}
-use Rattle.tla_value.specs.Value.{Value, Values, TrueExactly}
 use Rattle.tla_value.specs.Outside.{Outside, ReadDefinition, found}
 use Rattle.tla_value.specs.Stops.{plain}
-use Rattle.tla_value.specs.Meaning.{Env, just, eval}
-use Rattle.tla_value.specs.Definitions.{Valuation, Definition, or_sense, base, in_states, scope_of}
+use Rattle.tla_value.specs.Meaning.{Env, just}
+use Rattle.tla_value.specs.Definitions.{Valuation, or_sense, base, scope_of}
 use Rattle.tla_value.specs.laws.Untitled.{Untitled}
-use Rattle.tla_value.proofs.Outcomes.{ok_is}
 use Rattle.tla_value.proofs.Untitled.{looked_through}
-use Rattle.module_tree.specs.Formulas.{self, process_set}
-use Rattle.module_tree.specs.Module.{Module}
-use Rattle.module_tree.specs.ModuleTruth.{process_set_defined, terminating, next_holds}
-use Rattle.module_tree.specs.ActionTruth.{Acts, acts_of, no_acts, some_way_holds}
+use Rattle.module_tree.specs.ModuleTruth.{terminating}
+use Rattle.module_tree.specs.ActionTruth.{Acts, acts_of, no_acts}
 use Rattle.pcal_tree.specs.Algorithm.{Statements, Process, Main, alone, processes, Routine, alone_routine, procedure_routines, Algorithm}
-use Rattle.pcal_tree.specs.Calls.{defaultInitValue}
-use Rattle.pcal_tree.specs.Faults.{Sound}
-use Rattle.pcal_tree.specs.InitialStates.{running}
-use Rattle.pcal_tree.specs.OffencesLabels.{label_words}
-use Rattle.pcal_tree.specs.Processes.{OneOf, identifier, actors_of, actors_in, actors, IsActor}
-use Rattle.pcal_tree.specs.Program.{Program, Actor, inner}
+use Rattle.pcal_tree.specs.Processes.{OneOf}
+use Rattle.pcal_tree.specs.Program.{Program, inner}
 use Rattle.pcal_tree.specs.Programs.{program_in}
 use Rattle.pcal_tree.specs.Scope.{State}
-use Rattle.pcal_tree.specs.Step.{routines_of}
-use Rattle.pcal_tree.specs.StepStart.{at_label}
-use Rattle.pcal_tree.specs.Takers.{Takers, each_of, single, lone, Taken, taken_main}
+use Rattle.pcal_tree.specs.Takers.{lone, Taken, taken_main}
 use Rattle.pcal_tree.specs.Variables.{pc, vars}
-use Rattle.pcal_tree.proofs.ProcessesInOrder.{id, ids}
-use Rattle.pcal_tree.proofs.TroubleLaws.{one_left, one_right}
-use Rattle.action_builder.specs.LabelActions.{items_from, label_actions, routine_actions, taken_procedures, procedure_takers, main_actions, actions}
-use Rattle.action_builder.specs.NextFormula.{ended, next}
-use Rattle.action_builder.specs.SingleProcess.{in_place_of}
-use Rattle.action_builder.specs.WrittenNames.{with_names}
-use Rattle.action_builder.specs.laws.Grafts.{ClearItems}
-use Rattle.action_builder.specs.laws.Ready.{Readable, values_of}
+use Rattle.pcal_tree.proofs.TroubleLaws.{one_right}
+use Rattle.action_builder.specs.LabelActions.{label_actions, routine_actions, taken_procedures, procedure_takers, main_actions}
+use Rattle.action_builder.specs.NextFormula.{ended}
+use Rattle.action_builder.specs.laws.Ready.{values_of}
 use Rattle.action_builder.specs.laws.WrittenScope.{definitions_of}
-use Rattle.promise.specs.ConstantsAndStates.{AreConstants, IsState}
-use Rattle.promise.specs.NextAndInit.{Moves}
-use Rattle.translation.specs.Region.{region_of}
 use Rattle.translation.specs.laws.AcceptedAlgorithm.{IsAcceptedInFile}
-use Rattle.translation.specs.laws.LeftToProve.{extra_of, PreparedLaw, ReadyLaw, NextOfRegionLaw}
+use Rattle.translation.specs.laws.LeftToProve.{extra_of}
 use Rattle.translation.proofs.FramesAccepted.{pc_among}
-use Rattle.translation.proofs.NamesApart.{self_some, self_none, free, own_differs, extra_untitled_by, untitled_mapped, untitled_joined}
+use Rattle.translation.proofs.NamesApart.{free, own_differs, extra_untitled_by, untitled_mapped, untitled_joined}
 use Rattle.translation.proofs.NamesOfRules.{not_own, turned}
-use Rattle.translation.proofs.NextEnds.{AllThere, Named, terminating_action}
-use Rattle.translation.proofs.NextFound.{Finds, FindsLabels, FindsOwn, Within, within_flat, within_first, within_last, one_mapped, one_found, labels_found, own_found}
-use Rattle.translation.proofs.NextHolds.{ways_of, AllTrue, next_true}
-use Rattle.translation.proofs.NextLabels.{pc_read, named_true, lone_true, single_true}
-use Rattle.translation.proofs.NextScopes.{names_sound, names_by_value, Identified, TakenThere, taken_there, set_there, own_is}
-use Rattle.translation.proofs.NextSteps.{running_one}
-use Rattle.translation.proofs.NextTitles.{all_actions, titles_once, unmapped}
-use Rattle.translation.proofs.NextTrue.{procedures_taken, TakenBy, LabelTrue, RoutineTrue, MainTrue}
+use Rattle.translation.proofs.NextEnds.{terminating_action}
+use Rattle.translation.proofs.NextFound.{Finds, FindsLabels, FindsOwn, within_flat, within_first, within_last, one_mapped, one_found, labels_found, own_found}
+use Rattle.translation.proofs.NextTitles.{all_actions, titles_once}
+use Rattle.translation.proofs.NextTrue.{procedures_taken}
 
 module _ (b : Bool) (o : Outside) (g : Algorithm) (h : IsAcceptedInFile o g) (values : Valuation) (s t : State) where
   abbrev P : Program

@@ -1,12 +1,11 @@
 -- In the scope of Next the sets of processes and ProcSet have the identifiers of the processes, and a single process's expression its identifier.
-use Rattle.std.proofs.Common.{◌≡◌, ◌⊎◌, ℕ, suc, List, [], ◌∷◌, ◌++◌, Bool, true, false, cond, Option, Some, None, inl, inr, refl, sym, ◌∙◌, ap, subst, Ok, Err}
-use Rattle.tla_token.specs.declared.place.Place.{Place}
+use Rattle.std.proofs.Common.{◌≡◌, ℕ, suc, List, [], ◌∷◌, ◌++◌, Bool, true, false, cond, Option, Some, None, inl, inr, refl, sym, ◌∙◌, ap, subst, Ok}
 use Rattle.tla_token.specs.Signs.{is_among}
-use Rattle.tla_tree.specs.Tree.{Word, Each, Tree}
+use Rattle.tla_tree.specs.Tree.{Word, Tree}
 use Rattle.tla_value.specs.Value.{Value, Values, no_values, and, set, Sense}
 use Rattle.tla_value.specs.Order.{IsCanonical}
 use Rattle.tla_value.specs.Outside.{Outside}
-use Rattle.tla_value.specs.Stops.{plain, misshapen}
+use Rattle.tla_value.specs.Stops.{plain}
 use Rattle.tla_value.specs.Meaning.{Env, eval}
 use Rattle.tla_value.specs.Definitions.{Valuation, Definition, no_state, or_sense, base, in_states, scope_of}
 use Rattle.tla_value.specs.laws.CanonicalNames.{Sound, TestsByValue}
@@ -17,13 +16,13 @@ use Rattle.tla_value.proofs.JoinedScopes.{Envs, eval_in, same_use, DefinitionsJo
 use Rattle.tla_value.proofs.ScopesSound.{AreCanonicalIn, scope_sound, scope_tests_by_value}
 use Rattle.module_tree.specs.Formulas.{process_set}
 use Rattle.module_tree.specs.Module.{Region}
-use Rattle.pcal_tree.specs.Algorithm.{Process, Main, alone, processes, Routine, process_routine, numbered, first_process, Algorithm}
+use Rattle.pcal_tree.specs.Algorithm.{Process, processes, Routine, process_routine, numbered, first_process, Algorithm}
 use Rattle.pcal_tree.specs.InitialStates.{running}
-use Rattle.pcal_tree.specs.Processes.{OneOf, identifiers_of, actors_of, all_actors, sorted, actors, IsActor}
+use Rattle.pcal_tree.specs.Processes.{OneOf, actors_of, actors}
 use Rattle.pcal_tree.specs.Program.{Program, Actor}
 use Rattle.pcal_tree.specs.Programs.{program_in}
 use Rattle.pcal_tree.specs.Scope.{State}
-use Rattle.pcal_tree.specs.Takers.{Takers, each_of, single, takers_of, Taken, taken_process}
+use Rattle.pcal_tree.specs.Takers.{Takers, each_of, single, Taken, taken_process}
 use Rattle.pcal_tree.specs.Variables.{vars}
 use Rattle.pcal_tree.proofs.ProcessesInOrder.{id, ids, ids_of_actors, At, at_first, at_later, running_is, running_in_order, all_owned}
 use Rattle.action_builder.specs.laws.Ready.{values_of}
@@ -34,7 +33,6 @@ use Rattle.translation.specs.laws.LeftToProve.{extra_of}
 use Rattle.translation.proofs.InitScopes.{grows, no_limits, kept, lacks_grows}
 use Rattle.translation.proofs.InitSets.{G, E, Gives, identity_gives, identity_canonical, value_grows, all_grow, Running, running_all, process_set_gives}
 use Rattle.translation.proofs.NamedBodies.{among_one}
-use Rattle.translation.proofs.NextTrue.{TakenBy}
 use Rattle.translation.proofs.RoutinesNamed.{one_each_of}
 
 -- ---- primed names have values too

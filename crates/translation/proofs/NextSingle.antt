@@ -1,6 +1,5 @@
 -- In an accepted algorithm nothing that is bound is read in the expression of a single process, so its items capture nothing where the expression stands for self.
 use Rattle.std.proofs.Common.{◌≡◌, ℕ, suc, List, [], ◌∷◌, ◌++◌, reverse, Bool, true, false, not, ◌&&◌, cond, bytes_eq, Option, Some, None, inl, inr, refl, sym, ap, ◌∙◌, subst}
-use Rattle.std.specs.List.{AllByRecursion}
 use Rattle.std.proofs.lemmas.Slice.Eq.{bytes_eq-Decides}
 use Rattle.tla_token.specs.declared.place.Place.{Place}
 use Rattle.tla_tree.specs.Tree.{Word, Form, name, Tree, node, no_trees, Each, Every, binders, Graft}
@@ -10,15 +9,14 @@ use Rattle.tla_value.specs.Grafts.{owned, own_part}
 use Rattle.tla_value.specs.Outside.{Outside}
 use Rattle.tla_value.specs.Stops.{plain}
 use Rattle.tla_value.specs.laws.FreeNames.{FreeNames, Any, IsOther}
-use Rattle.tla_value.specs.laws.Grafting.{Apart, Clear, BindsClear, NotFreeIn}
+use Rattle.tla_value.specs.laws.Grafting.{Clear, BindsClear, NotFreeIn}
 use Rattle.tla_value.proofs.Graft.{apart_clear}
 use Rattle.module_tree.specs.Formulas.{self, named, quoted, equal}
-use Rattle.pcal_tree.specs.Algorithm.{Statements, done, then, await, Start, unset, equals, among, Declaration, declares, Macro, Process, Main, alone, processes, Routine, locals, numbered, first_process, procedure_routines, main_routines, routines, Algorithm}
+use Rattle.pcal_tree.specs.Algorithm.{Statements, done, then, await, Start, unset, equals, among, Declaration, declares, Macro, Process, Main, alone, processes, Routine, locals, first_process, procedure_routines, main_routines, routines, Algorithm}
 use Rattle.pcal_tree.specs.BoundNames.{lists_in_start, lists_in_body}
-use Rattle.pcal_tree.specs.Calls.{label_name, routine_named}
+use Rattle.pcal_tree.specs.Calls.{label_name}
 use Rattle.pcal_tree.specs.Expand.{graft_all, expanded}
-use Rattle.pcal_tree.specs.OffencesLabels.{label_words}
-use Rattle.pcal_tree.specs.OffencesNames.{in_whole, sight_inside, use_offences_of}
+use Rattle.pcal_tree.specs.OffencesNames.{in_whole, sight_inside}
 use Rattle.pcal_tree.specs.OffencesRebind.{Standings, in_scope, may_rebind, standing_inside, naming, any_name, start_rebinds, macro_rebinds}
 use Rattle.pcal_tree.specs.Placeless.{no_span}
 use Rattle.pcal_tree.specs.Processes.{OneOf}
@@ -26,7 +24,7 @@ use Rattle.pcal_tree.specs.Program.{Program, written}
 use Rattle.pcal_tree.specs.Programs.{program_in}
 use Rattle.pcal_tree.specs.Run.{unlabelled}
 use Rattle.pcal_tree.specs.StepStart.{Begin, at_label}
-use Rattle.pcal_tree.specs.Takers.{Takers, each_of, single, lone, Taken, takers_of, taken_process, taken_main}
+use Rattle.pcal_tree.specs.Takers.{Takers, each_of, single, lone, Taken, taken_main}
 use Rattle.pcal_tree.specs.Variables.{declared, pc, vars}
 use Rattle.pcal_tree.specs.laws.Expansion.{Throughout}
 use Rattle.pcal_tree.proofs.CallsFine.{tree_seen, throughout_both, free_weaker}
@@ -56,7 +54,7 @@ use Rattle.translation.proofs.NamesGiven.{Bound, bound_all, once, routine_bound}
 use Rattle.translation.proofs.NamesOfRules.{not_own, rules_of_names}
 use Rattle.translation.proofs.NextClear.{action_clear}
 use Rattle.translation.proofs.NextOfRegion.{SingleClearLaw}
-use Rattle.translation.proofs.NextScopes.{Numbered, numbered_of}
+use Rattle.translation.proofs.NextScopes.{numbered_of}
 use Rattle.translation.proofs.NextTitles.{main_routine}
 use Rattle.translation.proofs.PairsApart.{named_one}
 use Rattle.translation.proofs.TidySteps.{no_old}
@@ -179,9 +177,11 @@ module _ (o : Outside) (a : Algorithm) (h : IsAcceptedInFile o a) (values : Valu
           (pub_keeps F N (owned self (is_own_variable P)) (λ m p q z. z) owned_has (whole (equal (named pc) (quoted (label_name P u l)))) ((tt, ((tt, tt), ((tt, tt), tt))), tt)).0
 
       begun_clear : ClearItems plain g (items_from P u l (Some b))
-      begun_clear =
-          (test_clear, action_clear plain g (vars P) (graft_all (owned self (is_own_variable P)) (settled W l b.exit (written_statements P u b.items)))
-          (pub_keeps F N (owned self (is_own_variable P)) (λ m p q z. z) owned_has (settled W l b.exit (written_statements P u b.items)) settled_clear))
+      begun_clear = (
+        test_clear,
+        action_clear plain g (vars P) (graft_all (owned self (is_own_variable P)) (settled W l b.exit (written_statements P u b.items)))
+            (pub_keeps F N (owned self (is_own_variable P)) (λ m p q z. z) owned_has (settled W l b.exit (written_statements P u b.items)) settled_clear),
+      )
 
     pub label_clear : ClearItems plain g (items_from P u l (at_label u l))
     label_clear = by (at_label u l) refl

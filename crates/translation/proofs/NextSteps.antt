@@ -1,7 +1,6 @@
 -- An or over the routines of an algorithm, who takes them and their labels says that some process steps.
-use Rattle.std.proofs.Common.{◌≡◌, ℕ, suc, List, [], ◌∷◌, map, Bool, true, false, cond, ◌==◌, ◌⊎◌, inl, inr, refl, sym, ap, ◌∙◌, subst, Ok}
+use Rattle.std.proofs.Common.{◌≡◌, ℕ, suc, List, [], ◌∷◌, Bool, true, false, cond, ◌==◌, ◌⊎◌, inl, inr, refl, sym, ap, ◌∙◌, subst, Ok}
 use Rattle.std.proofs.lemmas.Bool.{eq-eqb}
-use Rattle.tla_tree.specs.Tree.{Word}
 use Rattle.tla_value.proofs.Outcomes.{ok_is}
 use Rattle.pcal_tree.specs.Algorithm.{Process, Main, alone, processes, Algorithm, Routine, process_routine, numbered, first_process, procedure_routines, main_routines}
 use Rattle.pcal_tree.specs.InitialStates.{running}

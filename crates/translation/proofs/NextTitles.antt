@@ -1,7 +1,7 @@
 -- No two actions of the written module of an accepted algorithm have one name, and none is called Terminating but that one.
 use Rattle.std.proofs.Common.{◌≡◌, ℕ, suc, ◌+◌, ◌<◌, ◌≤◌, length, List, [], ◌∷◌, ◌++◌, map, Bool, true, false, ◌||◌, cond, bytes_eq, codes, nat_eq, reverse, Option, Some, None, ◌⊎◌, inl, inr, refl, sym, ap, ◌∙◌, subst, arith}
 use Rattle.std.specs.List.{flat_map, AllByRecursion}
-use Rattle.std.proofs.lemmas.Bool.{both_ways, or_parts, and_parts, and_from, eq-eqb, eqb-true}
+use Rattle.std.proofs.lemmas.Bool.{or_parts, and_parts, and_from, eq-eqb, eqb-true}
 use Rattle.std.proofs.lemmas.List.{map-append}
 use Rattle.std.proofs.lemmas.Slice.Eq.{bytes_eq-Decides}
 use Rattle.tla_token.specs.Signs.{is_among}
@@ -13,10 +13,9 @@ use Rattle.tla_value.specs.Stops.{plain}
 use Rattle.module_tree.specs.Module.{Action}
 use Rattle.module_tree.specs.ModuleTruth.{terminating}
 use Rattle.module_tree.proofs.ActionFound.{titles}
-use Rattle.pcal_tree.specs.Algorithm as tree
 use Rattle.pcal_tree.specs.Algorithm.{Statements, Procedure, Process, Main, alone, processes, Routine, procedure_routine, process_routine, numbered, first_procedure, first_process, procedure_routines, main_routines, routines, Algorithm}
 use Rattle.pcal_tree.specs.Calls.{label_name}
-use Rattle.pcal_tree.specs.Names.{Role, title, variable, label, same_role, first_free, Want, wanted_by, wanted_by_main, wanted, taken_at_start, Given, give, given, naming, is_for, title_for, written_for}
+use Rattle.pcal_tree.specs.Names.{Role, title, variable, label, same_role, first_free, Want, wanted_by, wanted_by_main, wanted, taken_at_start, Given, give, given, is_for, title_for}
 use Rattle.pcal_tree.specs.OffencesLabels.{Label, labels, label_words, second_labels, misplaced, of_macro, of_procedure, of_body, of_main, jump_offences, label_offences}
 use Rattle.pcal_tree.specs.OffencesSteps.{call_effect, missing_in_body, procedure_effects, outer_effects}
 use Rattle.pcal_tree.specs.Paths.{Effect}
@@ -30,7 +29,7 @@ use Rattle.pcal_tree.proofs.ClearLabels.{both_none, clear_labels}
 use Rattle.pcal_tree.proofs.FreeNames.{given_apart}
 use Rattle.pcal_tree.proofs.RoutineNames.{every_one, one_each, one_either, label_wanted}
 use Rattle.pcal_tree.proofs.TroubleLaws.{one_left, one_right}
-use Rattle.action_builder.specs.LabelActions.{procedure_takers, label_action, label_actions, own_action, routine_actions, main_actions, taken_procedures, actions}
+use Rattle.action_builder.specs.LabelActions.{procedure_takers, label_action, label_actions, own_action, routine_actions, main_actions, taken_procedures}
 use Rattle.action_builder.specs.laws.Jumps.{Unlike, AllUnlike}
 use Rattle.translation.specs.laws.AcceptedAlgorithm.{IsAcceptedInFile}
 use Rattle.translation.proofs.AcceptedNames.{no_offence}
@@ -73,9 +72,10 @@ Different xs ys = (b c : Action) → OneOf b xs → OneOf c ys → b.title ≡ c
 
 one_title_both : (xs ys : List Action) → OneTitle xs → OneTitle ys → Different xs ys → OneTitle (xs ++ ys)
 one_title_both [] ys h k d = k
-one_title_both (x ∷ xs) ys h k d =
-    (subst (Unlike x.title) (sym (map-append (λ (a : Action). a.title) xs ys)) (unlike_both x.title (titles xs) (titles ys) h.0 (unlike_all x ys (λ c m. d x c (inl refl) m))),
-    one_title_both xs ys h.1 k (λ b c m n. d b c (inr m) n))
+one_title_both (x ∷ xs) ys h k d = (
+  subst (Unlike x.title) (sym (map-append (λ (a : Action). a.title) xs ys)) (unlike_both x.title (titles xs) (titles ys) h.0 (unlike_all x ys (λ c m. d x c (inl refl) m))),
+  one_title_both xs ys h.1 k (λ b c m n. d b c (inr m) n),
+)
 
 -- ---- routines have different numbers
 
@@ -235,9 +235,11 @@ module _ (o : Outside) (a : Algorithm) (h : IsAcceptedInFile o a) (values : Valu
 
   labels_apart : (r : Taken) → OneOf r.routine (routines a) → (ls : List Word) → ((l : Word) → OneOf l ls → OneOf l (label_words r.routine.body)) → AllUnlike ls → OneTitle (map (label_action P r) ls)
   labels_apart r k [] f d = tt
-  labels_apart r k (l ∷ ls) f d =
-      (unlike_all (label_action P r l) (map (label_action P r) ls) (λ c m e. (let (x, n, q) = unmapped (label_action P r) c ls m in
-        other x n (one_label_name r.routine k l x (f l (inl refl)) (f x (inr n)) (e ∙ ap (λ (b : Action). b.title) q)))), labels_apart r k ls (λ x m. f x (inr m)) d.1)
+  labels_apart r k (l ∷ ls) f d = (
+    unlike_all (label_action P r l) (map (label_action P r) ls) (λ c m e. (let (x, n, q) = unmapped (label_action P r) c ls m in
+        other x n (one_label_name r.routine k l x (f l (inl refl)) (f x (inr n)) (e ∙ ap (λ (b : Action). b.title) q)))),
+    labels_apart r k ls (λ x m. f x (inr m)) d.1,
+  )
     where
       other : (x : Word) → OneOf x ls → l ≡ x → ⊥
       other x n e = never (sym ((bytes_eq-Decides l x).1 e) ∙ one_each_of (λ y. bytes_eq l y ≡ false) ls d.0 x n)

@@ -1,7 +1,7 @@
 -- Where Next of an accepted algorithm's region is a fault, some process is in trouble.
-use Rattle.std.proofs.Common.{◌≡◌, List, Bool, Option, Some, None, refl, sym, ap, ◌∙◌, subst}
+use Rattle.std.proofs.Common.{◌≡◌, Bool, Option, Some, None, refl, sym, ap, ◌∙◌, subst}
 use Rattle.tla_tree.specs.Tree.{Word}
-use Rattle.tla_value.specs.Value.{Trouble, Outcome, IsBad, TrueExactly}
+use Rattle.tla_value.specs.Value.{Trouble, IsBad, TrueExactly}
 use Rattle.tla_value.specs.Outside.{Outside}
 use Rattle.tla_value.specs.Stops.{plain}
 use Rattle.tla_value.specs.Definitions.{Valuation}
@@ -24,8 +24,8 @@ use Rattle.action_builder.specs.laws.Ready.{Readable}
 use Rattle.promise.specs.ConstantsAndStates.{AreConstants, IsState}
 use Rattle.translation.specs.Region.{region_of}
 use Rattle.translation.specs.laws.AcceptedAlgorithm.{IsAcceptedInFile}
-use Rattle.translation.specs.laws.LeftToProve.{ReadyLaw}
 use Rattle.translation.proofs.NamesApart.{writable}
+use Rattle.translation.proofs.NextLabels.{ReadyHere}
 use Rattle.translation.proofs.NextOfRegion.{HasSingle, next_is}
 use Rattle.translation.proofs.NextSingle.{single_clear}
 use Rattle.translation.proofs.NextTitles.{clear}
@@ -34,7 +34,7 @@ use Rattle.translation.proofs.PreparedSteps.{prepared_law}
 not_bad : (v : Verdict) (Q : Type 0) → TrueExactly v Q → IsBad v → ⊥
 not_bad v Q (b, e, h) f = subst IsBad e f
 
-module _ (U : Algorithm → Readable) (ready : ReadyLaw IsAcceptedInFile U) (b : Bool) (title : Word) (o : Outside) (g : Algorithm) (h : IsAcceptedInFile o g) (values : Valuation) (s t : State) where
+module _ (U : Readable) (b : Bool) (title : Word) (o : Outside) (g : Algorithm) (h : IsAcceptedInFile o g) (values : Valuation) (s t : State) (ready : ReadyHere U o g values) where
   abbrev first : Module
   first = record { title = title; outside = o; region = region_of b (with_names o g) }
 
@@ -47,7 +47,7 @@ module _ (U : Algorithm → Readable) (ready : ReadyLaw IsAcceptedInFile U) (b :
     where
       by : (q : Option Trouble) → trouble_of_all P s proper.0 ≡ q → ((v : Actor) × (k : Trouble) × IsActor P v × Troubled P s v k)
       by (Some j) e = (let (v, one, x) = first_of_all P s proper.0 j e in (v, j, (proper.0, proper.1, one), x))
-      by None e = absurd (not_bad _ _ (next_is U prepared_law ready single_clear b title o g h values s t k is it sound) bad)
+      by None e = absurd (not_bad _ _ (next_is U prepared_law single_clear b title o g h values s t ready k is it sound) bad)
         where
           quiet : (j : Trouble) → FirstTrouble P s j → ⊥
           quiet j (vs, all, q) = no (sym (ap (trouble_of_all P s) (ok_is (sym proper.1 ∙ all)) ∙ q) ∙ e)

@@ -1,33 +1,29 @@
 -- Next as an or over processes and labels: where each label's action is true exactly of the steps from that label, Next is true exactly where some process steps.
-use Rattle.std.proofs.Common.{◌≡◌, ℕ, suc, List, [], ◌∷◌, ◌++◌, map, Bool, true, false, cond, ◌==◌, Option, Some, None, ◌⊎◌, inl, inr, refl, sym, ap, ◌∙◌, subst, Ok}
-use Rattle.std.proofs.lemmas.Bool.{eq-eqb}
+use Rattle.std.proofs.Common.{◌≡◌, List, [], ◌∷◌, ◌++◌, map, Option, Some, None, ◌⊎◌, inl, inr, refl, sym, ap, subst, Ok}
 use Rattle.std.specs.List.{AllByRecursion}
-use Rattle.tla_tree.specs.Tree.{Word, Tree}
+use Rattle.tla_tree.specs.Tree.{Word}
 use Rattle.tla_value.specs.Value.{Value, set, TrueExactly}
 use Rattle.tla_value.specs.Stops.{plain}
 use Rattle.tla_value.specs.Meaning.{Env, bind, eval}
 use Rattle.tla_value.specs.Definitions.{Valuation}
-use Rattle.module_tree.specs.Formulas.{self, process_set}
-use Rattle.module_tree.specs.Module.{Items}
+use Rattle.module_tree.specs.Formulas.{self}
 use Rattle.module_tree.specs.ActionTruth.{Verdict, Acts, acted, items_hold, way_holds, some_way_holds}
 use Rattle.module_tree.proofs.Tells.{tells_as, tells_of}
-use Rattle.pcal_tree.specs.Algorithm.{Process, Main, alone, processes, Routine, process_routine, alone_routine, numbered, first_process, procedure_routines, main_routines}
+use Rattle.pcal_tree.specs.Algorithm.{Main, alone, processes, Routine, alone_routine, procedure_routines}
 use Rattle.pcal_tree.specs.InitialStates.{running}
 use Rattle.pcal_tree.specs.OffencesLabels.{label_words}
 use Rattle.pcal_tree.specs.Calls.{label_name}
-use Rattle.pcal_tree.specs.Processes.{OneOf, actors, actors_in, IsActor}
+use Rattle.pcal_tree.specs.Processes.{OneOf}
 use Rattle.pcal_tree.specs.Program.{Program, Actor}
 use Rattle.pcal_tree.specs.Scope.{State}
-use Rattle.pcal_tree.specs.Step.{Stand, StandsAt, StepFrom, Step}
+use Rattle.pcal_tree.specs.Step.{StepFrom}
 use Rattle.pcal_tree.specs.StepStart.{Begin, at_label}
-use Rattle.pcal_tree.specs.Takers.{Takers, each_of, single, lone, Taken, taken_process, taken_main}
-use Rattle.pcal_tree.proofs.OneStand.{own_is_main}
+use Rattle.pcal_tree.specs.Takers.{Takers, each_of, single, lone, Taken, taken_main}
 use Rattle.pcal_tree.proofs.ProcessesInOrder.{id, ids}
-use Rattle.pcal_tree.proofs.TroubleLaws.{one_left, one_right, label_listed}
-use Rattle.action_builder.specs.LabelActions.{procedure_takers, items_by, items_from, label_action, title_of, own_action}
+use Rattle.action_builder.specs.LabelActions.{procedure_takers, items_by, items_from, label_action, title_of}
 use Rattle.action_builder.specs.NextFormula.{own_way, label_ways, main_ways}
 use Rattle.action_builder.proofs.WaysOfNext.{AnyOf, ways_true, ways_both, own_true, own_alone_true, set_true}
-use Rattle.translation.proofs.NextFound.{Finds, FindsLabels, FindsOwn, one_mapped}
+use Rattle.translation.proofs.NextFound.{Finds, FindsLabels, FindsOwn}
 
 -- ---- lists
 
@@ -55,7 +51,6 @@ procedures_taken P m = map (λ u. record { takers = procedure_takers m; routine 
 abbrev pub takers_among : List Actor → Main → Taken → List Actor
 takers_among vs (alone ss) r = vs
 takers_among vs (processes ps) r = running r.routine vs
-
 
 module _ (P : Program) (s t : State) where
   -- process v steps from the label l of u

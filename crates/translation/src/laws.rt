@@ -58,13 +58,13 @@ ghost use Rattle.pcal_tree.specs.Grammar.{Syntax, Spells};
 ghost use Rattle.pcal_tree.specs.OffencesOfNames.{name_offences};
 ghost use Rattle.pcal_tree.specs.Expand.{expanded};
 ghost use Rattle.action_builder.specs.Assigned.{Names};
-ghost use Rattle.action_builder.specs.laws.Ready.{Readable, Once};
+ghost use Rattle.action_builder.specs.laws.Ready.{Once};
 ghost use Rattle.action_builder.specs.Prepared.{none};
 ghost use Rattle.pcal_tree.specs.Step.{Stand};
 ghost use Rattle.translation.specs.laws.FreshReads.{readable};
 ghost use Rattle.translation.specs.laws.NothingPrimed.{NothingPrimed};
 ghost use Rattle.translation.specs.laws.PlacedStatements.{Placed};
-ghost use Rattle.translation.specs.laws.NextLaws.{SetFaultsAgree};
+ghost use Rattle.translation.specs.laws.NextLaws.{SetFaultsAgree, AcceptedUnprimed};
 ghost use Rattle.translation.specs.laws.StepsOnce.{none_set, SetsOnce, JumpsOnce};
 ghost use Rattle.translation.specs.laws.JumpsEnd.{JumpsEnd};
 ghost use Rattle.translation.specs.laws.TypedAlgorithm.{IsTypedAlgorithm};
@@ -210,12 +210,14 @@ pub fn init_is_true_of_the_initial_states()
         → WithTranslation x (layout (written_region no_terminating o a)) w → (m : Module) → Reads w m → InitIs a m }
 {}
 
-/// Where items can be written for each step, Next of what is written of an accepted algorithm, with the algorithm's own places, is true of two states exactly where some
-/// process steps from the first to the second, or all are done and nothing changes: for all constants, and all first states from which nothing is in trouble. Else it is
-/// false, and never a fault. And where all processes are of sets, it is a fault for some second state exactly if some process is in trouble in the first.
+/// Where no name is primed, Next of what is written of an accepted algorithm, with the algorithm's own places, is true of two states exactly where some process steps from the
+/// first to the second, or all are done and nothing changes: for all constants, and all first states from which nothing is in trouble. Else it is false, and never a fault. So
+/// each module that a translated file is read as keeps the promise, of Init too. And where all processes are of sets, Next is a fault for some second state exactly if some
+/// process is in trouble in the first.
 pub fn next_is_true_of_the_steps()
-    ensures region { (U : Algorithm → Readable) → ReadyLaw IsAcceptedInFile U → NextOfRegionLaw IsAcceptedInFile }
-    ensures faults { (U : Algorithm → Readable) → ReadyLaw IsAcceptedInFile U → SetFaultsAgree IsAcceptedInFile }
+    ensures region { NextOfRegionLaw AcceptedUnprimed }
+    ensures kept { PromiseKept AcceptedUnprimed }
+    ensures faults { SetFaultsAgree AcceptedUnprimed }
 {}
 
 /// Where no rule on labels is broken, each loop is right after a label, a `return` is in a procedure, and no label is in a `with`, with macro calls written out.

@@ -1,9 +1,12 @@
 -- Proves the law `next_is_true_of_the_steps`.
-use Rattle.translation.proofs.NextLaw.{next_where_ready, faults_where_ready}
+use Rattle.translation.proofs.NextLaw.{next_law, faults_law, kept_law}
 use Rattle.translation.proofs.laws.next_is_true_of_the_steps.Goals as goal
 
 pub returns-clause-region : goal.returns-clause-region
-returns-clause-region c = next_where_ready
+returns-clause-region c = next_law
+
+pub returns-clause-kept : goal.returns-clause-kept
+returns-clause-kept c = kept_law
 
 pub returns-clause-faults : goal.returns-clause-faults
-returns-clause-faults c = faults_where_ready
+returns-clause-faults c = faults_law
