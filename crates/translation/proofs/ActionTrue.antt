@@ -126,7 +126,7 @@ module _ (U : Algorithm → Readable) (prepared : PreparedLaw IsAcceptedInFile) 
         alone_runs u n = record {
           argued = nothing_for u.spread v.self self_is;
           found = by n;
-          labels = lone_true U prepared ready o g h values k.unset s t sound v self_is a u n;
+          labels = lone_true (U g) prepared o g h values (ready o g h values) k.unset s t sound v self_is a u n;
         }
           where
             by : OneOf u (routines_of P v) → FindsLabels S T X P (acts (alone ss)) (record { takers = lone; routine = u })
@@ -145,7 +145,7 @@ module _ (U : Algorithm → Readable) (prepared : PreparedLaw IsAcceptedInFile) 
         procedure_runs u n = record {
           argued = sym identified ∙ ap (λ c. cond c v.self None) (sym (spread_procedure u (first_procedure g) g.procedures n));
           found = procedure_labels (processes ps) e u n;
-          labels = named_true U prepared ready o g h values k.unset s t sound v identified a u (inr n) process_set;
+          labels = named_true (U g) prepared o g h values (ready o g h values) k.unset s t sound v identified a u (inr n) process_set;
         }
 
         own_labels : (r : Taken) → OneOf r (taken_main g (processes ps)) → FindsLabels S T X P (acts (processes ps)) r
@@ -161,13 +161,13 @@ module _ (U : Algorithm → Readable) (prepared : PreparedLaw IsAcceptedInFile) 
         taken_runs (each_of f) u n q d i m = record {
           argued = sym identified ∙ ap (λ c. cond c v.self None) (sym d);
           found = own_labels (record { takers = each_of f; routine = u }) n;
-          labels = named_true U prepared ready o g h values k.unset s t sound v identified a u (inl (sym q)) f;
+          labels = named_true (U g) prepared o g h values (ready o g h values) k.unset s t sound v identified a u (inl (sym q)) f;
         }
         taken_runs (single f) u n q d (w, only, y) m = record {
           argued = ap (λ c. cond c v.self None) (sym d);
           found = own_labels (record { takers = single f; routine = u }) n;
           labels =
-              single_true U prepared ready o g h values k.unset s t sound (names_sound o g h title first.region values k s t is it) (names_by_value o g h title first.region values k s t) v identified a u (inl (sym q)) f
+              single_true (U g) prepared o g h values (ready o g h values) k.unset s t sound (names_sound o g h title first.region values k s t is it) (names_by_value o g h title first.region values k s t) v identified a u (inl (sym q)) f
               (y ∙ ap (λ (z : Actor). Ok (id z)) (sym (one (subst (OneOf v) only m))))
               (clear o g h values (record { takers = single f; routine = u }) (subst (λ z. OneOf (record { takers = single f; routine = u }) (taken_main g z)) (sym e) n) f refl);
         }
