@@ -1,13 +1,13 @@
 -- Init as a whole, in an accepted algorithm's module: where the walk through all initial values gives a truth value, Init has it.
-use Rattle.std.proofs.Common.{◌≡◌, ℕ, suc, List, [], ◌∷◌, ◌++◌, ◌==◌, Bool, true, false, cond, map, flat_map, Some, None, inl, inr, refl, sym, ◌∙◌, ap, subst, Ok, Err}
+use Rattle.std.proofs.Common.{◌≡◌, ℕ, suc, List, [], ◌∷◌, ◌++◌, ◌==◌, Bool, true, false, cond, map, flat_map, Some, None, inl, inr, refl, sym, ◌∙◌, ap, subst, Ok}
 use Rattle.std.specs.List.{AllByRecursion}
 use Rattle.tla_token.specs.Signs.{is_among}
-use Rattle.tla_tree.specs.Tree.{Word, Tree}
-use Rattle.tla_value.specs.Value.{Value, Values, no_values, and, set, and_then, Outcome, ◌>>=◌}
+use Rattle.tla_tree.specs.Tree.{Word}
+use Rattle.tla_value.specs.Value.{Values, no_values, and, set, and_then, ◌>>=◌}
 use Rattle.tla_value.specs.Order.{IsAscending}
 use Rattle.tla_value.specs.Stops.{plain}
-use Rattle.tla_value.specs.Meaning.{Env, eval}
-use Rattle.tla_value.specs.Definitions.{Valuation, Definition}
+use Rattle.tla_value.specs.Meaning.{Env}
+use Rattle.tla_value.specs.Definitions.{Valuation}
 use Rattle.tla_value.specs.Outside.{Outside}
 use Rattle.tla_value.proofs.Outcomes.{ok_is}
 use Rattle.module_tree.specs.Formulas.{process_set}
@@ -15,14 +15,13 @@ use Rattle.module_tree.specs.Module.{Region}
 use Rattle.module_tree.specs.ModuleTruth.{all_hold}
 use Rattle.pcal_tree.specs.Algorithm.{Statements, Declaration, Process, Main, alone, processes, Routine, locals, process_routine, alone_routine, numbered, first_process, procedure_routines, main_routines, routines, Algorithm}
 use Rattle.pcal_tree.specs.InitialStates.{globals_allowed, local_allowed, locals_allowed, is_multiprocess, procedures_allowed, running, processes_allowed, stack_allowed, pc_allowed, allowed}
-use Rattle.pcal_tree.specs.OffencesNames.{in_whole, sight_inside}
-use Rattle.pcal_tree.specs.Processes.{OneOf, IsActor, identifiers_of, actors_of, all_actors, sorted, actors_in, actors}
+use Rattle.pcal_tree.specs.Processes.{OneOf, identifiers_of, actors_of, all_actors, actors_in, actors}
 use Rattle.pcal_tree.specs.Program.{Program, Actor}
 use Rattle.pcal_tree.specs.Scope.{State}
-use Rattle.pcal_tree.specs.Takers.{Takers, each_of, single, lone, takers_of, Taken, taken_process, taken_main}
-use Rattle.pcal_tree.specs.Variables.{declared, pc, stack, stack_for, written_by_all, vars}
+use Rattle.pcal_tree.specs.Takers.{Takers, each_of, single, lone, taken_process, taken_main}
+use Rattle.pcal_tree.specs.Variables.{declared, pc, stack_for, written_by_all, vars}
 use Rattle.pcal_tree.proofs.OneStand.{every_both}
-use Rattle.pcal_tree.proofs.ProcessesInOrder.{id, ids, ids_of_actors, Distinct, sorted_ascending, At, at_first, at_later, running_in_order, running_ascending, all_owned}
+use Rattle.pcal_tree.proofs.ProcessesInOrder.{id, ids, ids_of_actors, sorted_ascending, At, at_first, at_later, running_in_order, running_ascending, all_owned}
 use Rattle.pcal_tree.proofs.RoutineNames.{every_one}
 use Rattle.pcal_tree.proofs.TroubleLaws.{one_left, one_right}
 use Rattle.action_builder.specs.InitialFormulas.{locals_start, globals_start, stack_start, pc_start, init}
@@ -37,7 +36,7 @@ use Rattle.translation.specs.laws.AcceptedAlgorithm.{IsAcceptedInFile}
 use Rattle.translation.specs.laws.LeftToProve.{extra_of}
 use Rattle.translation.proofs.InitLabels.{in_sorted, one_holds, lone_pc, lone_stack, all_pc, all_stack}
 use Rattle.translation.proofs.InitNames.{StartFine, identity_used, all_fine}
-use Rattle.translation.proofs.InitSets.{all_parts, P, E, G, all_grow, Gives, identity_gives, identity_canonical, value_grows, Running, running_all, process_set_gives}
+use Rattle.translation.proofs.InitSets.{all_parts, P, E, all_grow, Gives, identity_gives, identity_canonical, value_grows, Running, running_all, process_set_gives}
 use Rattle.translation.proofs.InitValues.{globals_hold, lone_is, single_is, spread_is, locals_hold}
 use Rattle.translation.proofs.NamesApart.{names_apart}
 use Rattle.translation.proofs.NamesOfRules.{rules_of_names}

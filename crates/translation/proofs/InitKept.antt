@@ -1,5 +1,5 @@
 -- Init of each module that a translated file is read as is true exactly of the initial states of the algorithm in the file, where no initial value faults.
-use Rattle.std.proofs.Common.{◌≡◌, List, ◌∷◌, Bool, false, codes, length, ◌<◌, sym, ◌∙◌, subst}
+use Rattle.std.proofs.Common.{◌≡◌, ◌∷◌, Bool, false, codes, length, ◌<◌, sym, ◌∙◌, subst}
 use Rattle.std.specs.Bool.{IsTrue}
 use Rattle.std.specs.Prelude.{is_some}
 use Rattle.tla_token.specs.Limits.{past_text}

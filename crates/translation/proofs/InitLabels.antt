@@ -1,10 +1,9 @@
 -- The conjuncts of Init for the stack and pc, in an accepted algorithm's module: the CASE gives each process the first label of its own body, and every stack is empty.
-use Rattle.std.proofs.Common.{◌≡◌, ℕ, suc, List, [], ◌∷◌, ◌++◌, Bool, true, false, ◌||◌, cond, codes, map, Some, None, ◌⊎◌, inl, inr, refl, sym, ◌∙◌, ap, subst, Ok, Err, bytes_eq}
+use Rattle.std.proofs.Common.{◌≡◌, ℕ, suc, List, [], ◌∷◌, ◌++◌, Bool, true, false, ◌||◌, cond, map, None, ◌⊎◌, inl, inr, refl, sym, ◌∙◌, ap, subst, Ok, bytes_eq}
 use Rattle.std.proofs.Math.Bool.{or-false}
 use Rattle.std.proofs.lemmas.Bool.{or_left, or_right}
 use Rattle.std.specs.List.{AllByRecursion}
 use Rattle.std.specs.Ordering.{is_lt}
-use Rattle.tla_token.specs.Places.{nowhere}
 use Rattle.tla_token.specs.Signs.{is_among}
 use Rattle.tla_tree.specs.Tree.{Word, Tree}
 use Rattle.tla_value.specs.Value.{Value, Values, no_values, and, set, and_then, Outcome, ◌>>=◌}
@@ -19,10 +18,10 @@ use Rattle.module_tree.specs.Formulas.{self, named, process_set, empty_tuple, eq
 use Rattle.module_tree.specs.Module.{Region}
 use Rattle.module_tree.specs.ModuleTruth.{all_hold}
 use Rattle.module_tree.specs.ActionTruth.{truth_in}
-use Rattle.pcal_tree.specs.Algorithm.{Statements, Process, Main, alone, processes, Routine, process_routine, alone_routine, numbered, first_process, procedure_routines, main_routines, Algorithm}
-use Rattle.pcal_tree.specs.Calls.{label_name, label_value, first_label}
+use Rattle.pcal_tree.specs.Algorithm.{Statements, Process, alone, processes, Routine, process_routine, alone_routine, numbered, first_process, procedure_routines, main_routines, Algorithm}
+use Rattle.pcal_tree.specs.Calls.{label_value, first_label}
 use Rattle.pcal_tree.specs.InitialStates.{function_on, own_allowed, empty_stack, stack_allowed, pc_allowed}
-use Rattle.pcal_tree.specs.Processes.{OneOf, identifier, identifiers_of, actors_of, all_actors, placed, sorted}
+use Rattle.pcal_tree.specs.Processes.{OneOf, identifier, actors_of, all_actors, placed, sorted}
 use Rattle.pcal_tree.specs.Program.{Program, Actor}
 use Rattle.pcal_tree.specs.Scope.{State}
 use Rattle.pcal_tree.specs.Takers.{each_of, single, lone, takers_of, Taken, taken_process, taken_main}
@@ -35,7 +34,7 @@ use Rattle.action_builder.proofs.SpreadStarts.{at_each_self, function_is, equal_
 use Rattle.action_builder.proofs.WrittenStarts.{Takes, pc_is, Follows}
 use Rattle.promise.specs.ConstantsAndStates.{AreConstants, IsState}
 use Rattle.translation.specs.laws.AcceptedAlgorithm.{IsAcceptedInFile}
-use Rattle.translation.proofs.InitSets.{all_parts, P, E, G, each_grows, Gives, identity_gives, identity_canonical, value_grows, test_grows, Running, process_set_gives}
+use Rattle.translation.proofs.InitSets.{all_parts, P, E, each_grows, Gives, identity_gives, identity_canonical, value_grows, test_grows, Running, process_set_gives}
 use Rattle.translation.proofs.InitValues.{in_is, variable_is}
 use Rattle.translation.proofs.NamesApart.{false_among, never}
 use Rattle.translation.proofs.RoutinesNamed.{among_later, among_before}

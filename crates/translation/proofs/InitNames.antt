@@ -1,5 +1,5 @@
 -- The initial values of an accepted algorithm's routines: written names and identifiers are put in, and nothing is captured; and what they read is seen in the routine.
-use Rattle.std.proofs.Common.{◌≡◌, ℕ, suc, List, [], ◌∷◌, ◌++◌, Bool, true, false, not, ◌&&◌, ◌||◌, cond, bytes_eq, codes, reverse, Option, Some, None, ◌⊎◌, inl, inr, refl, sym, ◌∙◌, ap, subst}
+use Rattle.std.proofs.Common.{◌≡◌, ℕ, suc, List, [], ◌∷◌, ◌++◌, Bool, true, false, not, ◌&&◌, cond, bytes_eq, reverse, Some, None, ◌⊎◌, inl, inr, refl, sym, ◌∙◌, ap, subst}
 use Rattle.std.specs.List.{flat_map, AllByRecursion}
 use Rattle.std.proofs.lemmas.List.{append-nil}
 use Rattle.tla_token.specs.declared.rule.Refusal.{Refusal}
@@ -8,8 +8,7 @@ use Rattle.std.proofs.lemmas.Slice.Eq.{bytes_eq-Decides}
 use Rattle.tla_token.specs.Places.{nowhere}
 use Rattle.tla_token.specs.declared.place.Place.{Place}
 use Rattle.tla_token.specs.Signs.{is_among}
-use Rattle.tla_token.specs.Words.{is_own}
-use Rattle.tla_tree.specs.Tree.{Word, words, Form, binders, name, Tree, node, no_trees, Graft, graft, Each, Every}
+use Rattle.tla_tree.specs.Tree.{Word, words, binders, name, Tree, node, no_trees, Graft, graft, Each, Every}
 use Rattle.tla_value.specs.Stops.{plain}
 use Rattle.tla_value.specs.Definitions.{Valuation, Definition}
 use Rattle.tla_value.specs.Grafts.{owned, own_part}
@@ -24,23 +23,21 @@ use Rattle.pcal_tree.specs.Algorithm.{Declaration, Start, declares, await, State
 use Rattle.pcal_tree.specs.BoundNames.{all_of, lists_in, lists_in_start, lists_in_body, lists_in_declared, lists_in_procedure, lists_in_process, lists_in_main, bound_lists}
 use Rattle.pcal_tree.specs.Names.{kept}
 use Rattle.pcal_tree.specs.NameUses.{knowing, variable, Sight, seeing_variables}
-use Rattle.pcal_tree.specs.OffencesNames.{names_of, in_whole, in_start, in_declared, in_definitions, in_body, in_procedure, in_process, in_main, macro_offences, sight_outside, sight_inside, use_offences_of}
-use Rattle.pcal_tree.specs.OffencesRebind.{Standings, naming, in_scope, may_rebind, whole_rebinds, start_rebinds, starts_rebind, any_name, body_rebinds, macro_rebinds, texts_rebind, definitions_rebind, locals_rebind, rebound_all, procedure_rebinds, in_process_body, process_rebinds, main_rebinds, standing_outside, standing_inside, rebind_offences_of}
+use Rattle.pcal_tree.specs.OffencesNames.{names_of, in_whole, in_start, in_declared, in_definitions, in_procedure, in_process, in_main, macro_offences, sight_outside, sight_inside, use_offences_of}
+use Rattle.pcal_tree.specs.OffencesRebind.{Standings, naming, in_scope, may_rebind, whole_rebinds, start_rebinds, starts_rebind, any_name, macro_rebinds, texts_rebind, definitions_rebind, locals_rebind, rebound_all, procedure_rebinds, process_rebinds, main_rebinds, standing_outside, standing_inside, rebind_offences_of}
 use Rattle.pcal_tree.specs.Processes.{OneOf}
 use Rattle.pcal_tree.specs.Program.{Program, written}
 use Rattle.pcal_tree.specs.Programs.{program_in}
 use Rattle.pcal_tree.specs.Variables.{declared, pc, stack}
-use Rattle.pcal_tree.specs.laws.Expansion.{Throughout}
 use Rattle.pcal_tree.proofs.CallsFine.{Sees, tree_seen, free_weaker, throughout_both}
 use Rattle.pcal_tree.proofs.ClearLabels.{both_none}
 use Rattle.pcal_tree.proofs.NothingCaptured.{Has, Free, BindsFree, pub_keeps, written_bare}
 use Rattle.pcal_tree.proofs.RoutineNames.{one_either}
-use Rattle.pcal_tree.proofs.Uncaptured.{throughout_weaker}
 use Rattle.action_builder.specs.InitialFormulas.{written_in}
 use Rattle.action_builder.specs.OwnVariables.{own_variables, is_own_variable}
 use Rattle.action_builder.specs.SingleProcess.{in_place_of}
 use Rattle.action_builder.specs.WrittenNames.{renames, renamed}
-use Rattle.action_builder.specs.laws.WrittenScope.{common, seen, Common, Seen}
+use Rattle.action_builder.specs.laws.WrittenScope.{common, Common, Seen}
 use Rattle.action_builder.proofs.WrittenStarts.{IsNamed}
 use Rattle.translation.specs.laws.AcceptedAlgorithm.{IsAcceptedInFile}
 use Rattle.translation.specs.laws.LeftToProve.{extra_of}

@@ -1,21 +1,20 @@
 -- Init of an accepted algorithm's translation is true exactly of its initial states, where no initial value faults: of the region that has the algorithm's own places.
-use Rattle.std.proofs.Common.{◌≡◌, List, [], ◌∷◌, ◌++◌, Bool, true, flat_map, map, filter, refl, sym, ◌∙◌, ap, Ok, Err}
+use Rattle.std.proofs.Common.{◌≡◌, List, [], ◌∷◌, ◌++◌, Bool, flat_map, map, filter, refl, sym, ◌∙◌, ap, Ok, Err}
 use Rattle.tla_token.specs.declared.place.Place.{Place}
 use Rattle.tla_token.specs.Signs.{is_among}
 use Rattle.tla_tree.specs.Tree.{Word, Tree, graft}
 use Rattle.tla_value.specs.declared.fault.FaultKind.{FaultKind}
 use Rattle.tla_value.specs.Value.{Outcome, fault, over, TrueExactly}
 use Rattle.tla_value.specs.Stops.{plain}
-use Rattle.tla_value.specs.Definitions.{Valuation, no_state}
+use Rattle.tla_value.specs.Definitions.{Valuation}
 use Rattle.tla_value.specs.Grafts.{owned}
 use Rattle.tla_value.specs.Outside.{Outside}
 use Rattle.tla_value.proofs.Outcomes.{ok_is}
 use Rattle.module_tree.specs.Formulas.{self, named, equal}
-use Rattle.module_tree.specs.Module.{Region, Module}
 use Rattle.module_tree.specs.ModuleTruth.{all_hold, init_holds}
 use Rattle.pcal_tree.specs.Algorithm.{Start, Main, alone, processes, Routine, locals, procedure_routines, main_routines, Algorithm}
 use Rattle.pcal_tree.specs.InitialStates.{allowed, Initial, InitFault}
-use Rattle.pcal_tree.specs.Processes.{actors, Proper}
+use Rattle.pcal_tree.specs.Processes.{actors}
 use Rattle.pcal_tree.specs.Program.{Program, Actor, written}
 use Rattle.pcal_tree.specs.Programs.{program_in}
 use Rattle.pcal_tree.specs.Scope.{State}

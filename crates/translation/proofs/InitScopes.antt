@@ -5,7 +5,7 @@ use Rattle.tla_tree.specs.Tree.{Word, Tree}
 use Rattle.tla_value.specs.Value.{Value, Outcome, Sense, Trouble}
 use Rattle.tla_value.specs.Stops.{plain, misshapen, sense_of}
 use Rattle.tla_value.specs.Standard.{standard_name}
-use Rattle.tla_value.specs.Meaning.{Env, bind, just, eval}
+use Rattle.tla_value.specs.Meaning.{Env, bind, just}
 use Rattle.tla_value.specs.Definitions.{Valuation, Definition, no_state, or_sense, base, in_states, body_sense, defined, with_definitions, scope_of}
 use Rattle.tla_value.specs.laws.Untitled.{Untitled}
 use Rattle.tla_value.proofs.Untitled.{looked_through}

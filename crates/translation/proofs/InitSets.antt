@@ -1,14 +1,14 @@
 -- The scope of Init in an accepted algorithm's module: names outside routines have in it the values that they have where identifiers and globals are looked at, and the
 -- sets of processes and ProcSet have the identifiers of the processes.
-use Rattle.std.proofs.Common.{◌≡◌, ℕ, suc, List, [], ◌∷◌, ◌++◌, Bool, true, false, ◌||◌, not, cond, bytes_eq, codes, map, Option, Some, None, inl, inr, refl, sym, ◌∙◌, ap, subst, Ok, Err}
+use Rattle.std.proofs.Common.{◌≡◌, ℕ, suc, List, [], ◌∷◌, ◌++◌, Bool, true, false, ◌||◌, cond, bytes_eq, codes, map, Some, None, inl, inr, refl, sym, ◌∙◌, ap, subst, Ok, Err}
 use Rattle.std.proofs.Math.Bool.{or_assoc}
 use Rattle.std.proofs.lemmas.Slice.Eq.{bytes_eq-Decides}
 use Rattle.tla_token.specs.declared.place.Place.{Place}
 use Rattle.tla_token.specs.Places.{nowhere}
 use Rattle.tla_token.specs.Signs.{is_among}
 use Rattle.tla_token.specs.Words.{is_own, standard_names}
-use Rattle.tla_tree.specs.Tree.{Word, words, Each, Tree, strict, set_of, root_place}
-use Rattle.tla_value.specs.Value.{Value, Values, no_values, and, truth, int, text, model, fun, set, values_in, Outcome, ◌>>=◌}
+use Rattle.tla_tree.specs.Tree.{Word, words, Each, Tree, set_of, root_place}
+use Rattle.tla_value.specs.Value.{Value, Values, no_values, and, truth, int, text, model, fun, set, Outcome, ◌>>=◌}
 use Rattle.tla_value.specs.Order.{holds, same, IsAscending, IsCanonical, AreCanonical}
 use Rattle.tla_value.specs.Strict.{strict_value}
 use Rattle.tla_value.specs.Stops.{plain, members_at}
@@ -16,7 +16,7 @@ use Rattle.tla_value.specs.Standard.{standard_name}
 use Rattle.tla_value.specs.Meaning.{Env, just, bind, eval}
 use Rattle.tla_value.specs.Definitions.{Valuation, Definition, no_state, or_sense, base, in_states, at_use, with_definitions, scope_of}
 use Rattle.tla_value.specs.Outside.{Outside, ReadDefinition, found}
-use Rattle.tla_value.specs.laws.CanonicalNames.{Proper, Sound, TestsByValue, MeansAlike}
+use Rattle.tla_value.specs.laws.CanonicalNames.{Proper, Sound, TestsByValue}
 use Rattle.tla_value.specs.laws.Untitled.{Untitled}
 use Rattle.tla_value.proofs.CanonicalEval.{eval_canonical}
 use Rattle.tla_value.proofs.CanonicalTests.{value_kept, means_its_value}
@@ -27,15 +27,14 @@ use Rattle.tla_value.proofs.JoinedScopes.{Envs, eval_in}
 use Rattle.module_tree.specs.Formulas.{self, process_set, unset_value}
 use Rattle.module_tree.specs.Module.{Region}
 use Rattle.module_tree.specs.ModuleTruth.{process_set_defined}
-use Rattle.pcal_tree.specs.Algorithm as tree
-use Rattle.pcal_tree.specs.Algorithm.{declares, Process, Main, alone, processes, Routine, locals, process_routine, alone_routine, first_process, procedure_routines, main_routines, Algorithm}
+use Rattle.pcal_tree.specs.Algorithm.{declares, Process, Main, alone, processes, process_routine, first_process, procedure_routines, main_routines, Algorithm}
 use Rattle.pcal_tree.specs.Calls.{defaultInitValue}
 use Rattle.pcal_tree.specs.Processes.{OneOf, one_value, identifiers_of, actors_of, all_actors, apart, united, last_place, sorted, actors_in, actors}
 use Rattle.pcal_tree.specs.Program.{Program, Actor, inner, globals_on, common_env, global_env, written}
 use Rattle.pcal_tree.specs.Programs.{program_in}
 use Rattle.pcal_tree.specs.Scope.{State}
 use Rattle.pcal_tree.specs.Takers.{takers_of, each_of, single}
-use Rattle.pcal_tree.specs.Variables.{declared, pc, stack, stack_for, written_by_all, vars, on_variables}
+use Rattle.pcal_tree.specs.Variables.{declared, pc, stack_for, written_by_all, vars, on_variables}
 use Rattle.pcal_tree.proofs.ProcessesInOrder.{id, ids, Distinct, apart_gives, ids_of_actors}
 use Rattle.action_builder.specs.ProcessSets.{set_of_takers, sets_of_processes, union, process_set_of}
 use Rattle.action_builder.specs.laws.WrittenScope.{definitions_of}
@@ -44,10 +43,10 @@ use Rattle.promise.specs.ConstantsAndStates.{AreConstants}
 use Rattle.translation.specs.laws.AcceptedAlgorithm.{IsAcceptedInFile}
 use Rattle.translation.specs.laws.LeftToProve.{extra_of}
 use Rattle.translation.proofs.InitScopes.{grows, no_limits, kept, Lacks, NoValue, Fits, scope_grows, scope_lacks, bound_grows, with_both, set_grows}
-use Rattle.translation.proofs.NamesApart.{writable, free, outer, self_no_variable, own_differs, false_among, never}
+use Rattle.translation.proofs.NamesApart.{writable, free, outer, own_differs, false_among, never}
 use Rattle.translation.proofs.NamesOfRules.{Unreserved, not_own, turned}
-use Rattle.translation.proofs.RoutinesNamed.{one_each_of, among_before, local_free}
-use Rattle.translation.proofs.VariableNames.{each_to, each_from, none_among, vars_each}
+use Rattle.translation.proofs.RoutinesNamed.{among_before, local_free}
+use Rattle.translation.proofs.VariableNames.{each_to, none_among, vars_each}
 use Rattle.action_builder.proofs.Names.{each_name}
 
 pub bound_ok : {X Y : Type 0} (o : Outcome X) (go : X → Outcome Y) (y : Y) → o >>= go ≡ Ok y → (x : X) × (o ≡ Ok x) × (go x ≡ Ok y)

@@ -1,12 +1,10 @@
 -- Without limits the walk through initial values meets no trouble but faults.
-use Rattle.std.proofs.Common.{◌≡◌, List, [], ◌∷◌, Bool, true, false, cond, bytes_eq, codes, Option, Some, None, refl, sym, ◌∙◌, ap, subst, Ok, Err}
+use Rattle.std.proofs.Common.{◌≡◌, List, [], ◌∷◌, Bool, true, false, cond, bytes_eq, codes, Option, Some, None, refl, sym, ◌∙◌, Ok, Err}
 use Rattle.tla_token.specs.declared.place.Place.{Place}
-use Rattle.tla_tree.specs.Tree.{Word, Tree}
-use Rattle.tla_value.specs.Value.{Value, Values, truth, int, text, model, set, fun, Outcome, Sense, Trouble, fault, over, ◌>>=◌, in_order, and_then}
-use Rattle.tla_value.specs.Order.{same}
-use Rattle.tla_value.specs.Stops.{plain, members_at, sense_of}
+use Rattle.tla_tree.specs.Tree.{Tree}
+use Rattle.tla_value.specs.Value.{Value, truth, int, text, model, set, fun, Outcome, Sense, Trouble, fault, over, ◌>>=◌, in_order, and_then}
+use Rattle.tla_value.specs.Stops.{plain, members_at}
 use Rattle.tla_value.specs.Strict.{applied}
-use Rattle.tla_value.specs.Meaning.{Env, just, eval}
 use Rattle.tla_value.specs.Definitions.{Valuation, or_sense, no_state}
 use Rattle.tla_value.specs.Outside.{Outside}
 use Rattle.tla_value.proofs.Joined.{Same, then_same, Checks, applications}
@@ -14,9 +12,8 @@ use Rattle.tla_value.proofs.JoinedEval.{Senses, senses_of}
 use Rattle.tla_value.proofs.JoinedScopes.{Envs, just_both, eval_in}
 use Rattle.tla_value.proofs.NeverOver.{faulty, scope_faulty}
 use Rattle.pcal_tree.specs.Algorithm.{Start, unset, equals, among, Declaration, declares, Routine, locals, procedure_routines, main_routines, Algorithm}
-use Rattle.pcal_tree.specs.Calls.{defaultInitValue}
-use Rattle.pcal_tree.specs.InitialStates.{plain_allowed, function_on, has_members, values_for, spread_allowed, globals_allowed, local_allowed, locals_allowed, is_multiprocess, procedures_allowed, running, processes_allowed, stack_allowed, pc_allowed, allowed}
-use Rattle.pcal_tree.specs.Processes.{identifiers, actors}
+use Rattle.pcal_tree.specs.InitialStates.{plain_allowed, values_for, spread_allowed, globals_allowed, local_allowed, locals_allowed, is_multiprocess, procedures_allowed, running, processes_allowed, stack_allowed, pc_allowed, allowed}
+use Rattle.pcal_tree.specs.Processes.{actors}
 use Rattle.pcal_tree.specs.Program.{Program, Actor, globals_on, global_env, local_index, written, read_at, routine_scope, global_scope}
 use Rattle.pcal_tree.specs.Programs.{program_in}
 use Rattle.pcal_tree.specs.Scope.{State, Scope, value_of}

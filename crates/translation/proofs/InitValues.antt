@@ -1,19 +1,18 @@
 -- The conjuncts of Init one by one, in an accepted algorithm's module: for a global, and for a routine's own variable of the one body, of a single process and of many
 -- processes, each is true just where the walk through the initial values allows the variable's value.
-use Rattle.std.proofs.Common.{◌≡◌, List, [], ◌∷◌, ◌++◌, Bool, true, false, cond, bytes_eq, map, Option, Some, None, inl, inr, refl, sym, ◌∙◌, ap, subst, Ok, Err}
+use Rattle.std.proofs.Common.{◌≡◌, List, [], ◌∷◌, ◌++◌, Bool, true, false, cond, bytes_eq, map, Option, Some, None, inl, inr, refl, sym, ◌∙◌, ap, subst, Ok}
 use Rattle.std.specs.List.{AllByRecursion}
 use Rattle.std.proofs.lemmas.Slice.Eq.{bytes_eq-Decides}
 use Rattle.tla_token.specs.declared.place.Place.{Place}
 use Rattle.tla_token.specs.Places.{nowhere}
 use Rattle.tla_token.specs.Signs.{is_among}
-use Rattle.tla_tree.specs.Tree.{Word, words, Each, Tree, Every, graft}
-use Rattle.tla_value.specs.Value.{Value, Values, truth, int, text, model, set, fun, Outcome, Sense, ◌>>=◌}
+use Rattle.tla_tree.specs.Tree.{Word, words, Tree, Every, graft}
+use Rattle.tla_value.specs.Value.{Value, Values, truth, int, text, model, set, fun, Sense, ◌>>=◌}
 use Rattle.tla_value.specs.Order.{same, IsAscending, IsCanonical}
 use Rattle.tla_value.specs.Stops.{plain, members_at, truth_at}
 use Rattle.tla_value.specs.Strict.{same_truth}
-use Rattle.tla_value.specs.Standard.{standard_name}
 use Rattle.tla_value.specs.Meaning.{Env, just, bind, eval}
-use Rattle.tla_value.specs.Definitions.{Valuation, Definition, no_state, or_sense, base, scope_of}
+use Rattle.tla_value.specs.Definitions.{Valuation, Definition, no_state, or_sense, base}
 use Rattle.tla_value.specs.Grafts.{read_tree}
 use Rattle.tla_value.specs.Outside.{Outside, ReadDefinition, found}
 use Rattle.tla_value.specs.laws.CanonicalNames.{Proper, Sound, TestsByValue, MeansAlike}
@@ -32,8 +31,7 @@ use Rattle.module_tree.specs.Formulas.{self, named, unset_value, function_of_sel
 use Rattle.module_tree.specs.Module.{Region}
 use Rattle.module_tree.specs.ModuleTruth.{process_set_defined, all_hold}
 use Rattle.module_tree.specs.ActionTruth.{truth_in}
-use Rattle.pcal_tree.specs.Algorithm as tree
-use Rattle.pcal_tree.specs.Algorithm.{Start, unset, equals, among, Declaration, declares, Main, alone, processes, Routine, locals, routines, Algorithm}
+use Rattle.pcal_tree.specs.Algorithm.{Start, unset, equals, among, Declaration, Main, alone, processes, Routine, locals, routines, Algorithm}
 use Rattle.pcal_tree.specs.Calls.{defaultInitValue}
 use Rattle.pcal_tree.specs.InitialStates.{function_on, has_members, values_for, plain_allowed, spread_allowed, globals_allowed, local_allowed, locals_allowed}
 use Rattle.pcal_tree.specs.BoundNames.{lists_in_start}

@@ -91,9 +91,15 @@ pub mod ProcedureStarts
 pub mod TidySteps
 pub mod FramesAccepted
 pub mod PreparedSteps
+pub mod RowsAccepted
 pub mod InitNames
 pub mod InitSets
-pub mod RowsAccepted
+pub mod ActionTrue
+pub mod ActionSets
+pub mod FairTests
+pub mod FairLabels
+pub mod FairTrue
+pub mod FairAll
 pub mod ReadyNames
 pub mod ReadyFrames
 pub mod LocalNames
@@ -116,3 +122,6 @@ pub mod KeptLabels
 pub mod KeptPrimes
 pub mod InnerSettled
 pub mod AllSettled
+pub mod InitRowsProcesses
+pub mod AgainWritten
+pub mod AgainLabels

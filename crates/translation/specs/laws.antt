@@ -15,3 +15,4 @@ pub mod StepNames
 pub mod NextLaws
 pub mod NothingPrimed
 pub mod KeptUnprimed
+pub mod ActionLaws

@@ -23,11 +23,12 @@ ghost use Rattle.pcal_tree.specs.Program.{Program, Actor};
 ghost use Rattle.pcal_tree.specs.Placeless.{placeless};
 ghost use Rattle.pcal_tree.specs.Names.{naming};
 ghost use Rattle.pcal_tree.specs.Programs.{program_in};
+ghost use Rattle.action_builder.specs.laws.Ready.{Readable};
 ghost use Rattle.tla_value.specs.Stops.{plain};
 ghost use Rattle.tla_value.specs.Definitions.{Valuation};
 ghost use Rattle.promise.specs.ConstantsAndStates.{program};
+ghost use Rattle.translation.specs.laws.LeftToProve.{extra_of, Stance, may_bind, callable_for, NamesApartLaw, NamesGivenLaw, PreparedLaw, PairsLaw, ReadyLaw, ActionLaw, NextOfRegionLaw, InitOfRegionLaw, RegionPlaced, PromiseKept};
 ghost use Rattle.promise.specs.NextAndInit.{InitIs};
-ghost use Rattle.translation.specs.laws.LeftToProve.{extra_of, Stance, may_bind, callable_for, NamesApartLaw, NamesGivenLaw, PreparedLaw, PairsLaw, ReadyLaw, NextOfRegionLaw, InitOfRegionLaw, RegionPlaced, PromiseKept};
 ghost use Rattle.pcal_tree.specs.Variables.{declared, vars};
 ghost use Rattle.pcal_tree.specs.Labelled.{labelled};
 ghost use Rattle.module_tree.specs.Around.{Around};
@@ -44,6 +45,7 @@ ghost use Rattle.action_builder.specs.laws.Settling.{Callable};
 ghost use Rattle.action_builder.specs.laws.LabelSteps.{IsReady, action_of};
 ghost use Rattle.action_builder.specs.laws.StepsOfLabels.{step_of, pair_env, PcStands};
 ghost use Rattle.translation.specs.laws.ActionNames.{action_names};
+ghost use Rattle.translation.specs.laws.ActionLaws.{FairnessLaw, ProcessSetLaw, TerminationLaw, AgainLaw, FileAgainLaw};
 ghost use Rattle.translation.specs.laws.Steps.{written_step};
 ghost use Rattle.module_tree.specs.laws.Kept.{IsFine};
 ghost use Rattle.module_tree.specs.laws.Outsides.{HasOutside, SameOutside};
@@ -244,4 +246,26 @@ pub fn every_accepted_text_keeps_the_promise()
     ensures some { (options : Options) (x : Text) → AnswersChecking options.label x None → (w : Text) × WrittenWhole options x w }
     ensures one { (options : Options) (x v w : Text) → WrittenWhole options x v → WrittenWhole options x w → v ≡ w }
     ensures promise { (options : Options) (x w : Text) → AnswersChecking options.label x None → length x < past_text → WrittenWhole options x w → Headline options x w }
+{}
+
+/// Where items can be written for each step, the action of each label of an accepted algorithm, called by a process that may run its routine, is true of two states exactly where
+/// the process steps from that label to the second, from sound states; so an action that stands in a formula of fairness is the step that it is to be. And of each formula of fairness
+/// of a process the test and then the action are true exactly of the process's steps from the labels of the formula's obligation.
+pub fn actions_are_true_of_the_steps_from_their_labels()
+    ensures actions { (U : Algorithm → Readable) → ReadyLaw IsAcceptedInFile U → ActionLaw IsAcceptedInFile }
+    ensures fairness { (U : Algorithm → Readable) → ReadyLaw IsAcceptedInFile U → FairnessLaw IsAcceptedInFile }
+{}
+
+/// In the module of an accepted algorithm ProcSet has just the identifiers of the processes, and the test of Termination is true of a sound state exactly where
+/// all processes are done; else it is false, and never a fault.
+pub fn process_set_and_termination_are_of_all_processes()
+    ensures set { ProcessSetLaw IsAcceptedInFile }
+    ensures ended { TerminationLaw IsAcceptedInFile }
+{}
+
+/// Translating again changes nothing: of an algorithm that is the accepted one but for places, as that in the translated file is, beside what that file has outside, the same
+/// is written, and where it is put in again, the file stays as it is. So a translated file to whose algorithm no labels are added is translated to itself.
+pub fn translating_again_changes_nothing()
+    ensures alike { AgainLaw }
+    ensures files { FileAgainLaw }
 {}
