@@ -23,7 +23,7 @@ ghost use Rattle.pcal_tree.specs.Program.{Program, Actor};
 ghost use Rattle.pcal_tree.specs.Placeless.{placeless};
 ghost use Rattle.pcal_tree.specs.Names.{naming};
 ghost use Rattle.pcal_tree.specs.Programs.{program_in};
-ghost use Rattle.action_builder.specs.laws.Ready.{Readable};
+ghost use Rattle.action_builder.specs.laws.Ready.{};
 ghost use Rattle.tla_value.specs.Stops.{plain};
 ghost use Rattle.tla_value.specs.Definitions.{Valuation};
 ghost use Rattle.promise.specs.ConstantsAndStates.{program};
@@ -248,12 +248,12 @@ pub fn every_accepted_text_keeps_the_promise()
     ensures promise { (options : Options) (x w : Text) → AnswersChecking options.label x None → length x < past_text → WrittenWhole options x w → Headline options x w }
 {}
 
-/// Where items can be written for each step, the action of each label of an accepted algorithm, called by a process that may run its routine, is true of two states exactly where
+/// The action of each label of an accepted algorithm, called by a process that may run its routine, is true of two states exactly where
 /// the process steps from that label to the second, from sound states; so an action that stands in a formula of fairness is the step that it is to be. And of each formula of fairness
 /// of a process the test and then the action are true exactly of the process's steps from the labels of the formula's obligation.
 pub fn actions_are_true_of_the_steps_from_their_labels()
-    ensures actions { (U : Algorithm → Readable) → ReadyLaw IsAcceptedInFile U → ActionLaw IsAcceptedInFile }
-    ensures fairness { (U : Algorithm → Readable) → ReadyLaw IsAcceptedInFile U → FairnessLaw IsAcceptedInFile }
+    ensures actions { ActionLaw IsAcceptedInFile }
+    ensures fairness { FairnessLaw IsAcceptedInFile }
 {}
 
 /// In the module of an accepted algorithm ProcSet has just the identifiers of the processes, and the test of Termination is true of a sound state exactly where
