@@ -38,7 +38,7 @@ use Rattle.action_builder.proofs.ProcSetIs.{AreSets, held_in, process_set_is}
 use Rattle.promise.specs.ConstantsAndStates.{AreConstants}
 use Rattle.translation.specs.Region.{region_of}
 use Rattle.translation.specs.laws.AcceptedAlgorithm.{IsAcceptedInFile}
-use Rattle.translation.specs.laws.LeftToProve.{extra_of}
+use Rattle.translation.specs.laws.AcceptedLaws.{extra_of}
 use Rattle.translation.proofs.FramesAccepted.{pc_among}
 use Rattle.translation.proofs.InitScopes.{grows, NoValue, scope_grows, scope_lacks, with_both, set_grows, Lacks}
 use Rattle.translation.proofs.InitSets.{G, Gives, identity_gives, identity_canonical, value_grows, all_parts, ids_both, running_all, process_set_gives}

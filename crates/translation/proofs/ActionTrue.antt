@@ -35,7 +35,7 @@ use Rattle.action_builder.specs.laws.WrittenScope.{definitions_of}
 use Rattle.promise.specs.ConstantsAndStates.{AreConstants, IsState}
 use Rattle.translation.specs.Region.{region_of}
 use Rattle.translation.specs.laws.AcceptedAlgorithm.{IsAcceptedInFile}
-use Rattle.translation.specs.laws.LeftToProve.{extra_of, Stance, PreparedLaw, ReadyLaw, ActionLaw}
+use Rattle.translation.specs.laws.AcceptedLaws.{extra_of, Stance, PreparedLaw, ReadyLaw, ActionLaw}
 use Rattle.translation.proofs.NamesApart.{self_some, self_none}
 use Rattle.translation.proofs.NextFound.{FindsLabels, within_flat, within_first, within_last, one_mapped, labels_found, labels_of_own}
 use Rattle.translation.proofs.NextOfRegion.{SingleClearLaw}

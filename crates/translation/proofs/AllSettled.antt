@@ -30,7 +30,7 @@ use Rattle.action_builder.specs.laws.Ready.{IsWithin}
 use Rattle.action_builder.specs.laws.WrittenScope.{AllRead, Common, titles}
 use Rattle.translation.specs.laws.AcceptedAlgorithm.{IsAcceptedInFile}
 use Rattle.translation.specs.laws.FreshReads.{readable}
-use Rattle.translation.specs.laws.LeftToProve.{extra_of}
+use Rattle.translation.specs.laws.AcceptedLaws.{extra_of}
 use Rattle.translation.proofs.AcceptedNames.{no_offence}
 use Rattle.translation.proofs.BoundOf.{BindsAll, tree_bound, in_both}
 use Rattle.translation.proofs.MacrosSound.{typed}

@@ -36,7 +36,7 @@ use Rattle.promise.specs.ConstantsAndStates.{AreConstants, IsState}
 use Rattle.translation.specs.Region.{region_of}
 use Rattle.translation.specs.laws.AcceptedAlgorithm.{IsAcceptedInFile}
 use Rattle.translation.specs.laws.ActionLaws.{guard_holds, env_over, StepsFromNames, Told}
-use Rattle.translation.specs.laws.LeftToProve.{PreparedLaw, ReadyLaw}
+use Rattle.translation.specs.laws.AcceptedLaws.{PreparedLaw, ReadyLaw}
 use Rattle.translation.proofs.FairLabels.{strong_is_label}
 use Rattle.translation.proofs.FairTrue.{routine_line, label_line}
 use Rattle.translation.proofs.NextOfRegion.{SingleClearLaw}

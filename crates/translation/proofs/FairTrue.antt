@@ -50,7 +50,7 @@ use Rattle.promise.specs.ConstantsAndStates.{AreConstants, IsState}
 use Rattle.translation.specs.Region.{region_of}
 use Rattle.translation.specs.laws.AcceptedAlgorithm.{IsAcceptedInFile}
 use Rattle.translation.specs.laws.ActionLaws.{guard_holds}
-use Rattle.translation.specs.laws.LeftToProve.{extra_of, PreparedLaw, ReadyLaw}
+use Rattle.translation.specs.laws.AcceptedLaws.{extra_of, PreparedLaw, ReadyLaw}
 use Rattle.translation.proofs.ActionSets.{own_untitled}
 use Rattle.translation.proofs.ActionTrue.{procedure_runs, process_runs}
 use Rattle.translation.proofs.FairTests.{among_texts, held_from, held_to, guard_true, pc_at, shared_one, shared_first, shared_apart}

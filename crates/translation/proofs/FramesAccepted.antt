@@ -38,7 +38,7 @@ use Rattle.action_builder.specs.laws.StepsOfLabels.{PcStands}
 use Rattle.action_builder.specs.laws.WrittenScope.{self_bound, definitions_of, written_scope}
 use Rattle.action_builder.proofs.RoutinesStand.{FramesStand}
 use Rattle.translation.specs.laws.AcceptedAlgorithm.{IsAcceptedInFile}
-use Rattle.translation.specs.laws.LeftToProve.{extra_of, may_bind}
+use Rattle.translation.specs.laws.AcceptedLaws.{extra_of, may_bind}
 use Rattle.translation.proofs.NamesApart.{IsNamed, self_none, self_some, writable, free, never, own_differs, false_among, extra_untitled_by, untitled_mapped, untitled_joined}
 use Rattle.translation.proofs.NamesOfRules.{Unreserved, not_own, turned}
 use Rattle.translation.proofs.RoutinesNamed.{one_each_of, among_later, among_before, local_free}

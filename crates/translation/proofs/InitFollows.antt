@@ -33,7 +33,7 @@ use Rattle.action_builder.specs.InitialFormulas.{start_by}
 use Rattle.pcal_tree.specs.Program.{written}
 use Rattle.promise.specs.ConstantsAndStates.{AreConstants, IsState}
 use Rattle.translation.specs.laws.AcceptedAlgorithm.{IsAcceptedInFile}
-use Rattle.translation.specs.laws.LeftToProve.{extra_of}
+use Rattle.translation.specs.laws.AcceptedLaws.{extra_of}
 use Rattle.translation.proofs.InitLabels.{in_sorted, one_holds, lone_pc, lone_stack, all_pc, all_stack}
 use Rattle.translation.proofs.InitNames.{StartFine, identity_used, all_fine}
 use Rattle.translation.proofs.InitSets.{all_parts, P, E, all_grow, Gives, identity_gives, identity_canonical, value_grows, Running, running_all, process_set_gives}

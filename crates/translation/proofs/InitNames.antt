@@ -40,7 +40,7 @@ use Rattle.action_builder.specs.WrittenNames.{renames, renamed}
 use Rattle.action_builder.specs.laws.WrittenScope.{common, Common, Seen}
 use Rattle.action_builder.proofs.WrittenStarts.{IsNamed}
 use Rattle.translation.specs.laws.AcceptedAlgorithm.{IsAcceptedInFile}
-use Rattle.translation.specs.laws.LeftToProve.{extra_of}
+use Rattle.translation.specs.laws.AcceptedLaws.{extra_of}
 use Rattle.translation.proofs.BoundOf.{AllIn, BindsAll, in_both, body_bound}
 use Rattle.translation.proofs.MacrosSound.{in_named, in_rest, InScope, seen_in_scope}
 use Rattle.translation.proofs.NamedBodies.{among_one}

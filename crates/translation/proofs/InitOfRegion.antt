@@ -28,7 +28,7 @@ use Rattle.action_builder.specs.WrittenNames.{with_names, renamed}
 use Rattle.promise.specs.ConstantsAndStates.{AreConstants, IsState}
 use Rattle.translation.specs.Region.{region_of}
 use Rattle.translation.specs.laws.AcceptedAlgorithm.{IsAcceptedInFile}
-use Rattle.translation.specs.laws.LeftToProve.{InitOfRegionLaw}
+use Rattle.translation.specs.laws.AcceptedLaws.{InitOfRegionLaw}
 use Rattle.translation.proofs.InitFollows.{init_follows}
 use Rattle.translation.proofs.InitSets.{E}
 use Rattle.translation.proofs.InitTroubles.{allowed_in_limits}

@@ -41,7 +41,7 @@ use Rattle.action_builder.specs.laws.WrittenScope.{definitions_of}
 use Rattle.action_builder.proofs.ProcSetIs.{AreSets, held_in, process_set_is}
 use Rattle.promise.specs.ConstantsAndStates.{AreConstants}
 use Rattle.translation.specs.laws.AcceptedAlgorithm.{IsAcceptedInFile}
-use Rattle.translation.specs.laws.LeftToProve.{extra_of}
+use Rattle.translation.specs.laws.AcceptedLaws.{extra_of}
 use Rattle.translation.proofs.InitScopes.{grows, no_limits, kept, Lacks, NoValue, Fits, scope_grows, scope_lacks, bound_grows, with_both, set_grows}
 use Rattle.translation.proofs.NamesApart.{writable, free, outer, own_differs, false_among, never}
 use Rattle.translation.proofs.NamesOfRules.{Unreserved, not_own, turned}

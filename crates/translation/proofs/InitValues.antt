@@ -53,7 +53,7 @@ use Rattle.action_builder.proofs.SpreadStarts.{at_each_self, function_is, equal_
 use Rattle.action_builder.proofs.WrittenStarts.{IsNamed, written_expression, Follows, follows_and}
 use Rattle.promise.specs.ConstantsAndStates.{AreConstants, IsState}
 use Rattle.translation.specs.laws.AcceptedAlgorithm.{IsAcceptedInFile}
-use Rattle.translation.specs.laws.LeftToProve.{extra_of}
+use Rattle.translation.specs.laws.AcceptedLaws.{extra_of}
 use Rattle.translation.proofs.InitNames.{Bound, sight_of, standings_of, StartFine, is_named, put_clear}
 use Rattle.translation.proofs.BoundOf.{AllIn}
 use Rattle.translation.proofs.InitScopes.{grows, no_limits, kept}

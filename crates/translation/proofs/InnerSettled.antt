@@ -44,7 +44,7 @@ use Rattle.action_builder.specs.laws.WrittenScope.{AllRead, Common, titles}
 use Rattle.action_builder.proofs.FitWritten.{among_each}
 use Rattle.translation.specs.laws.AcceptedAlgorithm.{IsAcceptedInFile}
 use Rattle.translation.specs.laws.FreshReads.{readable}
-use Rattle.translation.specs.laws.LeftToProve.{extra_of}
+use Rattle.translation.specs.laws.AcceptedLaws.{extra_of}
 use Rattle.translation.specs.laws.TypedAlgorithm.{IsTypedDefinition}
 use Rattle.translation.proofs.AcceptedNames.{no_offence, apart_from}
 use Rattle.translation.proofs.BoundOf.{BindsAll, tree_bound, in_flat, in_both}

@@ -41,7 +41,7 @@ use Rattle.action_builder.specs.laws.StepsOfLabels.{AllUnprimed}
 use Rattle.module_tree.specs.ModuleTruth.{process_set_defined}
 use Rattle.translation.specs.laws.AcceptedAlgorithm.{IsAcceptedInFile}
 use Rattle.translation.specs.laws.KeptUnprimed.{Unprimed, AreUnprimed, SidesUnprimed, BindsUnprimed, OneUnprimed, BodyUnprimed, SomeUnprimed, MacroUnprimed, InitialUnprimed, DeclaredUnprimed, ProcedureUnprimed, ProcessUnprimed, MainUnprimed, AlgorithmUnprimed}
-use Rattle.translation.specs.laws.LeftToProve.{extra_of}
+use Rattle.translation.specs.laws.AcceptedLaws.{extra_of}
 use Rattle.translation.specs.laws.NothingPrimed.{NonePrimed, StartUnprimed, NothingPrimed}
 use Rattle.translation.proofs.FromLabels.{Passes, from_label, NoneAgain, again_pass}
 use Rattle.translation.proofs.KeptLabels.{Puts, put_in_body, expand_unprimed, labelled_unprimed}

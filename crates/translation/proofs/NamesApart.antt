@@ -41,7 +41,7 @@ use Rattle.action_builder.specs.laws.Scopes.{own_path}
 use Rattle.action_builder.specs.laws.WrittenScope.{definitions_of, titles, Common, Aside, AllRead, NamesApart}
 use Rattle.action_builder.proofs.Names.{each_name}
 use Rattle.translation.specs.laws.AcceptedAlgorithm.{IsAcceptedInFile}
-use Rattle.translation.specs.laws.LeftToProve.{extra_of, NamesApartLaw}
+use Rattle.translation.specs.laws.AcceptedLaws.{extra_of, NamesApartLaw}
 use Rattle.translation.specs.laws.WritableAlgorithm.{IsWritableAlgorithm}
 use Rattle.translation.proofs.AcceptedAlgorithms.{text_writable}
 use Rattle.translation.proofs.NamedBodies.{among_one}

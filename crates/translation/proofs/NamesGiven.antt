@@ -39,7 +39,7 @@ use Rattle.action_builder.specs.WrittenNames.{renames}
 use Rattle.action_builder.specs.laws.StepsOfLabels.{NamesGiven}
 use Rattle.action_builder.specs.laws.WrittenScope.{titles, common, Common, Seen}
 use Rattle.translation.specs.laws.AcceptedAlgorithm.{IsAcceptedInFile}
-use Rattle.translation.specs.laws.LeftToProve.{extra_of, NamesGivenLaw}
+use Rattle.translation.specs.laws.AcceptedLaws.{extra_of, NamesGivenLaw}
 use Rattle.translation.proofs.BoundOf.{AllIn, BindsAll, in_both, body_bound, withs_in, macros_in}
 use Rattle.translation.proofs.FromLabels.{from_label, calls_pass, bound_pass, More, NoneAgain, again_pass, UsedIn, used_pass}
 use Rattle.translation.proofs.MacrosSound.{macros_bound, macros_sound, in_named, InScope, seen_in_scope, kept_of}

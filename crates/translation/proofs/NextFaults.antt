@@ -52,7 +52,7 @@ use Rattle.action_builder.proofs.StepsOfLabels.{outcome_is}
 use Rattle.promise.specs.ConstantsAndStates.{AreConstants, IsState}
 use Rattle.translation.specs.Region.{region_of}
 use Rattle.translation.specs.laws.AcceptedAlgorithm.{IsAcceptedInFile}
-use Rattle.translation.specs.laws.LeftToProve.{extra_of, may_bind, callable_for, Stance}
+use Rattle.translation.specs.laws.AcceptedLaws.{extra_of, may_bind, callable_for, Stance}
 use Rattle.translation.specs.laws.WritableAlgorithm.{IsLabelled}
 use Rattle.translation.proofs.FramesAccepted.{pc_path}
 use Rattle.translation.proofs.NamesApart.{writable, self_some, self_none, names_apart_law}

@@ -38,7 +38,7 @@ use Rattle.action_builder.specs.laws.WrittenScope.{self_bound, definitions_of}
 use Rattle.action_builder.proofs.ActionsOfLabels.{label_true}
 use Rattle.action_builder.proofs.SingleProcess.{meant_law}
 use Rattle.translation.specs.laws.AcceptedAlgorithm.{IsAcceptedInFile}
-use Rattle.translation.specs.laws.LeftToProve.{extra_of, may_bind, callable_for, Stance, PreparedLaw}
+use Rattle.translation.specs.laws.AcceptedLaws.{extra_of, may_bind, callable_for, Stance, PreparedLaw}
 use Rattle.translation.proofs.FramesAccepted.{pc_among, pc_path}
 use Rattle.translation.proofs.NamesApart.{names_apart_law}
 use Rattle.translation.proofs.NamesGiven.{names_given_law}

@@ -9,7 +9,7 @@ use Rattle.pcal_tree.specs.Processes.{OneOf}
 use Rattle.pcal_tree.specs.Takers.{each_of, single, lone, Taken, taken_main}
 use Rattle.action_builder.specs.laws.Ready.{Readable}
 use Rattle.translation.specs.laws.AcceptedAlgorithm.{IsAcceptedInFile}
-use Rattle.translation.specs.laws.LeftToProve.{ReadyLaw, NextOfRegionLaw, PromiseKept}
+use Rattle.translation.specs.laws.AcceptedLaws.{ReadyLaw, NextOfRegionLaw, PromiseKept}
 use Rattle.translation.specs.laws.NextLaws.{AllSets, SetFaultsAgree}
 use Rattle.translation.specs.laws.FreshReads.{readable}
 use Rattle.translation.proofs.InitOfRegion.{init_of_region_law}

@@ -33,7 +33,7 @@ use Rattle.promise.specs.ConstantsAndStates.{AreConstants, IsState}
 use Rattle.promise.specs.NextAndInit.{Moves}
 use Rattle.translation.specs.Region.{region_of}
 use Rattle.translation.specs.laws.AcceptedAlgorithm.{IsAcceptedInFile}
-use Rattle.translation.specs.laws.LeftToProve.{extra_of, PreparedLaw, ReadyLaw, NextOfRegionLaw}
+use Rattle.translation.specs.laws.AcceptedLaws.{extra_of, PreparedLaw, ReadyLaw, NextOfRegionLaw}
 use Rattle.translation.proofs.NamesApart.{self_some, self_none}
 use Rattle.translation.proofs.NextHolds.{ways_of, AllTrue, next_true}
 use Rattle.translation.proofs.NextLabels.{ReadyHere, pc_read, named_true, lone_true, single_true}

@@ -23,7 +23,7 @@ use Rattle.action_builder.specs.NextFormula.{ended}
 use Rattle.action_builder.specs.laws.Ready.{values_of}
 use Rattle.action_builder.specs.laws.WrittenScope.{definitions_of}
 use Rattle.translation.specs.laws.AcceptedAlgorithm.{IsAcceptedInFile}
-use Rattle.translation.specs.laws.LeftToProve.{extra_of}
+use Rattle.translation.specs.laws.AcceptedLaws.{extra_of}
 use Rattle.translation.proofs.FramesAccepted.{pc_among}
 use Rattle.translation.proofs.NamesApart.{free, own_differs, extra_untitled_by, untitled_mapped, untitled_joined}
 use Rattle.translation.proofs.NamesOfRules.{not_own, turned}

@@ -29,7 +29,7 @@ use Rattle.action_builder.specs.laws.Ready.{values_of}
 use Rattle.action_builder.specs.laws.WrittenScope.{definitions_of}
 use Rattle.promise.specs.ConstantsAndStates.{AreConstants, IsState}
 use Rattle.translation.specs.laws.AcceptedAlgorithm.{IsAcceptedInFile}
-use Rattle.translation.specs.laws.LeftToProve.{extra_of}
+use Rattle.translation.specs.laws.AcceptedLaws.{extra_of}
 use Rattle.translation.proofs.InitScopes.{grows, no_limits, kept, lacks_grows}
 use Rattle.translation.proofs.InitSets.{G, E, Gives, identity_gives, identity_canonical, value_grows, all_grow, Running, running_all, process_set_gives}
 use Rattle.translation.proofs.NamedBodies.{among_one}

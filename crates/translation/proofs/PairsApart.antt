@@ -38,7 +38,7 @@ use Rattle.pcal_tree.proofs.RoutineNames.{one_each}
 use Rattle.pcal_tree.proofs.TroubleLaws.{one_left}
 use Rattle.action_builder.specs.laws.Jumps.{AllUnlike, RestOnEarlier, Unread, PairStands}
 use Rattle.translation.specs.laws.AcceptedAlgorithm.{IsAcceptedInFile}
-use Rattle.translation.specs.laws.LeftToProve.{PairsLaw}
+use Rattle.translation.specs.laws.AcceptedLaws.{PairsLaw}
 use Rattle.translation.specs.laws.WritableAlgorithm.{IsWritableStart, IsWritableDeclaration, IsWritableAlgorithm}
 use Rattle.translation.proofs.AcceptedAlgorithms.{text_writable}
 use Rattle.translation.proofs.AcceptedNames.{each_none, no_offence, after, before, words_declared}

@@ -56,7 +56,7 @@ use Rattle.action_builder.proofs.FitTrees.{grafts_fit, writable_all_fit}
 use Rattle.action_builder.proofs.RoutinesStand.{StartFits, StartsFit, routines_stand, jumps_alone}
 use Rattle.action_builder.proofs.Rules.{rules_do_pairs}
 use Rattle.translation.specs.laws.AcceptedAlgorithm.{IsAcceptedInFile}
-use Rattle.translation.specs.laws.LeftToProve.{extra_of, callable_of, callable_for, PreparedLaw}
+use Rattle.translation.specs.laws.AcceptedLaws.{extra_of, callable_of, callable_for, PreparedLaw}
 use Rattle.translation.specs.laws.WritableAlgorithm.{IsWritableStart, is_procedure, is_variable}
 use Rattle.translation.proofs.AcceptedNames.{each_none}
 use Rattle.translation.proofs.BoundOf.{AllIn, BindsAll, in_both, in_flat, tree_bound, body_bound, withs_in}

@@ -22,7 +22,7 @@ use Rattle.promise.specs.ConstantsAndStates.{program, AreConstants, IsState}
 use Rattle.promise.specs.NextAndInit.{Moves, NextIs, InitIs}
 use Rattle.pcal_tree.specs.Programs.{program_in}
 use Rattle.translation.specs.Region.{region_of, written_region}
-use Rattle.translation.specs.laws.LeftToProve.{NextOfRegionLaw, InitOfRegionLaw, RegionPlaced, PromiseKept}
+use Rattle.translation.specs.laws.AcceptedLaws.{NextOfRegionLaw, InitOfRegionLaw, RegionPlaced, PromiseKept}
 use Rattle.module_tree.proofs.Tells.{tells_placeless}
 use Rattle.module_tree.proofs.ModulePlaces.{truth_but_places}
 use Rattle.translation.proofs.SameProgram.{same_program}

@@ -22,7 +22,7 @@ use Rattle.action_builder.specs.laws.StepsOfLabels.{step_of, pair_env}
 use Rattle.action_builder.specs.laws.WrittenScope.{definitions_of}
 use Rattle.translation.specs.laws.AcceptedAlgorithm.{IsAcceptedInFile}
 use Rattle.translation.specs.laws.FreshReads.{readable}
-use Rattle.translation.specs.laws.LeftToProve.{extra_of, Stance, may_bind, callable_for, ReadyLaw}
+use Rattle.translation.specs.laws.AcceptedLaws.{extra_of, Stance, may_bind, callable_for, ReadyLaw}
 use Rattle.translation.specs.laws.NothingPrimed.{NothingPrimed}
 use Rattle.translation.proofs.AllSettled.{all_settled}
 use Rattle.translation.proofs.BegunSteps.{IsRoutine}

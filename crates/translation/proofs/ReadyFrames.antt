@@ -33,7 +33,7 @@ use Rattle.action_builder.specs.Written.{old_stack}
 use Rattle.action_builder.specs.laws.WrittenScope.{NamesApart}
 use Rattle.translation.specs.laws.AcceptedAlgorithm.{IsAcceptedInFile}
 use Rattle.translation.specs.laws.FreshReads.{Plain}
-use Rattle.translation.specs.laws.LeftToProve.{extra_of}
+use Rattle.translation.specs.laws.AcceptedLaws.{extra_of}
 use Rattle.translation.specs.laws.NothingPrimed.{NonePrimed, StartUnprimed}
 use Rattle.translation.specs.laws.StepNames.{name_of, Unused, StartReads, Called, Frames}
 use Rattle.translation.specs.laws.TypedAlgorithm.{IsTypedDefinition}

@@ -20,7 +20,7 @@ use Rattle.pcal_tree.specs.Variables.{vars, declared, pc, stack}
 use Rattle.action_builder.specs.Written.{old_stack}
 use Rattle.action_builder.specs.laws.WrittenScope.{NamesApart}
 use Rattle.translation.specs.laws.AcceptedAlgorithm.{IsAcceptedInFile}
-use Rattle.translation.specs.laws.LeftToProve.{extra_of}
+use Rattle.translation.specs.laws.AcceptedLaws.{extra_of}
 use Rattle.translation.specs.laws.StepNames.{name_of, Unused, StepNames, Unlikes}
 use Rattle.translation.specs.laws.WritableAlgorithm.{is_variable}
 use Rattle.translation.proofs.FramesAccepted.{pc_among}

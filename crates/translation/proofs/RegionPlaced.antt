@@ -27,7 +27,7 @@ use Rattle.fairness.specs.Demands.{Demand, all_steps, routine_steps, label_steps
 use Rattle.fairness.specs.Obligations.{written_labels}
 use Rattle.fairness.specs.FairnessLines.{identifier_of, over_of, action_call, guard_of, line_of, fairness_lines}
 use Rattle.translation.specs.Region.{region_of}
-use Rattle.translation.specs.laws.LeftToProve.{RegionPlaced}
+use Rattle.translation.specs.laws.AcceptedLaws.{RegionPlaced}
 use Rattle.translation.proofs.NoPlaces.{naming_bare, first_process_bare}
 use Rattle.translation.proofs.PlacelessJumps.{routine_placeless, takers_placeless, taken_placeless, taken_one, routines_bare, Q, vars_bare}
 use Rattle.translation.proofs.PlacelessUnits.{flat_bare, each_bare, each_same, call_bare, process_set_bare, done_bare, ended_bare, definitions_bare, model_bare, all_actions_bare, next_bare, init_bare}

@@ -28,7 +28,7 @@ use Rattle.action_builder.specs.laws.Jumps.{PairsStand}
 use Rattle.action_builder.specs.laws.LabelSteps.{IsPrepared}
 use Rattle.action_builder.specs.laws.StepsOfLabels.{step_of}
 use Rattle.translation.specs.laws.AcceptedAlgorithm.{IsAcceptedInFile}
-use Rattle.translation.specs.laws.LeftToProve.{extra_of, Stance, may_bind, callable_for}
+use Rattle.translation.specs.laws.AcceptedLaws.{extra_of, Stance, may_bind, callable_for}
 use Rattle.translation.proofs.PairsApart.{pairs_law}
 use Rattle.translation.proofs.PreparedSteps.{prepared_law}
 use Rattle.translation.proofs.RowsProcedures as procedures

@@ -7,7 +7,7 @@ pub mod TypedAlgorithm
 pub mod AcceptedAlgorithm
 pub mod JumpsEnd
 pub mod StepsOnce
-pub mod LeftToProve
+pub mod AcceptedLaws
 pub mod PlacedStatements
 pub mod StepParts
 pub mod FreshReads

@@ -1,5 +1,5 @@
--- What is left of the promise for every algorithm, as statements: each is the type that a law would have. `Accepted o g` stands for what is known of an algorithm of a
--- text with its labels added, in a file that has o outside (`IsAcceptedInFile`).
+-- The laws of accepted algorithms on which the promise rests, as statements. `Accepted o g` stands for what is known of an algorithm of a text with its labels added, in
+-- a file that has o outside (`IsAcceptedInFile`). Of these `FaultsAgree` is proved where all processes are of sets (`SetFaultsAgree`); each other is the type of a law.
 use Rattle.std.specs.Prelude.{codes, ◌≡◌, ◌↔◌, List, [], ◌∷◌, Bool, ◌||◌, ◌&&◌, not, bytes_eq, cond, Some, None}
 use Rattle.tla_token.specs.Signs.{is_among}
 use Rattle.tla_tree.specs.Tree.{Word}
