@@ -128,3 +128,4 @@ pub mod AgainLabels
 pub mod CanonicalTold
 pub mod CanonicalRuns
 pub mod CanonicalFaults
+pub mod CanonicalSteps

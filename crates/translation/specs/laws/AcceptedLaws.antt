@@ -1,5 +1,5 @@
 -- The laws of accepted algorithms on which the promise rests, as statements. `Accepted o g` stands for what is known of an algorithm of a text with its labels added, in
--- a file that has o outside (`IsAcceptedInFile`). Of these `FaultsAgree` is proved where all processes are of sets (`SetFaultsAgree`); each other is the type of a law.
+-- a file that has o outside (`IsAcceptedInFile`). Each is the type of a law.
 use Rattle.std.specs.Prelude.{codes, ◌≡◌, ◌↔◌, List, [], ◌∷◌, Bool, ◌||◌, ◌&&◌, not, bytes_eq, cond, Some, None}
 use Rattle.tla_token.specs.Signs.{is_among}
 use Rattle.tla_tree.specs.Tree.{Word}
@@ -97,12 +97,12 @@ module _ (Accepted : Words) where
   abbrev pub PromiseKept : Type 0
   PromiseKept = (b : Bool) (o : Outside) (g : Algorithm) (m : Module) → Accepted o g → SameOutside o m.outside → region_placeless m.region ≡ region_placeless (written_region b o g) → NextIs b g m × InitIs g m
 
-  -- something is faulty from a state exactly if Next is a fault for some second state; that its values are in canonical order needs a word more on the values of a step
+  -- some process is in trouble in a state exactly if Next is a fault for some second state
   abbrev pub FaultsAgree : Type 0
   FaultsAgree = (b : Bool) (title : Word) (o : Outside) (g : Algorithm) → Accepted o g → (values : Valuation) (s : State)
       → (let m : Module = record { title = title; outside = o; region = region_of b (with_names o g) } in let P = program g m values in
       AreConstants m values → IsState P s → Proper P
-      → (((v : Actor) × (k : Trouble) × IsActor P v × Troubled P s v k) ↔ ((t : State) × IsBad (next_holds plain m values (on_variables P s) (on_variables P t)))))
+      → (((v : Actor) × (k : Trouble) × IsActor P v × Troubled P s v k) ↔ ((t : State) × IsState P t × IsBad (next_holds plain m values (on_variables P s) (on_variables P t)))))
 
   -- an action that stands in a formula of fairness, for each process that takes it
   abbrev pub ActionLaw : Type 0
