@@ -1,5 +1,5 @@
 -- Where the written action is a fault for some later state, it is one for a later state whose variables have canonical values.
-use Rattle.std.proofs.Common.{◌≡◌, List, [], ◌∷◌, ◌++◌, Bool, true, false, cond, ◌||◌, refl, sym, ap, ◌∙◌, subst, ⊎_elim, Ok, Err}
+use Rattle.std.proofs.Common.{◌≡◌, ◌↔◌, List, [], ◌∷◌, ◌++◌, Bool, true, false, cond, ◌||◌, refl, sym, ap, ◌∙◌, subst, ⊎_elim, Ok, Err}
 use Rattle.std.proofs.lemmas.Bool.{cases_Bool, or_left, or_right}
 use Rattle.tla_token.specs.Signs.{is_among}
 use Rattle.tla_tree.specs.Tree.{Word}
@@ -9,6 +9,7 @@ use Rattle.tla_value.specs.OrderLaws.{same_is}
 use Rattle.tla_value.specs.Stops.{plain}
 use Rattle.tla_value.specs.Meaning.{Env}
 use Rattle.tla_value.specs.laws.CanonicalNames.{Has}
+use Rattle.tla_value.specs.laws.Places.{AgreeButPlaces}
 use Rattle.tla_value.proofs.Canonical.{IsSet}
 use Rattle.module_tree.specs.ActionTruth.{Verdict}
 use Rattle.pcal_tree.specs.Scope.{State, Scope, bound}
@@ -55,6 +56,13 @@ or_bad : (v w : Verdict) (Z : Type 0) → IsBad (or_all v w) → (IsBad v → Z)
 or_bad (Ok a) (Ok b) Z h f g = absurd h
 or_bad (Ok a) (Err k) Z h f g = g tt
 or_bad (Err k) w Z h f g = f tt
+
+-- the same but for places: both are a fault, or neither is
+pub bad_alike : (v w : Verdict) → AgreeButPlaces v w → IsBad v ↔ IsBad w
+bad_alike (Ok a) (Ok b) h = (λ i. i, λ i. i)
+bad_alike (Ok a) (Err k) h = absurd h
+bad_alike (Err j) (Ok b) h = absurd h
+bad_alike (Err j) (Err k) h = (λ i. i, λ i. i)
 
 -- a branch faults only where its items do, as what it leaves unchanged never does
 ended_bad : (is : Items) (xs : List Word) (c : Scope) (s t : State) → IsBad (hold (ended is (unchanged xs)) c s t) → IsBad (hold is c s t)

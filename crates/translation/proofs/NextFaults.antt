@@ -15,7 +15,6 @@ use Rattle.tla_value.specs.Strict.{applied, strict_value}
 use Rattle.tla_value.specs.Meaning.{Env, just, bind, eval}
 use Rattle.tla_value.specs.Grafts.{own_part}
 use Rattle.tla_value.specs.Definitions.{Valuation, scope_of}
-use Rattle.tla_value.specs.laws.Places.{AgreeButPlaces}
 use Rattle.tla_value.proofs.CanonicalTests.{value_kept, means_its_value}
 use Rattle.tla_value.proofs.Outcomes.{ok_is}
 use Rattle.module_tree.specs.Formulas.{self, named}
@@ -55,7 +54,7 @@ use Rattle.translation.specs.Region.{region_of}
 use Rattle.translation.specs.laws.AcceptedAlgorithm.{IsAcceptedInFile}
 use Rattle.translation.specs.laws.AcceptedLaws.{extra_of, may_bind, callable_for, Stance}
 use Rattle.translation.specs.laws.WritableAlgorithm.{IsLabelled}
-use Rattle.translation.proofs.CanonicalFaults.{and_first, or_first, or_second}
+use Rattle.translation.proofs.CanonicalFaults.{and_first, or_first, or_second, bad_alike}
 use Rattle.translation.proofs.CanonicalSteps.{trouble_faults}
 use Rattle.translation.proofs.FramesAccepted.{pc_path}
 use Rattle.translation.proofs.NamesApart.{writable, self_some, self_none}
@@ -164,12 +163,6 @@ module _ (P : Program) (s : State) (env : Env) (r : env.now pc nowhere ≡ just 
           no z = cc
       by (Err j) f = tt
 
--- what is the same but for places
-bad_placeless : (x y : Verdict) → AgreeButPlaces x y → IsBad y → IsBad x
-bad_placeless (Ok a) (Ok b) h i = absurd i
-bad_placeless (Ok a) (Err k) h i = absurd h
-bad_placeless (Err j) y h i = tt
-
 -- ---- a process in trouble
 
 some_label : (ls : List Word) → IsLabelled ls → (l : Word) × OneOf l ls
@@ -273,10 +266,9 @@ module _ (U : Readable) (b : Bool) (title : Word) (o : Outside) (g : Algorithm) 
     single_bad : (f : Tree) (u : Routine) → OneOf (record { takers = single f; routine = u }) (taken_main g g.main) → (eval plain f (X t)).value ≡ Ok (id v) → (l : Word) → OneOf l (label_words u.body)
         → IsBad (items_hold plain S (T t) (bind self (id v) (X t)) (items_from P u l (at_label u l))) → BadLabel P s t S (T t) (X t) (single f) u v l
     single_bad f u n is l m z =
-        bad_placeless _ _
+        (bad_alike _ _
         (meant_law plain value_kept self f (id v) (items_from P u l (at_label u l)) (single_clear o g h values (record { takers = single f; routine = u }) n f refl l m) S (T t) (X t)
-        (names_sound o g h title first.region values k s t before after) (means_its_value f (X t) (names_sound o g h title first.region values k s t before after) (names_by_value o g h title first.region values k s t) (id v) is))
-        z
+        (names_sound o g h title first.region values k s t before after) (means_its_value f (X t) (names_sound o g h title first.region values k s t before after) (names_by_value o g h title first.region values k s t) (id v) is))).1 z
 
     of_process : (ps : List Process) (e : g.main ≡ processes ps) (c : Takers) (u : Routine) → OneOf (record { takers = c; routine = u }) (taken_main g (processes ps)) → Identified o g h title first.region values k s t c (running u vs) → OneOf v (running u vs)
         → (l : Word) → OneOf l (label_words u.body) → IsBad (items_hold plain S (T t) (bind self (id v) (X t)) (items_from P u l (at_label u l))) → BadNext (processes ps)

@@ -1,18 +1,24 @@
 -- Next of what is written of an accepted algorithm is true exactly of its steps, and of the end that stutters, from sound states, where items can be written for each step; and
 -- it is a fault for some second state exactly if some process is in trouble.
+use Rattle.std.proofs.Common.{subst}
 use Rattle.tla_value.specs.Outside.{Outside}
 use Rattle.pcal_tree.specs.Algorithm.{Algorithm}
+use Rattle.pcal_tree.specs.Program.{Program}
+use Rattle.pcal_tree.specs.Step.{Step}
 use Rattle.action_builder.specs.laws.Ready.{Readable}
+use Rattle.promise.specs.ConstantsAndStates.{IsState}
 use Rattle.translation.specs.laws.AcceptedAlgorithm.{IsAcceptedInFile}
-use Rattle.translation.specs.laws.AcceptedLaws.{ReadyLaw, NextOfRegionLaw, PromiseKept, FaultsAgree}
+use Rattle.translation.specs.laws.AcceptedLaws.{ReadyLaw, NextOfRegionLaw, PromiseKept, FaultsAgree, FaultsKept, CanonicalStepLaw}
 use Rattle.translation.specs.laws.FreshReads.{readable}
+use Rattle.translation.proofs.CanonicalSteps.{end_canonical}
 use Rattle.translation.proofs.InitOfRegion.{init_of_region_law}
 use Rattle.translation.proofs.KeptPrimes.{nothing_primed}
 use Rattle.translation.proofs.NextFaults.{faults_agree}
 use Rattle.translation.proofs.NextOfRegion.{next_of_region}
 use Rattle.translation.proofs.NextSingle.{single_clear}
 use Rattle.translation.proofs.PreparedSteps.{prepared_law}
-use Rattle.translation.proofs.PromiseKept.{promise_kept}
+use Rattle.translation.proofs.PromiseKept.{constants_alike, faults_kept, promise_kept}
+use Rattle.translation.proofs.SameProgram.{same_program}
 use Rattle.translation.proofs.ReadyAccepted.{ready_law}
 use Rattle.translation.proofs.RegionPlaced.{region_placed}
 
@@ -41,3 +47,13 @@ faults_law = faults_where_ready IsAcceptedInFile inside readable items_ready
 -- so each module that a translated file is read as keeps the promise
 pub kept_law : PromiseKept IsAcceptedInFile
 kept_law = promise_kept IsAcceptedInFile next_law init_of_region_law region_placed
+
+pub faults_kept_law : FaultsKept IsAcceptedInFile
+faults_kept_law b o g m a same e = faults_kept IsAcceptedInFile region_placed b o g m a same e faults_law
+
+-- and steps keep values in canonical order
+pub canonical_steps : CanonicalStepLaw IsAcceptedInFile
+canonical_steps o g m a same values s t k is step =
+    subst (λ (P : Program). IsState P s → Step P s t → IsState P t) (same_program o g m same values)
+    (λ is (v, d, actor, from). end_canonical (readable g) m.title m.region o g a values (items_ready o g a values) (constants_alike o m same m.region values k) s is v actor d (record { actor = actor; routine = from.0.0; label = from.0.1 }) t from.1)
+    is step

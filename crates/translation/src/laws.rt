@@ -27,7 +27,7 @@ ghost use Rattle.action_builder.specs.laws.Ready.{};
 ghost use Rattle.tla_value.specs.Stops.{plain};
 ghost use Rattle.tla_value.specs.Definitions.{Valuation};
 ghost use Rattle.promise.specs.ConstantsAndStates.{program};
-ghost use Rattle.translation.specs.laws.AcceptedLaws.{extra_of, Stance, may_bind, callable_for, NamesApartLaw, NamesGivenLaw, PreparedLaw, PairsLaw, ReadyLaw, ActionLaw, NextOfRegionLaw, InitOfRegionLaw, RegionPlaced, PromiseKept, FaultsAgree};
+ghost use Rattle.translation.specs.laws.AcceptedLaws.{extra_of, Stance, may_bind, callable_for, NamesApartLaw, NamesGivenLaw, PreparedLaw, PairsLaw, ReadyLaw, ActionLaw, NextOfRegionLaw, InitOfRegionLaw, RegionPlaced, PromiseKept, FaultsAgree, FaultsKept, CanonicalStepLaw};
 ghost use Rattle.promise.specs.NextAndInit.{InitIs};
 ghost use Rattle.pcal_tree.specs.Variables.{declared, vars};
 ghost use Rattle.pcal_tree.specs.Labelled.{labelled};
@@ -214,13 +214,15 @@ pub fn init_is_true_of_the_initial_states()
 {}
 
 /// Next of what is written of an accepted algorithm, with the algorithm's own places, is true of two states exactly where some process steps from the
-/// first to the second, or all are done and nothing changes: for all constants, and all first states from which nothing is in trouble. Else it is false, and never a fault. So
-/// each module that a translated file is read as keeps the promise, of Init too. And from each state Next is a fault for some second state, both with values in canonical
-/// order, exactly if some process is in trouble in the first.
+/// first to the second, or all are done and nothing changes: for all constants, and all first states from which nothing is in trouble. Else it is false, and never a fault.
+/// From any first state some process is in trouble exactly if Next is a fault for some second state. So each module that a translated file is read as keeps the promise, of
+/// Init too, and faults where the algorithm does. All these states have values in canonical order, and steps lead from such states to such states.
 pub fn next_is_true_of_the_steps()
     ensures region { NextOfRegionLaw IsAcceptedInFile }
     ensures kept { PromiseKept IsAcceptedInFile }
     ensures faults { FaultsAgree IsAcceptedInFile }
+    ensures faults_kept { FaultsKept IsAcceptedInFile }
+    ensures canonical { CanonicalStepLaw IsAcceptedInFile }
 {}
 
 /// Where no rule on labels is broken, each loop is right after a label, a `return` is in a procedure, and no label is in a `with`, with macro calls written out.
