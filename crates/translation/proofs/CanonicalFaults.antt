@@ -1,6 +1,6 @@
 -- Where the written action is a fault for some later state, it is one for a later state whose variables have canonical values.
-use Rattle.std.proofs.Common.{◌≡◌, ◌↔◌, List, [], ◌∷◌, ◌++◌, Bool, true, false, cond, ◌||◌, refl, sym, ap, ◌∙◌, subst, ⊎_elim, Ok, Err}
-use Rattle.std.proofs.lemmas.Bool.{cases_Bool, or_left, or_right}
+use Rattle.std.proofs.Common.{◌≡◌, ◌↔◌, List, [], ◌∷◌, Bool, true, false, cond, refl, sym, ap, ◌∙◌, subst, ⊎_elim, Ok, Err}
+use Rattle.std.proofs.lemmas.Bool.{cases_Bool}
 use Rattle.tla_token.specs.Signs.{is_among}
 use Rattle.tla_tree.specs.Tree.{Word}
 use Rattle.tla_value.specs.Value.{Value, Values, no_values, and, Outcome, ◌>>=◌, and_then, or_all, IsBad}
@@ -19,7 +19,7 @@ use Rattle.action_builder.specs.Written.{left_of, unchanged_of}
 use Rattle.action_builder.specs.laws.LabelSteps.{LabelStep, prepared_of, items_of, action_of, IsReady}
 use Rattle.action_builder.specs.laws.Ready.{Readable, values_of, holds_on}
 use Rattle.action_builder.specs.laws.States.{mid}
-use Rattle.action_builder.proofs.Actions.{value_for, hold_sets, settings_of, Item, Items, some_member, holds, hold, hold_some, ended, minus, unchanged, build_one, build, build_some}
+use Rattle.action_builder.proofs.Actions.{value_for, hold_sets, settings_of, Items, some_member, holds, hold, hold_some, ended, minus, unchanged, build_one, build, build_some}
 use Rattle.action_builder.proofs.Effects.{Effect, assign, await, branch, either, choose, Effects, done, then, Ways, no_ways, way, Parts, firsts, effect_names, effects_names, ways_names, effects_of}
 use Rattle.action_builder.proofs.Faults.{mid_agree, local_one}
 use Rattle.action_builder.proofs.Main.{hold_ended, true_one}
@@ -194,7 +194,7 @@ canonical_fault U vs env d r g s u i b =
     let ss = prepared_of d in
     let t = later vs s u i in
     let items = bad_matched _ _ (match_all U vs none ss r.settled r.fine r.within d.scope env r.stands s t)
-        (bad_all vs s u i none (effects_of plain ss) (all_keep vs U none ss r.settled r.fine) d.scope g (λ x a m. cc) (matched_bad _ _ (match_all U vs none ss r.settled r.fine r.within d.scope env r.stands s u) b)) in (
+    (bad_all vs s u i none (effects_of plain ss) (all_keep vs U none ss r.settled r.fine) d.scope g (λ x a m. cc) (matched_bad _ _ (match_all U vs none ss r.settled r.fine r.within d.scope env r.stands s u) b)) in (
       t,
       later_canonical vs s u i,
       subst IsBad (sym (hold_onto (values_of vs s) (values_of vs t) (env s t) (items_of vs none d) (unchanged_of (left_of vs vs (assigned_in ss))))) (and_first _ _ items),

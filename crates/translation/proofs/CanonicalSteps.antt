@@ -3,7 +3,7 @@
 use Rattle.std.proofs.Common.{◌≡◌, List, [], ◌∷◌, ◌++◌, Option, Some, None, inl, inr, refl, sym, ap, ◌∙◌, subst, Ok, Err}
 use Rattle.tla_token.specs.Signs.{is_among}
 use Rattle.tla_tree.specs.Tree.{Word}
-use Rattle.tla_value.specs.Value.{Value, Values, Trouble, Outcome, IsBad}
+use Rattle.tla_value.specs.Value.{Value, Trouble, IsBad}
 use Rattle.tla_value.specs.Order.{IsCanonical, AreCanonical}
 use Rattle.tla_value.specs.Outside.{Outside}
 use Rattle.tla_value.specs.Stops.{plain}
@@ -14,7 +14,7 @@ use Rattle.tla_value.proofs.CanonicalEval.{sound_bind, eval_canonical}
 use Rattle.tla_value.proofs.CanonicalTests.{value_kept}
 use Rattle.tla_value.proofs.ScopesSound.{scope_sound}
 use Rattle.module_tree.specs.Formulas.{self, process_set}
-use Rattle.module_tree.specs.Module.{Module, Region}
+use Rattle.module_tree.specs.Module.{Region}
 use Rattle.pcal_tree.specs.Algorithm.{Main, alone, processes, Algorithm}
 use Rattle.pcal_tree.specs.Processes.{OneOf, identifier, IsActor}
 use Rattle.pcal_tree.specs.Program.{Program, Actor}
@@ -25,7 +25,7 @@ use Rattle.pcal_tree.specs.Step.{Stand, course_of}
 use Rattle.pcal_tree.specs.Variables.{vars}
 use Rattle.pcal_tree.proofs.ProcessesInOrder.{id, ids}
 use Rattle.action_builder.specs.Prepared.{none}
-use Rattle.action_builder.specs.laws.LabelSteps.{LabelStep, HasOutcome, prepared_of, action_of}
+use Rattle.action_builder.specs.laws.LabelSteps.{LabelStep, prepared_of, action_of}
 use Rattle.action_builder.specs.laws.Ready.{Readable, unlimited, values_of, holds_on}
 use Rattle.action_builder.specs.laws.StepsOfLabels.{step_of, pair_env, Goes}
 use Rattle.action_builder.specs.laws.WrittenScope.{self_bound, definitions_of, written_scope}

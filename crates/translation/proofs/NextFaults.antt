@@ -6,7 +6,7 @@ use Rattle.tla_token.specs.Places.{nowhere}
 use Rattle.tla_tree.specs.Tree.{Word, Tree, operator, apply, name, no_trees, grafted_name, root_place}
 use Rattle.tla_tree.specs.declared.op.Op.TheVariants.{Equal}
 use Rattle.tla_value.specs.declared.fault.FaultKind.TheVariants.{NotInDomain}
-use Rattle.tla_value.specs.Value.{Value, truth, int, text, model, set, fun, Trouble, Outcome, fault, ◌>>=◌, IsBad, and_then, or_all}
+use Rattle.tla_value.specs.Value.{Value, truth, int, text, model, set, fun, Trouble, Outcome, fault, ◌>>=◌, IsBad, and_then}
 use Rattle.tla_value.specs.Order.{found_at}
 use Rattle.tla_value.specs.OrderLaws.{same_self}
 use Rattle.tla_value.specs.Outside.{Outside}
@@ -52,7 +52,7 @@ use Rattle.action_builder.proofs.SingleProcess.{meant_law}
 use Rattle.promise.specs.ConstantsAndStates.{AreConstants, IsState}
 use Rattle.translation.specs.Region.{region_of}
 use Rattle.translation.specs.laws.AcceptedAlgorithm.{IsAcceptedInFile}
-use Rattle.translation.specs.laws.AcceptedLaws.{extra_of, may_bind, callable_for, Stance}
+use Rattle.translation.specs.laws.AcceptedLaws.{extra_of, may_bind, callable_for}
 use Rattle.translation.specs.laws.WritableAlgorithm.{IsLabelled}
 use Rattle.translation.proofs.CanonicalFaults.{and_first, or_first, or_second, bad_alike}
 use Rattle.translation.proofs.CanonicalSteps.{trouble_faults}

@@ -215,8 +215,9 @@ pub fn init_is_true_of_the_initial_states()
 
 /// Next of what is written of an accepted algorithm, with the algorithm's own places, is true of two states exactly where some process steps from the
 /// first to the second, or all are done and nothing changes: for all constants, and all first states from which nothing is in trouble. Else it is false, and never a fault.
-/// From any first state some process is in trouble exactly if Next is a fault for some second state. So each module that a translated file is read as keeps the promise, of
-/// Init too, and faults where the algorithm does. All these states have values in canonical order, and steps lead from such states to such states.
+/// Where the constants give the processes different identifiers, something is in trouble in a first state exactly if Next is a fault for some second state. So each module that
+/// a translated file is read as keeps the promise, of Init too, and its Next is a fault where something is in trouble. All states here have values in canonical order, and steps
+/// lead from such states to such states.
 pub fn next_is_true_of_the_steps()
     ensures region { NextOfRegionLaw IsAcceptedInFile }
     ensures kept { PromiseKept IsAcceptedInFile }
