@@ -125,3 +125,7 @@ pub mod AllSettled
 pub mod InitRowsProcesses
 pub mod AgainWritten
 pub mod AgainLabels
+pub mod CanonicalTold
+pub mod CanonicalRuns
+pub mod CanonicalFaults
+pub mod CanonicalSteps

@@ -1,4 +1,4 @@
--- Where a process of an accepted algorithm without single processes is in trouble, Next of its region is a fault for some second state; and so these agree.
+-- Where a process of an accepted algorithm is in trouble, in a state of canonical values, Next of its region is a fault for some second state of canonical values; and so these agree.
 use Rattle.std.proofs.Common.{◌≡◌, ◌↔◌, List, [], ◌∷◌, ◌++◌, map, Bool, true, false, cond, Option, Some, None, inl, inr, refl, sym, ap, ◌∙◌, subst, Ok, Err}
 use Rattle.std.specs.Option.{ok_or}
 use Rattle.tla_token.specs.declared.place.Place.{Place}
@@ -6,7 +6,7 @@ use Rattle.tla_token.specs.Places.{nowhere}
 use Rattle.tla_tree.specs.Tree.{Word, Tree, operator, apply, name, no_trees, grafted_name, root_place}
 use Rattle.tla_tree.specs.declared.op.Op.TheVariants.{Equal}
 use Rattle.tla_value.specs.declared.fault.FaultKind.TheVariants.{NotInDomain}
-use Rattle.tla_value.specs.Value.{Value, truth, int, text, model, set, fun, Trouble, Outcome, fault, ◌>>=◌, IsBad, and_then, or_all}
+use Rattle.tla_value.specs.Value.{Value, truth, int, text, model, set, fun, Trouble, Outcome, fault, ◌>>=◌, IsBad, and_then}
 use Rattle.tla_value.specs.Order.{found_at}
 use Rattle.tla_value.specs.OrderLaws.{same_self}
 use Rattle.tla_value.specs.Outside.{Outside}
@@ -15,6 +15,7 @@ use Rattle.tla_value.specs.Strict.{applied, strict_value}
 use Rattle.tla_value.specs.Meaning.{Env, just, bind, eval}
 use Rattle.tla_value.specs.Grafts.{own_part}
 use Rattle.tla_value.specs.Definitions.{Valuation, scope_of}
+use Rattle.tla_value.proofs.CanonicalTests.{value_kept, means_its_value}
 use Rattle.tla_value.proofs.Outcomes.{ok_is}
 use Rattle.module_tree.specs.Formulas.{self, named}
 use Rattle.module_tree.specs.Module.{call, call_with, Way, one_way, Module}
@@ -47,48 +48,39 @@ use Rattle.action_builder.specs.laws.Ready.{Readable, values_of, holds_on}
 use Rattle.action_builder.specs.laws.Scopes.{own_path}
 use Rattle.action_builder.specs.laws.StepsOfLabels.{step_of, pair_env}
 use Rattle.action_builder.specs.laws.WrittenScope.{self_bound, definitions_of}
-use Rattle.action_builder.proofs.Label.{action_stops}
-use Rattle.action_builder.proofs.StepsOfLabels.{outcome_is}
+use Rattle.action_builder.proofs.SingleProcess.{meant_law}
 use Rattle.promise.specs.ConstantsAndStates.{AreConstants, IsState}
 use Rattle.translation.specs.Region.{region_of}
 use Rattle.translation.specs.laws.AcceptedAlgorithm.{IsAcceptedInFile}
-use Rattle.translation.specs.laws.AcceptedLaws.{extra_of, may_bind, callable_for, Stance}
+use Rattle.translation.specs.laws.AcceptedLaws.{extra_of, may_bind, callable_for}
 use Rattle.translation.specs.laws.WritableAlgorithm.{IsLabelled}
+use Rattle.translation.proofs.CanonicalFaults.{and_first, or_first, or_second, bad_alike}
+use Rattle.translation.proofs.CanonicalSteps.{trouble_faults}
 use Rattle.translation.proofs.FramesAccepted.{pc_path}
-use Rattle.translation.proofs.NamesApart.{writable, self_some, self_none, names_apart_law}
-use Rattle.translation.proofs.NamesGiven.{names_given_law}
+use Rattle.translation.proofs.NamesApart.{writable, self_some, self_none}
 use Rattle.translation.proofs.NextFound.{Finds, FindsOwn, one_mapped}
 use Rattle.translation.proofs.NextHolds.{ways_of}
 use Rattle.translation.proofs.NextLabels.{ReadyHere}
-use Rattle.translation.proofs.NextOfRegion.{HasSingle}
+use Rattle.translation.proofs.NextOfRegion.{one_only}
 use Rattle.translation.proofs.NextParts.{acts, reads, taken_by, procedure_found, body_found, process_found}
-use Rattle.translation.proofs.NextScopes.{Identified, taken_there, set_there}
+use Rattle.translation.proofs.NextScopes.{Identified, names_sound, names_by_value, taken_there, set_there}
+use Rattle.translation.proofs.NextSingle.{single_clear}
 use Rattle.translation.proofs.NextSteps.{main_taken, one_running}
 use Rattle.translation.proofs.NextTroubles.{next_troubles}
 use Rattle.translation.proofs.NextTrue.{procedures_taken, env_for, argument, TakenBy}
-use Rattle.translation.proofs.PreparedSteps.{prepared_law}
 use Rattle.translation.proofs.WritableBodies.{IsBegun, begins}
 
 -- ---- one fault is enough
 
-bad_left : (a b : Verdict) → IsBad a → IsBad (or_all a b)
-bad_left (Ok x) b h = absurd h
-bad_left (Err k) b h = tt
-
-bad_right : (a b : Verdict) → IsBad b → IsBad (or_all a b)
-bad_right (Ok x) (Ok y) h = absurd h
-bad_right (Ok x) (Err k) h = tt
-bad_right (Err j) b h = tt
-
 bad_way : (env : Env) (acts : Acts) (y : Way) (ys : List Way) → OneOf y ys → IsBad (way_holds plain env acts y) → IsBad (some_way_holds plain env acts ys)
 bad_way env acts y [] h k = absurd h
-bad_way env acts y (z ∷ ys) (inl e) k = bad_left (way_holds plain env acts z) (some_way_holds plain env acts ys) (subst (λ w. IsBad (way_holds plain env acts w)) e k)
-bad_way env acts y (z ∷ ys) (inr h) k = bad_right (way_holds plain env acts z) (some_way_holds plain env acts ys) (bad_way env acts y ys h k)
+bad_way env acts y (z ∷ ys) (inl e) k = or_first (way_holds plain env acts z) (some_way_holds plain env acts ys) (subst (λ w. IsBad (way_holds plain env acts w)) e k)
+bad_way env acts y (z ∷ ys) (inr h) k = or_second (way_holds plain env acts z) (some_way_holds plain env acts ys) (bad_way env acts y ys h k)
 
 bad_member : (go : Value → Verdict) (v : Actor) (vs : List Actor) → OneOf v vs → IsBad (go (id v)) → IsBad (some_member (ids vs) go)
 bad_member go v [] h k = absurd h
-bad_member go v (w ∷ vs) (inl e) k = bad_left (go (id w)) (some_member (ids vs) go) (subst (λ (z : Actor). IsBad (go (id z))) e k)
-bad_member go v (w ∷ vs) (inr h) k = bad_right (go (id w)) (some_member (ids vs) go) (bad_member go v vs h k)
+bad_member go v (w ∷ vs) (inl e) k = or_first (go (id w)) (some_member (ids vs) go) (subst (λ (z : Actor). IsBad (go (id z))) e k)
+bad_member go v (w ∷ vs) (inr h) k = or_second (go (id w)) (some_member (ids vs) go) (bad_member go v vs h k)
 
 -- ---- the disjunct of a procedure or process
 
@@ -171,10 +163,6 @@ module _ (P : Program) (s : State) (env : Env) (r : env.now pc nowhere ≡ just 
           no z = cc
       by (Err j) f = tt
 
-and_first : (a b : Verdict) → IsBad a → IsBad (and_then a b)
-and_first (Ok x) b h = absurd h
-and_first (Err k) b h = tt
-
 -- ---- a process in trouble
 
 some_label : (ls : List Word) → IsLabelled ls → (l : Word) × OneOf l ls
@@ -210,43 +198,44 @@ module _ (U : Readable) (b : Bool) (title : Word) (o : Outside) (g : Algorithm) 
   -- a label's action is a fault for some second state
   record Bad (v : Actor) : Type 0 where
     later : State
+    canonical : IsState P later
     routine : Routine
     runs : OneOf routine (routines_of P v)
     label : Word
     listed : OneOf label (label_words routine.body)
     bad : BadItems v.self routine label (at_label routine label) later
 
-  bad_of : (v : Actor) → IsActor P v → (q : Trouble) → Troubled P s v q → Bad v
-  bad_of v a q (inl e) =
+  bad_of : IsState P s → (v : Actor) → IsActor P v → (q : Trouble) → Troubled P s v q → Bad v
+  bad_of i v a q (inl e) =
       let m = one_right v.own (procedure_routines g) (main_routines g g.main) (own_is_main P v a) in
       let l = some_label (label_words v.own.body) ((writable o g h).routines v.own m).labelled in
       let c = begun v.own l.0 l.1 in
       record {
         later = s;
+        canonical = i;
         routine = v.own;
         runs = inl refl;
         label = l.0;
         listed = l.1;
         bad = subst (λ z. BadItems v.self v.own l.0 z s) (sym c.1) (and_first _ _ (test_bad P s (X s) (reads b o g h values s s) v.own l.0 v (pc_path o g h values v a) q e));
       }
-  bad_of v a q (inr (d, st, has)) =
-      let stance : Stance P v d = record { actor = a; routine = st.0; label = st.1 } in
-      let step = step_of P (extra_of g) v d (may_bind o P) (callable_for P) in
-      let stops = action_stops step (prepared_law o g h values k.unset v d stance) U (vars P) (pair_env P (extra_of g) v) (ready v d stance) s in
-      let fault = stops.1 (q, subst (λ (A : Type 0). A) (sym (outcome_is P (extra_of g) v d (may_bind o P) (callable_for P) refl (names_apart_law o g h values v d.routine a st.0) (names_given_law o g h values v d stance) s (Err q))) has) in
+  bad_of i v a q (inr (d, st, has)) =
+      let fault = trouble_faults U title first.region o g h values ready k s i v a d (record { actor = a; routine = st.0; label = st.1 }) q has in
+      let t = fault.0 in
       record {
-        later = fault.0;
+        later = t;
+        canonical = fault.1;
         routine = d.routine;
         runs = st.0;
         label = d.label;
         listed = label_listed d.routine d.label d.begins st.1;
-        bad = subst (λ z. BadItems v.self d.routine d.label z fault.0) (sym st.1)
-            (subst (λ w. IsBad (and_then w (holds_on (vars P) (pair_env P (extra_of g) v) (action_of (vars P) step) s fault.0))) (sym (test_true P s (X fault.0) (reads b o g h values s fault.0) d.routine d.label v (pc_path o g h values v a) st.2)) fault.1);
+        bad = subst (λ z. BadItems v.self d.routine d.label z t) (sym st.1)
+            (subst (λ w. IsBad (and_then w (holds_on (vars P) (pair_env P (extra_of g) v) (action_of (vars P) (step_of P (extra_of g) v d (may_bind o P) (callable_for P))) s t))) (sym (test_true P s (X t) (reads b o g h values s t) d.routine d.label v (pc_path o g h values v a) st.2)) fault.2);
       }
 
   -- ---- so Next is a fault
 
-  module _ (vs : List Actor) (all : actors P ≡ Ok vs) (v : Actor) (one : OneOf v vs) (t : State) where
+  module _ (vs : List Actor) (all : actors P ≡ Ok vs) (v : Actor) (one : OneOf v vs) (t : State) (before : IsState P s) (after : IsState P t) where
     actor : IsActor P v
     actor = (vs, all, one)
 
@@ -273,16 +262,28 @@ module _ (U : Readable) (b : Bool) (title : Word) (o : Outside) (g : Algorithm) 
         (one_left (one_way (call (label_name P (alone_routine g ss) l))) (map (λ l. one_way (call (label_name P (alone_routine g ss) l))) (label_words ss)) [] (one_mapped (λ l. one_way (call (label_name P (alone_routine g ss) l))) l (label_words ss) i))
         (bad_called P s t S (T t) (X t) (acts b o g h values s t (alone ss)) lone (alone_routine g ss) v l (body_found b o g h values s t ss e l i) f))
 
-    of_process : (HasSingle g → ⊥) → (ps : List Process) (e : g.main ≡ processes ps) (c : Takers) (u : Routine) → OneOf (record { takers = c; routine = u }) (taken_main g (processes ps)) → Identified o g h title first.region values k s t c (running u vs) → OneOf v (running u vs)
+    -- a single process: its expression stands for self
+    single_bad : (f : Tree) (u : Routine) → OneOf (record { takers = single f; routine = u }) (taken_main g g.main) → (eval plain f (X t)).value ≡ Ok (id v) → (l : Word) → OneOf l (label_words u.body)
+        → IsBad (items_hold plain S (T t) (bind self (id v) (X t)) (items_from P u l (at_label u l))) → BadLabel P s t S (T t) (X t) (single f) u v l
+    single_bad f u n is l m z =
+        (bad_alike _ _
+        (meant_law plain value_kept self f (id v) (items_from P u l (at_label u l)) (single_clear o g h values (record { takers = single f; routine = u }) n f refl l m) S (T t) (X t)
+        (names_sound o g h title first.region values k s t before after) (means_its_value f (X t) (names_sound o g h title first.region values k s t before after) (names_by_value o g h title first.region values k s t) (id v) is))).1 z
+
+    of_process : (ps : List Process) (e : g.main ≡ processes ps) (c : Takers) (u : Routine) → OneOf (record { takers = c; routine = u }) (taken_main g (processes ps)) → Identified o g h title first.region values k s t c (running u vs) → OneOf v (running u vs)
         → (l : Word) → OneOf l (label_words u.body) → IsBad (items_hold plain S (T t) (bind self (id v) (X t)) (items_from P u l (at_label u l))) → BadNext (processes ps)
-    of_process lacks ps e (each_of f) u n is i l m z =
+    of_process ps e (each_of f) u n is i l m z =
         let r : Taken = record { takers = each_of f; routine = u } in
         of_main (processes ps) (own_way P r) (one_mapped (own_way P) r (taken_main g (processes ps)) n) (bad_own P s t S (T t) (X t) (acts b o g h values s t (processes ps)) (each_of f) u v (running u vs) is i (process_found b o g h values s t ps e r n) l m z)
-    of_process lacks ps e (single f) u n is i l m z = absurd (lacks (record { taken = record { takers = single f; routine = u }; expression = f; among = subst (λ y. OneOf (record { takers = single f; routine = u }) (taken_main g y)) (sym e) n; is = refl }))
-    of_process lacks ps e lone u n is i l m z = absurd is
+    of_process ps e (single f) u n (w, only, q) i l m z =
+        let r : Taken = record { takers = single f; routine = u } in
+        of_main (processes ps) (own_way P r) (one_mapped (own_way P) r (taken_main g (processes ps)) n)
+        (bad_own P s t S (T t) (X t) (acts b o g h values s t (processes ps)) (single f) u v (running u vs) (w, only) i (process_found b o g h values s t ps e r n) l m
+        (single_bad f u (subst (λ y. OneOf r (taken_main g y)) (sym e) n) (q ∙ ap (λ (a : Actor). Ok (id a)) (sym (one_only w v (subst (OneOf v) only i)))) l m z))
+    of_process ps e lone u n is i l m z = absurd is
 
-    by_main : (HasSingle g → ⊥) → (m : Main) → g.main ≡ m → (u : Routine) → OneOf u (routines_of P v) → (l : Word) → OneOf l (label_words u.body) → BadItems v.self u l (at_label u l) t → BadNext m
-    by_main lacks (alone ss) e u runs l i f = by runs
+    by_main : (m : Main) → g.main ≡ m → (u : Routine) → OneOf u (routines_of P v) → (l : Word) → OneOf l (label_words u.body) → BadItems v.self u l (at_label u l) t → BadNext m
+    by_main (alone ss) e u runs l i f = by runs
       where
         only : vs ≡ record { self = None; own = alone_routine g ss } ∷ []
         only = ok_is (sym all ∙ ap (actors_in P) e)
@@ -297,7 +298,7 @@ module _ (U : Readable) (b : Bool) (title : Word) (o : Outside) (g : Algorithm) 
         by : OneOf u (routines_of P v) → BadNext (alone ss)
         by (inl q) = of_body ss e u (q ∙ ap (λ (w : Actor). w.own) (it (subst (OneOf v) only one))) l i lone_bad
         by (inr n) = of_procedure (alone ss) e u n (record { self = None; own = alone_routine g ss }, only) l i lone_bad
-    by_main lacks (processes ps) e u runs l i f = by runs
+    by_main (processes ps) e u runs l i f = by runs
       where
         named_self : v.self ≡ Some (id v)
         named_self = (let (w, q) = self_some P v ps e actor in q ∙ ap (λ z. Some z) (sym (ap identifier q)))
@@ -309,18 +310,18 @@ module _ (U : Readable) (b : Bool) (title : Word) (o : Outside) (g : Algorithm) 
         by (inl q) =
             let own = main_taken g (processes ps) v.own (subst (λ n. OneOf v.own (main_routines g n)) e (own_is_main P v actor)) in
             let r = own.0 in
-            of_process lacks ps e r.takers r.routine own.1 (taken_there o g h title first.region values k s t ps vs e all r own.1).identified (one_running r.routine v vs (sym own.2) one) l
+            of_process ps e r.takers r.routine own.1 (taken_there o g h title first.region values k s t ps vs e all r own.1).identified (one_running r.routine v vs (sym own.2) one) l
             (subst (λ (w : Routine). OneOf l (label_words w.body)) (q ∙ sym own.2) i)
             (subst (λ (w : Routine). IsBad (items_hold plain S (T t) (bind self (id v) (X t)) (items_from P w l (at_label w l)))) (q ∙ sym own.2) self_bad)
         by (inr n) = of_procedure (processes ps) e u n (set_there o g h title first.region values k s t ps vs e all) l i self_bad
 
-  -- in an algorithm without single processes some process is in trouble exactly if Next is a fault for some second state
-  pub faults_agree : (HasSingle g → ⊥) → IsState P s → Proper P
-      → (((v : Actor) × (q : Trouble) × IsActor P v × Troubled P s v q) ↔ ((t : State) × IsBad (next_holds plain first values (on_variables P s) (on_variables P t))))
-  faults_agree lacks is proper = (to, from)
+  -- some process is in trouble exactly if Next is a fault for some second state
+  pub faults_agree : IsState P s → Proper P
+      → (((v : Actor) × (q : Trouble) × IsActor P v × Troubled P s v q) ↔ ((t : State) × IsState P t × IsBad (next_holds plain first values (on_variables P s) (on_variables P t))))
+  faults_agree is proper = (to, from)
     where
-      to : (v : Actor) × (q : Trouble) × IsActor P v × Troubled P s v q → (t : State) × IsBad (next_holds plain first values (on_variables P s) (on_variables P t))
-      to (v, q, a, z) = (let x = bad_of v a q z in (x.later, by_main a.0 a.1 v a.2 x.later lacks g.main refl x.routine x.runs x.label x.listed x.bad))
+      to : (v : Actor) × (q : Trouble) × IsActor P v × Troubled P s v q → (t : State) × IsState P t × IsBad (next_holds plain first values (on_variables P s) (on_variables P t))
+      to (v, q, a, z) = (let x = bad_of is v a q z in (x.later, x.canonical, by_main a.0 a.1 v a.2 x.later is x.canonical g.main refl x.routine x.runs x.label x.listed x.bad))
 
-      from : (t : State) × IsBad (next_holds plain first values (on_variables P s) (on_variables P t)) → (v : Actor) × (q : Trouble) × IsActor P v × Troubled P s v q
-      from (t, f) = next_troubles U b title o g h values s t ready k is (λ c. absurd (lacks c)) proper f
+      from : (t : State) × IsState P t × IsBad (next_holds plain first values (on_variables P s) (on_variables P t)) → (v : Actor) × (q : Trouble) × IsActor P v × Troubled P s v q
+      from (t, it, f) = next_troubles U b title o g h values s t ready k is it proper f

@@ -62,7 +62,7 @@ pair_value k ds s t e v q =
 
 -- ---- canonical values
 
-canonical_in : (P : Program) (s : State) → IsState P s → AreCanonicalIn (values_of (vars P) s)
+pub canonical_in : (P : Program) (s : State) → IsState P s → AreCanonicalIn (values_of (vars P) s)
 canonical_in P s h x v e = by (is_among (vars P) x) refl e
   where
     by : (b : Bool) → is_among (vars P) x ≡ b → cond b (Some (s x)) None ≡ Some v → IsCanonical v

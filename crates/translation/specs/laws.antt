@@ -12,7 +12,6 @@ pub mod PlacedStatements
 pub mod StepParts
 pub mod FreshReads
 pub mod StepNames
-pub mod NextLaws
 pub mod NothingPrimed
 pub mod KeptUnprimed
 pub mod ActionLaws

@@ -27,7 +27,7 @@ ghost use Rattle.action_builder.specs.laws.Ready.{};
 ghost use Rattle.tla_value.specs.Stops.{plain};
 ghost use Rattle.tla_value.specs.Definitions.{Valuation};
 ghost use Rattle.promise.specs.ConstantsAndStates.{program};
-ghost use Rattle.translation.specs.laws.AcceptedLaws.{extra_of, Stance, may_bind, callable_for, NamesApartLaw, NamesGivenLaw, PreparedLaw, PairsLaw, ReadyLaw, ActionLaw, NextOfRegionLaw, InitOfRegionLaw, RegionPlaced, PromiseKept};
+ghost use Rattle.translation.specs.laws.AcceptedLaws.{extra_of, Stance, may_bind, callable_for, NamesApartLaw, NamesGivenLaw, PreparedLaw, PairsLaw, ReadyLaw, ActionLaw, NextOfRegionLaw, InitOfRegionLaw, RegionPlaced, PromiseKept, FaultsAgree, FaultsKept, CanonicalStepLaw};
 ghost use Rattle.promise.specs.NextAndInit.{InitIs};
 ghost use Rattle.pcal_tree.specs.Variables.{declared, vars};
 ghost use Rattle.pcal_tree.specs.Labelled.{labelled};
@@ -68,7 +68,6 @@ ghost use Rattle.pcal_tree.specs.Step.{Stand};
 ghost use Rattle.translation.specs.laws.FreshReads.{readable};
 ghost use Rattle.translation.specs.laws.NothingPrimed.{NothingPrimed};
 ghost use Rattle.translation.specs.laws.PlacedStatements.{Placed};
-ghost use Rattle.translation.specs.laws.NextLaws.{SetFaultsAgree};
 ghost use Rattle.translation.specs.laws.StepsOnce.{none_set, SetsOnce, JumpsOnce};
 ghost use Rattle.translation.specs.laws.JumpsEnd.{JumpsEnd};
 ghost use Rattle.translation.specs.laws.TypedAlgorithm.{IsTypedAlgorithm};
@@ -215,13 +214,16 @@ pub fn init_is_true_of_the_initial_states()
 {}
 
 /// Next of what is written of an accepted algorithm, with the algorithm's own places, is true of two states exactly where some process steps from the
-/// first to the second, or all are done and nothing changes: for all constants, and all first states from which nothing is in trouble. Else it is false, and never a fault. So
-/// each module that a translated file is read as keeps the promise, of Init too. And where all processes are of sets, Next is a fault for some second state exactly if some
-/// process is in trouble in the first.
+/// first to the second, or all are done and nothing changes: for all constants, and all first states from which nothing is in trouble. Else it is false, and never a fault.
+/// Where the constants give the processes different identifiers, something is in trouble in a first state exactly if Next is a fault for some second state. So each module that
+/// a translated file is read as keeps the promise, of Init too, and its Next is a fault where something is in trouble. All states here have values in canonical order, and steps
+/// lead from such states to such states.
 pub fn next_is_true_of_the_steps()
     ensures region { NextOfRegionLaw IsAcceptedInFile }
     ensures kept { PromiseKept IsAcceptedInFile }
-    ensures faults { SetFaultsAgree IsAcceptedInFile }
+    ensures faults { FaultsAgree IsAcceptedInFile }
+    ensures faults_kept { FaultsKept IsAcceptedInFile }
+    ensures canonical { CanonicalStepLaw IsAcceptedInFile }
 {}
 
 /// Where no rule on labels is broken, each loop is right after a label, a `return` is in a procedure, and no label is in a `with`, with macro calls written out.

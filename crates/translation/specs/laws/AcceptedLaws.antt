@@ -1,5 +1,5 @@
 -- The laws of accepted algorithms on which the promise rests, as statements. `Accepted o g` stands for what is known of an algorithm of a text with its labels added, in
--- a file that has o outside (`IsAcceptedInFile`). Of these `FaultsAgree` is proved where all processes are of sets (`SetFaultsAgree`); each other is the type of a law.
+-- a file that has o outside (`IsAcceptedInFile`). Each is the type of a law.
 use Rattle.std.specs.Prelude.{codes, ◌≡◌, ◌↔◌, List, [], ◌∷◌, Bool, ◌||◌, ◌&&◌, not, bytes_eq, cond, Some, None}
 use Rattle.tla_token.specs.Signs.{is_among}
 use Rattle.tla_tree.specs.Tree.{Word}
@@ -17,7 +17,7 @@ use Rattle.pcal_tree.specs.Program.{Program, Actor}
 use Rattle.pcal_tree.specs.Scope.{State}
 use Rattle.pcal_tree.specs.OffencesRebind.{in_scope, may_rebind, standing_inside}
 use Rattle.pcal_tree.specs.StepStart.{at_label}
-use Rattle.pcal_tree.specs.Step.{Stand, routines_of, StepFrom}
+use Rattle.pcal_tree.specs.Step.{Stand, routines_of, StepFrom, Step}
 use Rattle.pcal_tree.specs.Faults.{Sound, Troubled}
 use Rattle.pcal_tree.specs.Calls.{defaultInitValue, label_name}
 use Rattle.pcal_tree.specs.Variables.{vars, on_variables}
@@ -61,6 +61,13 @@ callable_of P (u ∷ us) = callable_in_pairs P
 abbrev pub callable_for : Program → Callable
 callable_for P = callable_of P (procedure_routines P.algorithm)
 
+-- in a state some process is in trouble exactly if Next is a fault for some second state
+abbrev pub FaultsAre : Algorithm → Module → Type 0
+FaultsAre g m = (values : Valuation) (s : State)
+    → (let P = program g m values in
+    AreConstants m values → IsState P s → Proper P
+    → (((v : Actor) × (k : Trouble) × IsActor P v × Troubled P s v k) ↔ ((t : State) × IsState P t × IsBad (next_holds plain m values (on_variables P s) (on_variables P t)))))
+
 module _ (Accepted : Words) where
   -- written names are apart, and definitions read none of them
   abbrev pub NamesApartLaw : Type 0
@@ -97,12 +104,17 @@ module _ (Accepted : Words) where
   abbrev pub PromiseKept : Type 0
   PromiseKept = (b : Bool) (o : Outside) (g : Algorithm) (m : Module) → Accepted o g → SameOutside o m.outside → region_placeless m.region ≡ region_placeless (written_region b o g) → NextIs b g m × InitIs g m
 
-  -- something is faulty from a state exactly if Next is a fault for some second state; that its values are in canonical order needs a word more on the values of a step
+  -- faults of Next, of the region of g with its own places, and of what is read back
   abbrev pub FaultsAgree : Type 0
-  FaultsAgree = (b : Bool) (title : Word) (o : Outside) (g : Algorithm) → Accepted o g → (values : Valuation) (s : State)
-      → (let m : Module = record { title = title; outside = o; region = region_of b (with_names o g) } in let P = program g m values in
-      AreConstants m values → IsState P s → Proper P
-      → (((v : Actor) × (k : Trouble) × IsActor P v × Troubled P s v k) ↔ ((t : State) × IsBad (next_holds plain m values (on_variables P s) (on_variables P t)))))
+  FaultsAgree = (b : Bool) (title : Word) (o : Outside) (g : Algorithm) → Accepted o g → FaultsAre g (record { title = title; outside = o; region = region_of b (with_names o g) })
+
+  abbrev pub FaultsKept : Type 0
+  FaultsKept = (b : Bool) (o : Outside) (g : Algorithm) (m : Module) → Accepted o g → SameOutside o m.outside → region_placeless m.region ≡ region_placeless (written_region b o g) → FaultsAre g m
+
+  -- steps lead from states whose values are in canonical order to such states
+  abbrev pub CanonicalStepLaw : Type 0
+  CanonicalStepLaw = (o : Outside) (g : Algorithm) (m : Module) → Accepted o g → SameOutside o m.outside → (values : Valuation) (s t : State)
+      → (let P = program g m values in AreConstants m values → IsState P s → Step P s t → IsState P t)
 
   -- an action that stands in a formula of fairness, for each process that takes it
   abbrev pub ActionLaw : Type 0
