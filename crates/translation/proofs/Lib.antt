@@ -123,5 +123,8 @@ pub mod KeptPrimes
 pub mod InnerSettled
 pub mod AllSettled
 pub mod InitRowsProcesses
-pub mod AgainWritten
+pub mod AgainOffences
+pub mod AgainAdded
 pub mod AgainLabels
+pub mod AgainWritten
+pub mod AgainFiles
