@@ -14,9 +14,10 @@ use Rattle.pcal_tree.specs.Placeless.{no_span, statement_placeless, statements_p
 use Rattle.pcal_tree.specs.Run.{Partner, partner_of}
 use Rattle.pcal_tree.specs.Tests.{is_empty}
 use Rattle.pcal_tree.specs.Variables.{declared}
-use Rattle.translation.proofs.AgainOffences.{rules, rules_two, partner_placeless, partner_bare, assigned_bare, after_one_bare, next_bare, offences_bare, inside_offences_bare, within_bare}
+use Rattle.translation.proofs.AgainOffences.{rules, rules_two, assigned_bare, after_one_bare, next_bare, offences_bare, inside_offences_bare, within_bare}
 use Rattle.translation.proofs.NoPlaces.{declared_bare, declarations_joined}
 use Rattle.translation.proofs.PlacelessAlgorithm.{macros_reversed}
+use Rattle.translation.proofs.PlacelessItems.{partner_placeless, partner_bare}
 
 -- ---- whether a statement needs a label
 

@@ -16,6 +16,7 @@ use Rattle.pcal_tree.specs.OffencesSteps.{holds_one, holds, holds_some, due_afte
 use Rattle.pcal_tree.specs.Paths.{some_word, roots, clashes, Effect, Effects, nothing, assigned, Path, joined, rounds, after_one, after, after_some, is_reached, has_assigned}
 use Rattle.pcal_tree.specs.Placeless.{no_span, assignments_placeless, statement_placeless, statements_placeless, branches_placeless, macros_placeless}
 use Rattle.pcal_tree.specs.Run.{Partner, no_partner, goto_partner, return_partner, partner_of, is_pair, arguments}
+use Rattle.translation.proofs.PlacelessItems.{partner_placeless, partner_bare}
 use Rattle.translation.proofs.WritableBare.{root_bare, clashes_bare, grafted_all, arguments_bare}
 
 -- ---- the rules that are offended, without places
@@ -32,6 +33,11 @@ if_anywhere false r p q = refl
 
 pub rules_if : (b c : Bool) (r : Rule) (p q : Place) → b ≡ c → rules (offence_if b r p) ≡ rules (offence_if c r q)
 rules_if b c r p q e = ap (λ (d : Bool). rules (offence_if d r p)) e ∙ if_anywhere c r p q
+
+-- of each thing, and of it without places
+pub rules_each : {X Y : Type 0} (h : X → Y) (f : Y → List Refusal) (g : X → List Refusal) → ((x : X) → rules (f (h x)) ≡ rules (g x)) → (xs : List X) → rules (flat_map f (map h xs)) ≡ rules (flat_map g xs)
+rules_each h f g e [] = refl
+rules_each h f g e (x ∷ xs) = rules_two (f (h x)) (flat_map f (map h xs)) (g x) (flat_map g xs) (e x) (rules_each h f g e xs)
 
 -- ---- statements
 
@@ -51,15 +57,6 @@ mutual
   holds_some_bare : (bs : Branches) → holds_some (branches_placeless bs) ≡ holds_some bs
   holds_some_bare no_branches = refl
   holds_some_bare (or b bs) = λ i. holds_bare b i || holds_some_bare bs i
-
-abbrev pub partner_placeless : Partner → Partner
-partner_placeless (return_partner at) = return_partner no_span
-partner_placeless j = j
-
-pub partner_bare : (rest : Statements) → partner_of (statements_placeless rest) ≡ partner_placeless (partner_of rest)
-partner_bare (then at (goto l) rest) = refl
-partner_bare (then at return rest) = refl
-partner_bare rest = refl
 
 pair_bare : (j : Partner) → is_pair (partner_placeless j) ≡ is_pair j
 pair_bare no_partner = refl
@@ -169,9 +166,7 @@ module _ (E F : Effects) (same : (st : Statement) → F (statement_placeless st)
       (rules_if (assigns_twice F (visit_placeless v)) (assigns_twice E v) AssignTwice nowhere v.place (twice_bare v))
 
   all_offences_bare : (vs : List Visit) → rules (flat_map (offences_at F) (map visit_placeless vs)) ≡ rules (flat_map (offences_at E) vs)
-  all_offences_bare [] = refl
-  all_offences_bare (v ∷ vs) =
-      rules_two (offences_at F (visit_placeless v)) (flat_map (offences_at F) (map visit_placeless vs)) (offences_at E v) (flat_map (offences_at E) vs) (offences_bare v) (all_offences_bare vs)
+  all_offences_bare = rules_each visit_placeless (offences_at F) (offences_at E) offences_bare
 
   pub inside_offences_bare : (p : Before) (st : Statement) → rules (flat_map (offences_at F) (visits_inside F p (statement_placeless st))) ≡ rules (flat_map (offences_at E) (visits_inside E p st))
   inside_offences_bare p st = ap (λ (vs : List Visit). rules (flat_map (offences_at F) vs)) (inside_bare p st) ∙ all_offences_bare (visits_inside E p st)
