@@ -1,17 +1,14 @@
--- A translated file to whose algorithm no labels are added is translated to itself.
-use Rattle.std.proofs.Common.{◌≡◌, List, [], ◌∷◌, ◌++◌, map, Bool, false, ◌||◌, ◌&&◌, cond, codes, refl, sym, ap, ◌∙◌}
+-- The labels that are added to an algorithm are the same wherever its parts are.
+use Rattle.std.proofs.Common.{◌≡◌, List, [], ◌∷◌, ◌++◌, map, Bool, true, false, ◌||◌, ◌&&◌, cond, codes, refl, sym, ap, ◌∙◌}
 use Rattle.std.specs.List.{flat_map}
 use Rattle.std.proofs.lemmas.List.{map-append}
 use Rattle.tla_tree.specs.Tree.{Word}
 use Rattle.pcal_tree.specs.Algorithm.{Macro, Procedure, Process, Main, alone, processes, Algorithm}
-use Rattle.pcal_tree.specs.Labelled.{with_labels, is_alone, typed_labels, labelled}
+use Rattle.pcal_tree.specs.Labelled.{Supply, is_alone, typed_labels, labelled}
 use Rattle.pcal_tree.specs.OffencesLabels.{Label, labels, labels_of_main}
-use Rattle.pcal_tree.specs.OffencesSteps.{call_effect}
 use Rattle.pcal_tree.specs.Placeless.{statements_placeless, macros_placeless, procedures_placeless, processes_placeless, main_placeless, placeless}
 use Rattle.pcal_tree.specs.Tests.{is_empty}
-use Rattle.file_answer.proofs.OneTree.{one_stands}
-use Rattle.translation.specs.laws.ActionLaws.{adds_labels, FileAgainLaw}
-use Rattle.translation.proofs.AgainWritten.{algorithm_again, region_again, put_again_there, text_again}
+use Rattle.translation.proofs.AgainAdded.{labels_from, labels_added}
 use Rattle.translation.proofs.NoPlaces.{all_labels}
 
 -- ---- typed labels have no places
@@ -56,25 +53,20 @@ alone_bare : (m : Main) → is_alone (main_placeless m) ≡ is_alone m
 alone_bare (alone ss) = refl
 alone_bare (processes ps) = refl
 
--- ---- where none are added
+-- ---- labels added
 
-adds_bare : (forced : Bool) (a : Algorithm) → adds_labels forced (placeless a) ≡ adds_labels forced a
-adds_bare forced a = λ i. forced || (alone_bare a.main i && is_empty (typed_bare a i))
+pub labelled_bare : (forced : Bool) (a : Algorithm) → labelled forced (placeless a) ≡ placeless (labelled forced a)
+labelled_bare forced a = (λ i. cond (forced || (alone_bare a.main i && is_empty (typed_bare a i))) (with_typed (typed_bare a i)) (placeless a)) ∙ by (forced || (is_alone a.main && is_empty (typed_labels a)))
+  where
+    names_left : List Word → Supply
+    names_left typed = record { root = codes "Lbl_"; typed = typed; from = 1 }
 
-pub none_added : (forced : Bool) (a : Algorithm) → adds_labels forced a ≡ false → labelled forced a ≡ a
-none_added forced a e = ap (λ c. cond c (with_labels call_effect (codes "Lbl_") a) a) e
+    with_typed : List Word → Algorithm
+    with_typed typed = labels_from (names_left typed) (placeless a)
 
-same_labels_added : (forced : Bool) (a c : Algorithm) → adds_labels forced a ≡ false → placeless c ≡ placeless a → placeless (labelled forced c) ≡ placeless (labelled forced a)
-same_labels_added forced a c e q =
-    ap placeless (none_added forced c (sym (adds_bare forced c) ∙ ap (adds_labels forced) q ∙ adds_bare forced a ∙ e)) ∙ q ∙ ap placeless (sym (none_added forced a e))
+    by : (b : Bool) → cond b (with_typed (typed_labels a)) (placeless a) ≡ placeless (cond b (labels_from (names_left (typed_labels a)) a) a)
+    by true = labels_added (names_left (typed_labels a)) a
+    by false = refl
 
--- ---- files
-
-pub again_in_file : FileAgainLaw
-again_in_file b forced x w o a none stands accepted short fine outside put q there c here =
-    let (d, also, same) = algorithm_again b x w o (labelled forced a) accepted short fine outside put a stands in
-    let e = same_labels_added forced a c none (ap placeless (one_stands w c d here also) ∙ same) in (
-      region_again b x w o (labelled forced a) accepted short fine outside put q there (labelled forced c) e,
-      put_again_there b x w o (labelled forced a) accepted short fine outside put q there (labelled forced c) e,
-      text_again b x w o (labelled forced a) accepted short fine outside put q there (labelled forced c) e,
-    )
+pub labels_alike : (forced : Bool) (a c : Algorithm) → placeless c ≡ placeless a → placeless (labelled forced c) ≡ placeless (labelled forced a)
+labels_alike forced a c e = sym (labelled_bare forced c) ∙ ap (labelled forced) e ∙ labelled_bare forced a

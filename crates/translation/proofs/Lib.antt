@@ -123,9 +123,12 @@ pub mod KeptPrimes
 pub mod InnerSettled
 pub mod AllSettled
 pub mod InitRowsProcesses
-pub mod AgainWritten
+pub mod AgainOffences
+pub mod AgainAdded
 pub mod AgainLabels
 pub mod CanonicalTold
 pub mod CanonicalRuns
 pub mod CanonicalFaults
 pub mod CanonicalSteps
+pub mod AgainWritten
+pub mod AgainFiles

@@ -116,7 +116,7 @@ in_declared_bare [] = refl
 in_declared_bare (d ∷ ds) =
     two (lists_in_start (start_placeless d.start)) (lists_in_declared (declarations_placeless ds)) (lists_in_start d.start) (lists_in_declared ds) (start_bare d.start) (in_declared_bare ds)
 
-declarations_joined : (ds es : List Declaration) → declarations_placeless ds ++ declarations_placeless es ≡ declarations_placeless (ds ++ es)
+pub declarations_joined : (ds es : List Declaration) → declarations_placeless ds ++ declarations_placeless es ≡ declarations_placeless (ds ++ es)
 declarations_joined [] es = refl
 declarations_joined (d ∷ ds) es = λ i. record { name = name_placeless d.name; start = start_placeless d.start } ∷ declarations_joined ds es i
 

@@ -46,7 +46,7 @@ macros_joined : (ms ns : List Macro) → macros_placeless (ms ++ ns) ≡ macros_
 macros_joined [] ns = refl
 macros_joined (d ∷ ms) ns = ap (λ es. record { name = name_placeless d.name; params = names_placeless d.params; body = statements_placeless d.body } ∷ es) (macros_joined ms ns)
 
-macros_reversed : (ms : List Macro) → reverse (macros_placeless ms) ≡ macros_placeless (reverse ms)
+pub macros_reversed : (ms : List Macro) → reverse (macros_placeless ms) ≡ macros_placeless (reverse ms)
 macros_reversed [] = refl
 macros_reversed (d ∷ ms) =
     reverse_onto (macros_placeless ms) bare [] ∙ (λ i. macros_reversed ms i ++ (bare ∷ [])) ∙ sym (macros_joined (reverse ms) (d ∷ [])) ∙ sym (ap macros_placeless (reverse_onto ms d []))

@@ -55,7 +55,7 @@ label_bare done l = refl
 label_bare (then at st rest) l = refl
 label_bare (mark m k rest) l = refl
 
-partner_bare : (ss : Statements) → partner_of (statements_placeless ss) ≡ partner_placeless (partner_of ss)
+pub partner_bare : (ss : Statements) → partner_of (statements_placeless ss) ≡ partner_placeless (partner_of ss)
 partner_bare done = refl
 partner_bare (mark m k rest) = refl
 partner_bare (then at st rest) = by st

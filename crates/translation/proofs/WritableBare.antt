@@ -125,7 +125,7 @@ clashes_with_bare : (l : Tree) (ms : Assignments) → clashes_with (tree_placele
 clashes_with_bare l no_assignments = refl
 clashes_with_bare l (assignment m e ms) = λ i. clash_bare l m i || clashes_with_bare l ms i
 
-clashes_bare : (ms : Assignments) → clashes (assignments_placeless ms) ≡ clashes ms
+pub clashes_bare : (ms : Assignments) → clashes (assignments_placeless ms) ≡ clashes ms
 clashes_bare no_assignments = refl
 clashes_bare (assignment l e ms) = λ i. clashes_with_bare l ms i || clashes_bare ms i
 
@@ -266,7 +266,7 @@ module _ (X Y : Writing) (same : (at : Span) (m : Word) (ts : Trees) → stateme
     expand_some_bare no_branches = refl
     expand_some_bare (or b bs) = λ i. or (expand_bare b i) (expand_some_bare bs i)
 
-arguments_bare : (ps : List Name) (ts : Trees) (x : Word) (at : Place) → arguments (names_placeless ps) (trees_placeless ts) x nowhere ≡ option_map tree_placeless (arguments ps ts x at)
+pub arguments_bare : (ps : List Name) (ts : Trees) (x : Word) (at : Place) → arguments (names_placeless ps) (trees_placeless ts) x nowhere ≡ option_map tree_placeless (arguments ps ts x at)
 arguments_bare [] ts x at = refl
 arguments_bare (p ∷ ps) no_trees x at = refl
 arguments_bare (p ∷ ps) (tree t ts) x at = by (bytes_eq p.word x) (arguments_bare ps ts x at)

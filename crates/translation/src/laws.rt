@@ -266,7 +266,7 @@ pub fn process_set_and_termination_are_of_all_processes()
 {}
 
 /// Translating again changes nothing: of an algorithm that is the accepted one but for places, as that in the translated file is, beside what that file has outside, the same
-/// is written, and where it is put in again, the file stays as it is. So a translated file to whose algorithm no labels are added is translated to itself.
+/// is written, and where it is put in again, the file stays as it is. So a translated file is translated to itself, labels added too.
 pub fn translating_again_changes_nothing()
     ensures alike { AgainLaw }
     ensures files { FileAgainLaw }

@@ -1,6 +1,6 @@
 -- What actions, ProcSet, Termination and the formulas of fairness of a written module are to say, and what translating again leaves as it is ("A PlusCal User's Manual", sections 2.6, 3.3 and 3.7;
 -- "Specifying Systems", section 8.9).
-use Rattle.std.specs.Prelude.{◌≡◌, ◌<◌, length, List, Bool, true, false, ◌||◌, ◌&&◌, codes, Option, Some, None, Ok}
+use Rattle.std.specs.Prelude.{◌≡◌, ◌<◌, length, List, Bool, true, codes, Option, Some, None, Ok}
 use Rattle.std.specs.List.{AllByRecursion}
 use Rattle.tla_token.specs.Limits.{past_text}
 use Rattle.tla_tree.specs.Tree.{Word, Tree}
@@ -22,14 +22,13 @@ use Rattle.module_tree.specs.laws.Outsides.{HasOutside}
 use Rattle.pcal_tree.specs.Algorithm.{Algorithm}
 use Rattle.pcal_tree.specs.Calls.{label_name}
 use Rattle.pcal_tree.specs.Faults.{Sound}
-use Rattle.pcal_tree.specs.Labelled.{is_alone, typed_labels, labelled}
+use Rattle.pcal_tree.specs.Labelled.{labelled}
 use Rattle.pcal_tree.specs.Placeless.{placeless}
 use Rattle.pcal_tree.specs.Processes.{OneOf, identifier, identifiers, actors, IsActor}
 use Rattle.pcal_tree.specs.Program.{Program, Actor}
 use Rattle.pcal_tree.specs.Scope.{State}
 use Rattle.pcal_tree.specs.Step.{Stand, pc_of, StepFrom}
 use Rattle.pcal_tree.specs.Takers.{Taken}
-use Rattle.pcal_tree.specs.Tests.{is_empty}
 use Rattle.pcal_tree.specs.Variables.{on_variables}
 use Rattle.action_builder.specs.WrittenNames.{with_names}
 use Rattle.fairness.specs.Demands.{Demand, all_steps, routine_steps, label_steps, demands}
@@ -101,13 +100,9 @@ AgainLaw = (b : Bool) (x w : Text) (o : Outside) (g : Algorithm) → IsAccepted 
     → (q : Outside) → HasOutside (walk w) q → (h : Algorithm) → placeless h ≡ placeless g
     → (written_region b q h ≡ written_region b o g) × WithTranslation w (layout (written_region b q h)) w × ((u : Text) → WithTranslation w (layout (written_region b q h)) u → u ≡ w)
 
--- labels are added, since that is asked for, or since a uniprocess algorithm has none
-abbrev pub adds_labels : Bool → Algorithm → Bool
-adds_labels forced a = forced || (is_alone a.main && is_empty (typed_labels a))
-
--- where none are, it is the algorithm that stands in the translated file
+-- of the algorithm that stands in the translated file, with labels added as before
 abbrev pub FileAgainLaw : Type 0
-FileAgainLaw = (b forced : Bool) (x w : Text) (o : Outside) (a : Algorithm) → adds_labels forced a ≡ false → Stands x a → IsAccepted o (labelled forced a) → length x < past_text → IsFine x → HasOutside (walk x) o
+FileAgainLaw = (b forced : Bool) (x w : Text) (o : Outside) (a : Algorithm) → Stands x a → IsAccepted o (labelled forced a) → length x < past_text → IsFine x → HasOutside (walk x) o
     → WithTranslation x (layout (written_region b o (labelled forced a))) w → (q : Outside) → HasOutside (walk w) q → (c : Algorithm) → Stands w c
     → (written_region b q (labelled forced c) ≡ written_region b o (labelled forced a)) × WithTranslation w (layout (written_region b q (labelled forced c))) w
     × ((u : Text) → WithTranslation w (layout (written_region b q (labelled forced c))) u → u ≡ w)

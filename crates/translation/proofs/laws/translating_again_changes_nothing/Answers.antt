@@ -1,5 +1,5 @@
 -- Proves the law `translating_again_changes_nothing`.
-use Rattle.translation.proofs.AgainLabels.{again_in_file}
+use Rattle.translation.proofs.AgainFiles.{again_in_file}
 use Rattle.translation.proofs.AgainWritten.{region_again, put_again_there, text_again}
 use Rattle.translation.proofs.laws.translating_again_changes_nothing.Goals as goal
 
