@@ -125,3 +125,7 @@ pub mod AllSettled
 pub mod InitRowsProcesses
 pub mod AgainWritten
 pub mod AgainLabels
+pub mod RowsRight
+pub mod RowsShown
+pub mod RowsSpelled
+pub mod RowsAdding

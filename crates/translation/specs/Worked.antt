@@ -1,0 +1,92 @@
+-- What is shown of a worked file: nothing is wrong with it, and states are on both sides of what its Next and its Init are to say. So the promise speaks of something.
+use Rattle.std.specs.Prelude.{◌≡◌, ◌<◌, List, [], ◌∷◌, ◌++◌, length, Bool, true, false, cond, bytes_eq, codes, Option, Some, None, Ok}
+use Rattle.tla_token.specs.Limits.{past_text}
+use Rattle.tla_tree.specs.Tree.{Word}
+use Rattle.tla_value.specs.Value.{Value, truth}
+use Rattle.tla_value.specs.Stops.{plain}
+use Rattle.tla_value.specs.Definitions.{Valuation}
+use Rattle.pcal_tree.specs.Faults.{Sound}
+use Rattle.pcal_tree.specs.InitialStates.{Initial}
+use Rattle.pcal_tree.specs.Labelled.{labelled}
+use Rattle.pcal_tree.specs.Program.{Program}
+use Rattle.pcal_tree.specs.Scope.{State}
+use Rattle.pcal_tree.specs.Step.{Step}
+use Rattle.pcal_tree.specs.Variables.{on_variables}
+use Rattle.module_tree.specs.Module.{Module}
+use Rattle.module_tree.specs.ModuleTruth.{next_holds, init_holds}
+use Rattle.module_tree.specs.Reading.{Reads}
+use Rattle.module_tree.specs.TextFront.{Text}
+use Rattle.promise.specs.ConstantsAndStates.{program, AreConstants, IsState}
+use Rattle.promise.specs.NextAndInit.{Moves}
+use Rattle.promise.specs.Options.{Options}
+use Rattle.file_answer.specs.Checking.{AnswersChecking}
+use Rattle.translation.specs.PromiseWhole.{WrittenWhole}
+
+-- ---- texts, states and constants
+
+-- lines, each with its end
+abbrev pub lines : List Text → Text
+lines [] = []
+lines (l ∷ ls) = l ++ (codes "\n" ++ lines ls)
+
+-- each of these constants has this value, and no other has one
+abbrev pub constants : List (Word × Value) → Valuation
+constants [] x = None
+constants ((y, v) ∷ more) x = cond (bytes_eq y x) (Some v) (constants more x)
+
+-- each of these variables has this value
+abbrev pub state : List (Word × Value) → State
+state [] x = truth false
+state ((y, v) ∷ more) x = cond (bytes_eq y x) v (state more x)
+
+-- ---- an example of steps
+
+-- the values of constants, and states one after the other; and one that is no start, and that doesn't follow the first
+pub record Example : Type 0 where
+  pub values : Valuation
+  pub first : State
+  pub later : List State
+  pub other : State
+
+-- each state is sound, and some process steps from it to the next
+abbrev pub Goes : Program → State → List State → Type 0
+Goes P s [] = Unit {0}
+Goes P s (t ∷ ts) = Sound P s × Step P s t × IsState P t × Goes P t ts
+
+-- the algorithm's side: a run from an initial state, a state that isn't initial, and a pair that is no step, nor the end that stutters
+pub record Runs (P : Program) (e : Example) : Type 0 where
+  pub is : IsState P e.first
+  pub initial : Initial P e.first
+  pub goes : Goes P e.first e.later
+  pub other_is : IsState P e.other
+  pub not_initial : Initial P e.other → ⊥
+  pub no_step : (no_terminating : Bool) → Moves no_terminating P e.first e.other → ⊥
+
+abbrev pub NextTrue : Module → Program → Valuation → State → List State → Type 0
+NextTrue m P values s [] = Unit {0}
+NextTrue m P values s (t ∷ ts) = (next_holds plain m values (on_variables P s) (on_variables P t) ≡ Ok true) × NextTrue m P values t ts
+
+-- the module's side: Next and Init are true of the one, and false of the other
+pub record Says (m : Module) (P : Program) (e : Example) : Type 0 where
+  pub next_true : NextTrue m P e.values e.first e.later
+  pub next_false : next_holds plain m e.values (on_variables P e.first) (on_variables P e.other) ≡ Ok false
+  pub init_true : init_holds plain m e.values (on_variables P e.first) ≡ Ok true
+  pub init_false : init_holds plain m e.values (on_variables P e.other) ≡ Ok false
+
+-- ---- of a file
+
+-- what is written for x with these options, the module as which it reads, and both sides there
+pub record HasBothSides (options : Options) (x : Text) (e : Example) : Type 0 where
+  pub written : Text
+  pub whole : WrittenWhole options x written
+  pub module_of : Module
+  pub reads : Reads written module_of
+  pub constants : AreConstants module_of e.values
+  pub runs : Runs (program (labelled options.label whole.algorithm) module_of e.values) e
+  pub says : Says module_of (program (labelled options.label whole.algorithm) module_of e.values) e
+
+-- a file of which the promise speaks, with each option
+pub record MeetsPremises (x : Text) (e : Example) : Type 0 where
+  pub right : (forced : Bool) → AnswersChecking forced x None
+  pub short : length x < past_text
+  pub both : (options : Options) → HasBothSides options x e
