@@ -129,3 +129,5 @@ pub mod RowsRight
 pub mod RowsShown
 pub mod RowsSpelled
 pub mod RowsAdding
+pub mod RowsCounting
+pub mod RowsPicking
