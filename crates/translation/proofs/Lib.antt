@@ -126,6 +126,7 @@ pub mod InitRowsProcesses
 pub mod AgainWritten
 pub mod AgainLabels
 pub mod RowsRight
+pub mod RowsRuns
 pub mod RowsShown
 pub mod RowsSpelled
 pub mod RowsAdding

@@ -25,7 +25,8 @@ use Rattle.translation.specs.Worked.{MeetsPremises}
 use Rattle.translation.specs.WorkedFiles.{adding_file, adding_constants, adding}
 use Rattle.translation.proofs.RowsProcedures.{sequences}
 use Rattle.translation.proofs.RowsRight.{nothing, text_of, IsSpelled, spelled_holds, nothing_wrong}
-use Rattle.translation.proofs.RowsShown.{no_other, all_canonical, IsComputed, meets}
+use Rattle.translation.proofs.RowsRuns.{no_other, all_canonical}
+use Rattle.translation.proofs.RowsShown.{IsComputed, meets}
 use Rattle.translation.proofs.RowsSpelled.{at, named, number, name}
 
 abbrev adding_text : Text
@@ -120,6 +121,10 @@ computed = record {
   no_start = refl;
   quiet = refl;
   run = refl;
+  ended = search;
+  quiet_end = refl;
+  done = refl;
+  stays = refl;
   apart = refl;
 }
 

@@ -20,7 +20,8 @@ use Rattle.file_answer.specs.Checking.{OfTree, AnswersChecking}
 use Rattle.translation.specs.Worked.{MeetsPremises}
 use Rattle.translation.specs.WorkedFiles.{counting_file, counting_constants, counting}
 use Rattle.translation.proofs.RowsRight.{nothing, text_of, IsSpelled, spelled_holds, nothing_wrong}
-use Rattle.translation.proofs.RowsShown.{no_other, all_canonical, IsComputed, meets}
+use Rattle.translation.proofs.RowsRuns.{no_other, all_canonical}
+use Rattle.translation.proofs.RowsShown.{IsComputed, meets}
 use Rattle.translation.proofs.RowsSpelled.{at, named, number, name}
 
 abbrev counting_text : Text
@@ -101,6 +102,10 @@ computed = record {
   no_start = refl;
   quiet = refl;
   run = refl;
+  ended = search;
+  quiet_end = refl;
+  done = refl;
+  stays = refl;
   apart = refl;
 }
 

@@ -19,7 +19,8 @@ use Rattle.file_answer.specs.Checking.{OfTree, AnswersChecking}
 use Rattle.translation.specs.Worked.{MeetsPremises}
 use Rattle.translation.specs.WorkedFiles.{picking_file, picking_constants, picking}
 use Rattle.translation.proofs.RowsRight.{nothing, text_of, IsSpelled, spelled_holds, nothing_wrong}
-use Rattle.translation.proofs.RowsShown.{no_other, all_canonical, IsComputed, meets}
+use Rattle.translation.proofs.RowsRuns.{no_other, all_canonical}
+use Rattle.translation.proofs.RowsShown.{IsComputed, meets}
 use Rattle.translation.proofs.RowsSpelled.{at, named, number, name}
 
 abbrev picking_text : Text
@@ -96,6 +97,10 @@ computed = record {
   no_start = refl;
   quiet = refl;
   run = refl;
+  ended = search;
+  quiet_end = refl;
+  done = refl;
+  stays = refl;
   apart = refl;
 }
 

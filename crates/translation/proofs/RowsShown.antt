@@ -1,5 +1,5 @@
 -- That what is written for a worked file has both sides, from what is computed of its algorithm: of a run, of one state that is no start, and of one pair that is no step.
-use Rattle.std.proofs.Common.{◌≡◌, ◌<◌, length, List, [], ◌∷◌, Bool, true, false, ◌&&◌, ◌||◌, cond, bytes_eq, map, codes, Option, Some, None, Ok, Err, refl, sym, ap, subst, ◌∙◌, inl, inr}
+use Rattle.std.proofs.Common.{◌≡◌, ◌<◌, length, List, [], ◌∷◌, Bool, true, false, not, ◌&&◌, codes, Option, Some, None, Ok, Err, refl, sym, ap, subst, ◌∙◌, inl, inr}
 use Rattle.std.specs.Bool.{IsTrue}
 use Rattle.std.specs.Prelude.{is_some}
 use Rattle.tla_token.specs.Limits.{past_text}
@@ -7,25 +7,23 @@ use Rattle.tla_token.specs.Signs.{is_among}
 use Rattle.tla_token.specs.declared.place.Place.{Place}
 use Rattle.tla_tree.specs.Tree.{Word, Each}
 use Rattle.tla_value.specs.declared.fault.FaultKind.{FaultKind}
-use Rattle.tla_value.specs.Order.{same, IsCanonical}
-use Rattle.tla_value.specs.OrderLaws.{same_is}
 use Rattle.tla_value.specs.Outside.{Outside}
 use Rattle.tla_value.specs.Stops.{plain}
-use Rattle.tla_value.specs.Value.{Value, Trouble, Outcome, TrueExactly}
+use Rattle.tla_value.specs.Value.{Trouble, Outcome, TrueExactly}
+use Rattle.tla_value.proofs.Outcomes.{ok_is}
 use Rattle.pcal_tree.specs.Algorithm.{Algorithm}
 use Rattle.pcal_tree.specs.Faults.{Sound}
-use Rattle.pcal_tree.specs.FirstTrouble.{stand_named, trouble_of_all, FirstTrouble}
+use Rattle.pcal_tree.specs.FirstTrouble.{trouble_of_all, FirstTrouble}
 use Rattle.pcal_tree.specs.InitialStates.{allowed, Initial}
 use Rattle.pcal_tree.specs.Labelled.{labelled}
-use Rattle.pcal_tree.specs.Processes.{OneOf, actors}
+use Rattle.pcal_tree.specs.Processes.{actors}
 use Rattle.pcal_tree.specs.Program.{Program, Actor}
 use Rattle.pcal_tree.specs.Programs.{program_in}
-use Rattle.pcal_tree.specs.Run.{Course, ends, stops, chooses, Has}
 use Rattle.pcal_tree.specs.Scope.{State}
-use Rattle.pcal_tree.specs.Step.{pc_of, Stand, routines_of, course_of, StepFrom, Step}
-use Rattle.pcal_tree.specs.Variables.{vars, on_variables, Agree}
+use Rattle.pcal_tree.specs.Step.{Step}
+use Rattle.pcal_tree.specs.Variables.{on_variables}
 use Rattle.pcal_tree.proofs.OneStand.{stands_once}
-use Rattle.pcal_tree.proofs.TroubleLaws.{found_stands, quiet_sound}
+use Rattle.pcal_tree.proofs.TroubleLaws.{quiet_sound}
 use Rattle.module_tree.specs.Layout.{layout}
 use Rattle.module_tree.specs.Module.{Module}
 use Rattle.module_tree.specs.ModuleTruth.{next_holds, init_holds}
@@ -47,7 +45,7 @@ use Rattle.file_answer.proofs.OneTree.{one_held, one_stands}
 use Rattle.action_builder.specs.WrittenNames.{with_names}
 use Rattle.translation.specs.PromiseWhole.{WrittenWhole}
 use Rattle.translation.specs.Region.{region_of, written_region}
-use Rattle.translation.specs.Worked.{constants, Example, Goes, Runs, NextTrue, Says, HasBothSides, MeetsPremises}
+use Rattle.translation.specs.Worked.{Example, Goes, Runs, NextTrue, Says, HasBothSides, MeetsPremises}
 use Rattle.translation.specs.laws.AcceptedAlgorithm.{IsAcceptedInFile}
 use Rattle.translation.proofs.AcceptedAlgorithms.{text_writable}
 use Rattle.translation.proofs.KeptAccepted.{checked_is_fine, some_stands, stands_held, stands_in_file}
@@ -55,114 +53,15 @@ use Rattle.translation.proofs.KeptPromise.{some_whole}
 use Rattle.translation.proofs.NamesApart.{writable}
 use Rattle.translation.proofs.NextLaw.{next_law, kept_law}
 use Rattle.translation.proofs.NextTitles.{clear}
+use Rattle.translation.proofs.RowsRuns.{both, is_quiet, some_goes, runs, all_done, step_made, end_stutters}
 use Rattle.translation.proofs.SameProgram.{same_program}
 use Rattle.translation.proofs.WritableRegions.{written_is_region}
-
--- ---- tests of a run
-
-abbrev agree : List Word → State → State → Bool
-agree [] s t = true
-agree (x ∷ xs) s t = same (s x) (t x) && agree xs s t
-
-both : (a b : Bool) → (a && b) ≡ true → (a ≡ true) × (b ≡ true)
-both true b e = (refl, e)
-both false b e = cc
-
-agreed : (xs : List Word) (s t : State) → agree xs s t ≡ true → Agree xs s t
-agreed [] s t e = tt
-agreed (x ∷ xs) s t e = (let q = both (same (s x) (t x)) (agree xs s t) e in (same_is (s x) (t x) q.0, agreed xs s t q.1))
-
--- it ends, with no choice, in a state with the values of t
-abbrev ends_in : Program → Course → State → Bool
-ends_in P (ends u) t = agree (vars P) u t
-ends_in P _ t = false
-
-abbrev goes_from : Program → Actor → State → State → Option Stand → Bool
-goes_from P v s t (Some d) = ends_in P (course_of P v d s) t
-goes_from P v s t None = false
-
-abbrev goes_at : Program → Actor → State → State → Outcome Value → Bool
-goes_at P v s t (Ok w) = goes_from P v s t (stand_named P w (routines_of P v))
-goes_at P v s t (Err k) = false
-
--- one of the processes goes so
-abbrev some_goes : Program → List Actor → State → State → Bool
-some_goes P [] s t = false
-some_goes P (v ∷ vs) s t = goes_at P v s t (pc_of v s) || some_goes P vs s t
-
-abbrev is_quiet : Option Trouble → Bool
-is_quiet None = true
-is_quiet (Some k) = false
-
--- nothing is in trouble in a state, and some process goes to the next one
-abbrev pub runs : Program → List Actor → State → List State → Bool
-runs P vs s [] = true
-runs P vs s (t ∷ ts) = (is_quiet (trouble_of_all P s vs) && some_goes P vs s t) && runs P vs t ts
-
-module _ (P : Program) (s t : State) where
-  ended : (c : Course) → ends_in P c t ≡ true → (u : State) × Has c (Ok u) × Agree (vars P) u t
-  ended (ends u) e = (u, refl, agreed (vars P) u t e)
-  ended (stops k) e = cc
-  ended (chooses at cs) e = cc
-
-  gone : (v : Actor) → goes_at P v s t (pc_of v s) ≡ true → (d : Stand) × StepFrom P v d s t
-  gone v e = by (pc_of v s) refl e
-    where
-      by_stand : (w : Value) → pc_of v s ≡ Ok w → (q : Option Stand) → stand_named P w (routines_of P v) ≡ q → goes_from P v s t q ≡ true → (d : Stand) × StepFrom P v d s t
-      by_stand w p None q e = cc
-      by_stand w p (Some d) q e = (d, (found_stands P s v w d p q, ended (course_of P v d s) e))
-
-      by : (r : Outcome Value) → pc_of v s ≡ r → goes_at P v s t r ≡ true → (d : Stand) × StepFrom P v d s t
-      by (Err k) p e = cc
-      by (Ok w) p e = by_stand w p (stand_named P w (routines_of P v)) refl e
-
-  some_gone : (vs : List Actor) → some_goes P vs s t ≡ true → (v : Actor) × OneOf v vs × ((d : Stand) × StepFrom P v d s t)
-  some_gone [] e = cc
-  some_gone (v ∷ vs) e = by (some_gone vs) (goes_at P v s t (pc_of v s)) refl e
-    where
-      later : ((w : Actor) × OneOf w vs × ((d : Stand) × StepFrom P w d s t)) → (w : Actor) × OneOf w (v ∷ vs) × ((d : Stand) × StepFrom P w d s t)
-      later (w, one, k) = (w, inr one, k)
-
-      by : (some_goes P vs s t ≡ true → (w : Actor) × OneOf w vs × ((d : Stand) × StepFrom P w d s t)) → (b : Bool) → goes_at P v s t (pc_of v s) ≡ b → (b || some_goes P vs s t) ≡ true → (w : Actor) × OneOf w (v ∷ vs) × ((d : Stand) × StepFrom P w d s t)
-      by ih true p e = (v, inl refl, gone v p)
-      by ih false p e = later (ih e)
-
-  step_made : (vs : List Actor) → actors P ≡ Ok vs → some_goes P vs s t ≡ true → Step P s t
-  step_made vs all e = (let (v, one, (d, from)) = some_gone vs e in (v, d, (vs, all, one), from))
 
 abbrev pub AreStates : Program → List State → Type 0
 AreStates P [] = Unit {0}
 AreStates P (t ∷ ts) = IsState P t × AreStates P ts
 
--- ---- constants
-
-abbrev AreAllCanonical : List (Word × Value) → Type 0
-AreAllCanonical [] = Unit {0}
-AreAllCanonical (p ∷ ps) = IsCanonical p.1 × AreAllCanonical ps
-
-pub no_other : (ps : List (Word × Value)) (x : Word) → is_among (map (λ (p : Word × Value). p.0) ps) x ≡ false → constants ps x ≡ None
-no_other [] x e = refl
-no_other ((y, v) ∷ ps) x e = by (no_other ps x) (bytes_eq y x) e
-  where
-    by : (is_among (map (λ (p : Word × Value). p.0) ps) x ≡ false → constants ps x ≡ None) → (b : Bool) → (b || is_among (map (λ (p : Word × Value). p.0) ps) x) ≡ false → cond b (Some v) (constants ps x) ≡ None
-    by ih true e = cc
-    by ih false e = ih e
-
-pub all_canonical : (ps : List (Word × Value)) → AreAllCanonical ps → (x : Word) (w : Value) → constants ps x ≡ Some w → IsCanonical w
-all_canonical [] k x w e = cc
-all_canonical ((y, v) ∷ ps) k x w e = by (all_canonical ps k.1 x w) (bytes_eq y x) e
-  where
-    same_some : (a b : Value) → ◌≡◌ {A = Option Value} (Some a) (Some b) → a ≡ b
-    same_some a b z = cc
-
-    by : (constants ps x ≡ Some w → IsCanonical w) → (b : Bool) → cond b (Some v) (constants ps x) ≡ Some w → IsCanonical w
-    by ih true e = subst IsCanonical (same_some v w e) k.0
-    by ih false e = ih e
-
 -- ---- an algorithm that is accepted
-
-ok_is : {X : Type 0} (u v : X) → ◌≡◌ {A = Outcome X} (Ok u) (Ok v) → u ≡ v
-ok_is u v e = cc
 
 module _ (o : Outside) (g : Algorithm) (accepted : IsAcceptedInFile o g) (e : Example) where
   abbrev P : Program
@@ -175,7 +74,7 @@ module _ (o : Outside) (g : Algorithm) (accepted : IsAcceptedInFile o g) (e : Ex
   sound_here vs s all quiet = quiet_sound P s (vs, all) (stands_once P o refl (writable o g accepted).few (clear o g accepted e.values) s) none
     where
       none : (k : Trouble) → FirstTrouble P s k → ⊥
-      none k (ws, also, q) = no (sym (ap (λ us. is_quiet (trouble_of_all P s us)) (ok_is ws vs (sym also ∙ all)) ∙ quiet) ∙ ap is_quiet q)
+      none k (ws, also, q) = no (sym (ap (λ us. is_quiet (trouble_of_all P s us)) (ok_is (sym also ∙ all)) ∙ quiet) ∙ ap is_quiet q)
         where
           no : true ≡ false → ⊥
           no z = cc
@@ -188,7 +87,7 @@ module _ (o : Outside) (g : Algorithm) (accepted : IsAcceptedInFile o g) (e : Ex
       (sound_here vs s all p.0, step_made P s t vs all p.1, are.0, goes_by vs all t ts q.1 are.1)
 
   no_move : (b : Bool) (v : Outcome Bool) (s t : State) → TrueExactly v (Moves b P s t) → v ≡ Ok false → Moves b P s t → ⊥
-  no_move b v s t (c, f, h) e k = no (sym (h.1 k) ∙ ok_is c false (sym f ∙ e))
+  no_move b v s t (c, f, h) e k = no (sym (h.1 k) ∙ ok_is (sym f ∙ e))
     where
       no : true ≡ false → ⊥
       no z = cc
@@ -209,6 +108,10 @@ pub record IsComputed (o : Outside) (g : Algorithm) (e : Example) : Type 0 where
   pub no_start : allowed (program_in plain o g e.values) e.other ≡ Ok false
   pub quiet : is_quiet (trouble_of_all (program_in plain o g e.values) e.first processes) ≡ true
   pub run : runs (program_in plain o g e.values) processes e.first e.later ≡ true
+  pub ended : IsState (program_in plain o g e.values) e.ended
+  pub quiet_end : is_quiet (trouble_of_all (program_in plain o g e.values) e.ended processes) ≡ true
+  pub done : all_done processes e.ended ≡ true
+  pub stays : next_holds plain (record { title = []; outside = o; region = region_of true (with_names o g) }) e.values (on_variables (program_in plain o g e.values) e.ended) (on_variables (program_in plain o g e.values) e.ended) ≡ Ok false
   pub apart : next_holds plain (record { title = []; outside = o; region = region_of false (with_names o g) }) e.values (on_variables (program_in plain o g e.values) e.first) (on_variables (program_in plain o g e.values) e.other) ≡ Ok false
 
 module _ (o : Outside) (g : Algorithm) (accepted : IsAcceptedInFile o g) (e : Example) (c : IsComputed o g e) where
@@ -218,17 +121,27 @@ module _ (o : Outside) (g : Algorithm) (accepted : IsAcceptedInFile o g) (e : Ex
   truth : true ≡ false → ⊥
   truth z = cc
 
+  -- no matter which region the module has
+  ending : AreConstants (record { title = []; outside = o; region = region_of true (with_names o g) }) e.values
+  ending = record { unset = c.constants.unset; given = c.constants.given; no_other = c.constants.no_other; canonical = c.constants.canonical }
+
   all_runs : Runs own e
   all_runs = record {
     is = c.first;
     initial = c.starts;
     goes = goes_by o g accepted e c.processes c.all e.first e.later c.run c.later;
     other_is = c.other;
-    not_initial = λ i. truth (ok_is true false (sym i ∙ c.no_start));
+    not_initial = λ i. truth (ok_is (sym i ∙ c.no_start));
     no_step = λ b k.
         no_move o g accepted e false _ e.first e.other
         (next_law false [] o g accepted e.values e.first e.other c.constants c.first c.other (sound_here o g accepted e c.processes e.first c.all c.quiet)) c.apart
         (same_moves o g accepted e b e.first e.other k);
+    ended_is = c.ended;
+    sound = sound_here o g accepted e c.processes e.ended c.all c.quiet_end;
+    stutters = end_stutters own c.processes e.ended c.all c.done;
+    no_more =
+        no_move o g accepted e true _ e.ended e.ended
+        (next_law true [] o g accepted e.values e.ended e.ended ending c.ended c.ended (sound_here o g accepted e c.processes e.ended c.all c.quiet_end)) c.stays;
   }
 
   module _ (b : Bool) (m : Module) (same : SameOutside o m.outside) (regions : region_placeless m.region ≡ region_placeless (written_region b o g)) where
@@ -270,6 +183,10 @@ module _ (o : Outside) (g : Algorithm) (accepted : IsAcceptedInFile o g) (e : Ex
     next_by s [] is k = tt
     next_by s (t ∷ ts) is k = (true_by _ _ (next e.values s t constants_there is k.2 k.0) (moves b s t k.1), next_by t ts k.2 k.3)
 
+    ended_by : (b : Bool) → TrueExactly (next_holds plain m e.values (on_variables Q e.ended) (on_variables Q e.ended)) (Moves b Q e.ended e.ended) → next_holds plain m e.values (on_variables Q e.ended) (on_variables Q e.ended) ≡ Ok (not b)
+    ended_by true k = false_by _ _ k runs_there.no_more
+    ended_by false k = true_by _ _ k (inr runs_there.stutters)
+
     init_there : (a : Bool) (s : State) → IsState Q s → allowed own s ≡ Ok a → TrueExactly (init_holds plain m e.values (on_variables Q s)) (Initial Q s)
     init_there a s is f =
         (kept_law b o g m accepted same regions).1 e.values s constants_there is sound_there.0 (λ kind at h. fine (sym (subst (λ (P : Program). allowed P s ≡ Ok a) q f) ∙ h))
@@ -277,10 +194,11 @@ module _ (o : Outside) (g : Algorithm) (accepted : IsAcceptedInFile o g) (e : Ex
         fine : {k : Trouble} → ◌≡◌ {A = Outcome Bool} (Ok a) (Err k) → ⊥
         fine z = cc
 
-    pub says_there : Says m Q e
+    pub says_there : Says b m Q e
     says_there = record {
       next_true = next_by e.first e.later runs_there.is runs_there.goes;
       next_false = false_by _ _ (next e.values e.first e.other constants_there runs_there.is runs_there.other_is sound_there) (runs_there.no_step b);
+      next_ended = ended_by b (next e.values e.ended e.ended constants_there runs_there.ended_is runs_there.ended_is runs_there.sound);
       init_true = true_by _ _ (init_there true e.first runs_there.is c.starts) runs_there.initial;
       init_false = false_by _ _ (init_there false e.other runs_there.other_is c.no_start) runs_there.not_initial;
     }
@@ -327,7 +245,7 @@ module _ (x : Text) (a g : Algorithm) (o : Outside) (e : Example) (right : (forc
           subst (λ (h : Algorithm). Runs (program h k.is.written e.values) e) (sym algorithm_is)
           (runs_there o g accepted e c options.no_terminating k.is.written k.is.outside regions);
       says =
-          subst (λ (h : Algorithm). Says k.is.written (program h k.is.written e.values) e) (sym algorithm_is)
+          subst (λ (h : Algorithm). Says options.no_terminating k.is.written (program h k.is.written e.values) e) (sym algorithm_is)
           (says_there o g accepted e c options.no_terminating k.is.written k.is.outside regions);
     }
 

@@ -1,5 +1,5 @@
 -- What is shown of a worked file: nothing is wrong with it, and states are on both sides of what its Next and its Init are to say. So the promise speaks of something.
-use Rattle.std.specs.Prelude.{◌≡◌, ◌<◌, List, [], ◌∷◌, ◌++◌, length, Bool, true, false, cond, bytes_eq, codes, Option, Some, None, Ok}
+use Rattle.std.specs.Prelude.{◌≡◌, ◌<◌, List, [], ◌∷◌, ◌++◌, length, Bool, true, false, not, cond, bytes_eq, codes, Option, Some, None, Ok}
 use Rattle.tla_token.specs.Limits.{past_text}
 use Rattle.tla_tree.specs.Tree.{Word}
 use Rattle.tla_value.specs.Value.{Value, truth}
@@ -10,7 +10,7 @@ use Rattle.pcal_tree.specs.InitialStates.{Initial}
 use Rattle.pcal_tree.specs.Labelled.{labelled}
 use Rattle.pcal_tree.specs.Program.{Program}
 use Rattle.pcal_tree.specs.Scope.{State}
-use Rattle.pcal_tree.specs.Step.{Step}
+use Rattle.pcal_tree.specs.Step.{Step, Stutters}
 use Rattle.pcal_tree.specs.Variables.{on_variables}
 use Rattle.module_tree.specs.Module.{Module}
 use Rattle.module_tree.specs.ModuleTruth.{next_holds, init_holds}
@@ -41,19 +41,20 @@ state ((y, v) ∷ more) x = cond (bytes_eq y x) v (state more x)
 
 -- ---- an example of steps
 
--- the values of constants, and states one after the other; and one that is no start, and that doesn't follow the first
+-- the values of constants, and states one after the other; one that is no start, and that doesn't follow the first; and one in which all are done
 pub record Example : Type 0 where
   pub values : Valuation
   pub first : State
   pub later : List State
   pub other : State
+  pub ended : State
 
 -- each state is sound, and some process steps from it to the next
 abbrev pub Goes : Program → State → List State → Type 0
 Goes P s [] = Unit {0}
 Goes P s (t ∷ ts) = Sound P s × Step P s t × IsState P t × Goes P t ts
 
--- the algorithm's side: a run from an initial state, a state that isn't initial, and a pair that is no step, nor the end that stutters
+-- the algorithm's side: a run from an initial state, a state that isn't initial, a pair that is no step, nor the end that stutters, and such an end
 pub record Runs (P : Program) (e : Example) : Type 0 where
   pub is : IsState P e.first
   pub initial : Initial P e.first
@@ -61,15 +62,20 @@ pub record Runs (P : Program) (e : Example) : Type 0 where
   pub other_is : IsState P e.other
   pub not_initial : Initial P e.other → ⊥
   pub no_step : (no_terminating : Bool) → Moves no_terminating P e.first e.other → ⊥
+  pub ended_is : IsState P e.ended
+  pub sound : Sound P e.ended
+  pub stutters : Stutters P e.ended e.ended
+  pub no_more : Step P e.ended e.ended → ⊥
 
 abbrev pub NextTrue : Module → Program → Valuation → State → List State → Type 0
 NextTrue m P values s [] = Unit {0}
 NextTrue m P values s (t ∷ ts) = (next_holds plain m values (on_variables P s) (on_variables P t) ≡ Ok true) × NextTrue m P values t ts
 
--- the module's side: Next and Init are true of the one, and false of the other
-pub record Says (m : Module) (P : Program) (e : Example) : Type 0 where
+-- the module's side: Next and Init are true of the one, and false of the other; with the option there is no end that stutters
+pub record Says (no_terminating : Bool) (m : Module) (P : Program) (e : Example) : Type 0 where
   pub next_true : NextTrue m P e.values e.first e.later
   pub next_false : next_holds plain m e.values (on_variables P e.first) (on_variables P e.other) ≡ Ok false
+  pub next_ended : next_holds plain m e.values (on_variables P e.ended) (on_variables P e.ended) ≡ Ok (not no_terminating)
   pub init_true : init_holds plain m e.values (on_variables P e.first) ≡ Ok true
   pub init_false : init_holds plain m e.values (on_variables P e.other) ≡ Ok false
 
@@ -83,7 +89,7 @@ pub record HasBothSides (options : Options) (x : Text) (e : Example) : Type 0 wh
   pub reads : Reads written module_of
   pub constants : AreConstants module_of e.values
   pub runs : Runs (program (labelled options.label whole.algorithm) module_of e.values) e
-  pub says : Says module_of (program (labelled options.label whole.algorithm) module_of e.values) e
+  pub says : Says options.no_terminating module_of (program (labelled options.label whole.algorithm) module_of e.values) e
 
 -- a file of which the promise speaks, with each option
 pub record MeetsPremises (x : Text) (e : Example) : Type 0 where

@@ -84,7 +84,9 @@ adding = record {
       ∷ adding_state 1 [] 0 1 (text (codes "Done")) (text (codes "C")) 1
       ∷ adding_state 1 [] 0 1 (text (codes "Done")) (text (codes "Done")) 1
       ∷ [];
-  other = adding_state 0 [] 0 2 (text (codes "A")) (text (codes "C")) 1;
+  other = adding_state 0 [] 0 2 (text (codes "B")) (text (codes "C")) 1;
+  ended = state ((codes "total", num 4) ∷ (codes "pc", of_three (text (codes "Done")) (text (codes "Done")) (text (codes "Done")))
+      ∷ (codes "stack", of_three (seq_from []) (seq_from []) (seq_from [])) ∷ (codes "n", of_three (num 0) (num 0) (num 0)) ∷ (codes "m", on (num 1 ∷ num 2 ∷ []) (num 1 ∷ num 2 ∷ [])) ∷ (codes "k", num 1) ∷ []);
 }
 
 -- ---- one body without labels: some are added, one of them in a branch; a macro that assigns its parameter; a definition that reads a variable; a constant
@@ -130,7 +132,8 @@ counting = record {
   values = constants counting_constants;
   first = counting_state 1 0 (text (codes "Lbl_1"));
   later = counting_state 1 0 (text (codes "Lbl_2")) ∷ counting_state 0 1 (text (codes "Lbl_2")) ∷ counting_state 0 1 (text (codes "Done")) ∷ [];
-  other = counting_state 0 1 (text (codes "Lbl_2"));
+  other = counting_state 1 1 (text (codes "Lbl_2"));
+  ended = counting_state 0 1 (text (codes "Done"));
 }
 
 -- ---- a single process whose identifier is a set of which it asks what is in it
@@ -166,5 +169,6 @@ picking = record {
   values = constants picking_constants;
   first = picking_state (set (and (num 1) no_values)) (text (codes "A"));
   later = picking_state (set no_values) (text (codes "Done")) ∷ [];
-  other = picking_state (set no_values) (text (codes "A"));
+  other = picking_state (set (and (num 1) no_values)) (text (codes "Done"));
+  ended = picking_state (set no_values) (text (codes "Done"));
 }

@@ -36,6 +36,8 @@ ghost use Rattle.promise.specs.Headline.{Stands, Headline};
 ghost use Rattle.promise.specs.Options.{Options};
 ghost use Rattle.file_answer.specs.Checking.{AnswersChecking};
 ghost use Rattle.translation.specs.PromiseWhole.{WrittenWhole};
+ghost use Rattle.translation.specs.Worked.{MeetsPremises};
+ghost use Rattle.translation.specs.WorkedFiles.{adding_file, adding, counting_file, counting, picking_file, picking};
 ghost use Rattle.first_path.specs.Form.{Parts};
 ghost use Rattle.first_path.specs.TreeForm.{HasForm};
 ghost use Rattle.first_path.specs.Placed.{translation_of};
@@ -268,4 +270,15 @@ pub fn process_set_and_termination_are_of_all_processes()
 pub fn translating_again_changes_nothing()
     ensures alike { AgainLaw }
     ensures files { FileAgainLaw }
+{}
+
+/// The premises of the promise are met together, and neither side of it is empty. With each of these files nothing is wrong, and what is written for it, with each option, reads as a module. There is a
+/// run from an initial state, through sound states: its steps are steps of the algorithm, and Next is true of them. Init is true of the first state, and false of another
+/// that isn't initial and to which the first doesn't step, so Next is false of these two. Where all are done, Next is true of staying, but with `--no-terminating` false.
+/// The first has processes, a procedure that calls itself by one statement with a `return`, and marks of labels; the second one body to which labels are added, a macro,
+/// a definition and a constant; the third a single process that asks what is in its identifier, a set.
+pub fn the_premises_are_met()
+    ensures processes { MeetsPremises adding_file adding }
+    ensures one_body { MeetsPremises counting_file counting }
+    ensures set { MeetsPremises picking_file picking }
 {}
