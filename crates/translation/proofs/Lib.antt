@@ -132,3 +132,4 @@ pub mod RowsSpelled
 pub mod RowsAdding
 pub mod RowsCounting
 pub mod RowsPicking
+pub mod RowsMarking

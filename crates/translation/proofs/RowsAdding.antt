@@ -128,5 +128,6 @@ computed = record {
   apart = refl;
 }
 
-pub adding_meets : MeetsPremises adding_file adding
-adding_meets = meets adding_file adder adder sequences adding right short (spelled_holds adding_file adding_text (text_of (algorithm_in adding_file)) is_spelled sequences has) has same_labels computed
+pub adding_meets : (forced : Bool) → MeetsPremises forced adding_file adding
+adding_meets forced =
+    meets forced adding_file adder adder sequences adding (right forced) short (spelled_holds adding_file adding_text (text_of (algorithm_in adding_file)) is_spelled sequences has) has (same_labels forced) computed

@@ -109,5 +109,6 @@ computed = record {
   apart = refl;
 }
 
-pub counting_meets : MeetsPremises counting_file counting
-counting_meets = meets counting_file typed counter with_most counting right short (spelled_holds counting_file counting_text (text_of (algorithm_in counting_file)) is_spelled with_most has) has same_labels computed
+pub counting_meets : (forced : Bool) → MeetsPremises forced counting_file counting
+counting_meets forced =
+    meets forced counting_file typed counter with_most counting (right forced) short (spelled_holds counting_file counting_text (text_of (algorithm_in counting_file)) is_spelled with_most has) has (same_labels forced) computed

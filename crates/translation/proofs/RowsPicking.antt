@@ -104,5 +104,6 @@ computed = record {
   apart = refl;
 }
 
-pub picking_meets : MeetsPremises picking_file picking
-picking_meets = meets picking_file picker picker nothing_outside picking right short (spelled_holds picking_file picking_text (text_of (algorithm_in picking_file)) is_spelled nothing_outside has) has same_labels computed
+pub picking_meets : (forced : Bool) → MeetsPremises forced picking_file picking
+picking_meets forced =
+    meets forced picking_file picker picker nothing_outside picking (right forced) short (spelled_holds picking_file picking_text (text_of (algorithm_in picking_file)) is_spelled nothing_outside has) has (same_labels forced) computed

@@ -205,33 +205,36 @@ module _ (o : Outside) (g : Algorithm) (accepted : IsAcceptedInFile o g) (e : Ex
 
 -- ---- a file
 
-module _ (x : Text) (a g : Algorithm) (o : Outside) (e : Example) (right : (forced : Bool) → AnswersChecking forced x None) (short : length x < past_text) (holds : HoldsTree x a) (has : HasOutside (walk x) o)
-    (with_labels : (forced : Bool) → labelled forced a ≡ g) (c : IsComputed o g e) where
-  abbrev found : (b : Bool) → (h : Algorithm) × Stands x h
-  found b = some_stands b x (right b)
+module _ (forced : Bool) (x : Text) (a g : Algorithm) (o : Outside) (e : Example) (right : AnswersChecking forced x None) (short : length x < past_text) (holds : HoldsTree x a) (has : HasOutside (walk x) o)
+    (with_labels : labelled forced a ≡ g) (c : IsComputed o g e) where
+  abbrev found : (h : Algorithm) × Stands x h
+  found = some_stands forced x right
 
-  stands : Stands x a
-  stands = subst (Stands x) (one_held x (found false).0 a (stands_held false x (right false) (found false).0 (found false).1) holds) (found false).1
+  pub stands : Stands x a
+  stands = subst (Stands x) (one_held x found.0 a (stands_held forced x right found.0 found.1) holds) found.1
 
-  accepted : IsAcceptedInFile o g
-  accepted = subst (IsAcceptedInFile o) (with_labels false) (stands_in_file false x (right false) a stands o has short)
+  pub accepted : IsAcceptedInFile o g
+  accepted = subst (IsAcceptedInFile o) with_labels (stands_in_file forced x right a stands o has short)
 
-  module _ (options : Options) (w : Text) (whole : WrittenWhole options x w) where
+  module _ (no_terminating : Bool) (w : Text) (whole : WrittenWhole (record { label = forced; no_terminating = no_terminating }) x w) where
+    abbrev options : Options
+    options = record { label = forced; no_terminating = no_terminating }
+
     outside_is : whole.outside ≡ o
     outside_is = one_outside_of (walk x) whole.outside o whole.has has
 
-    algorithm_is : labelled options.label whole.algorithm ≡ g
-    algorithm_is = ap (labelled options.label) (one_stands x whole.algorithm a whole.stands stands) ∙ with_labels options.label
+    algorithm_is : labelled forced whole.algorithm ≡ g
+    algorithm_is = ap (labelled forced) (one_stands x whole.algorithm a whole.stands stands) ∙ with_labels
 
-    is : WithTranslation x (layout (written_region options.no_terminating o g)) w
-    is = subst (λ (t : Text). WithTranslation x t w) (λ i. layout (written_region options.no_terminating (outside_is i) (algorithm_is i))) whole.is
+    is : WithTranslation x (layout (written_region no_terminating o g)) w
+    is = subst (λ (t : Text). WithTranslation x t w) (λ i. layout (written_region no_terminating (outside_is i) (algorithm_is i))) whole.is
 
-    k : IsWritten x w o (written_region options.no_terminating o g)
+    k : IsWritten x w o (written_region no_terminating o g)
     k =
-        written_file x w o (written_region options.no_terminating o g)
-        (written_is_region options.no_terminating o g (text_writable x o g accepted.accepted short has)) (checked_is_fine options.label x (right options.label)) has is
+        written_file x w o (written_region no_terminating o g)
+        (written_is_region no_terminating o g (text_writable x o g accepted.accepted short has)) (checked_is_fine forced x right) has is
 
-    regions : region_placeless k.is.written.region ≡ region_placeless (written_region options.no_terminating o g)
+    regions : region_placeless k.is.written.region ≡ region_placeless (written_region no_terminating o g)
     regions = ap region_placeless k.is.region ∙ k.same
 
     pub both_sides : HasBothSides options x e
@@ -240,18 +243,18 @@ module _ (x : Text) (a g : Algorithm) (o : Outside) (e : Example) (right : (forc
       whole = whole;
       module_of = k.is.written;
       reads = k.is.reads;
-      constants = constants_there o g accepted e c options.no_terminating k.is.written k.is.outside regions;
+      constants = constants_there o g accepted e c no_terminating k.is.written k.is.outside regions;
       runs =
           subst (λ (h : Algorithm). Runs (program h k.is.written e.values) e) (sym algorithm_is)
-          (runs_there o g accepted e c options.no_terminating k.is.written k.is.outside regions);
+          (runs_there o g accepted e c no_terminating k.is.written k.is.outside regions);
       says =
-          subst (λ (h : Algorithm). Says options.no_terminating k.is.written (program h k.is.written e.values) e) (sym algorithm_is)
-          (says_there o g accepted e c options.no_terminating k.is.written k.is.outside regions);
+          subst (λ (h : Algorithm). Says no_terminating k.is.written (program h k.is.written e.values) e) (sym algorithm_is)
+          (says_there o g accepted e c no_terminating k.is.written k.is.outside regions);
     }
 
-  pub meets : MeetsPremises x e
+  pub meets : MeetsPremises forced x e
   meets = record {
     right = right;
     short = short;
-    both = λ options. (let w = some_whole options x (right options.label) in both_sides options w.0 w.1);
+    both = λ b. (let w = some_whole (record { label = forced; no_terminating = b }) x right in both_sides b w.0 w.1);
   }

@@ -91,8 +91,8 @@ pub record HasBothSides (options : Options) (x : Text) (e : Example) : Type 0 wh
   pub runs : Runs (program (labelled options.label whole.algorithm) module_of e.values) e
   pub says : Says options.no_terminating module_of (program (labelled options.label whole.algorithm) module_of e.values) e
 
--- a file of which the promise speaks, with each option
-pub record MeetsPremises (x : Text) (e : Example) : Type 0 where
-  pub right : (forced : Bool) → AnswersChecking forced x None
+-- a file of which the promise speaks, labels being added to each algorithm or only where they must be
+pub record MeetsPremises (forced : Bool) (x : Text) (e : Example) : Type 0 where
+  pub right : AnswersChecking forced x None
   pub short : length x < past_text
-  pub both : (options : Options) → HasBothSides options x e
+  pub both : (no_terminating : Bool) → HasBothSides (record { label = forced; no_terminating = no_terminating }) x e

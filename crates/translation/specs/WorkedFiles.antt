@@ -172,3 +172,46 @@ picking = record {
   other = picking_state (set (and (num 1) no_values)) (text (codes "Done"));
   ended = picking_state (set no_values) (text (codes "Done"));
 }
+
+-- ---- a process set to which a label is added by the option, in a branch
+
+abbrev pub marking_file : Text
+marking_file =
+    lines
+    (
+    codes "---- MODULE M ----" ∷
+    codes "(*" ∷
+    codes "--algorithm Marking" ∷
+    codes "variables x = 0;" ∷
+    codes "process P \\in {1, 2}" ∷
+    codes "begin" ∷
+    codes "  A: if x = 0 then" ∷
+    codes "       x := self;" ∷
+    codes "       x := 3;" ∷
+    codes "     end if;" ∷
+    codes "end process" ∷
+    codes "end algorithm" ∷
+    codes "*)" ∷
+    codes "====" ∷
+    [])
+
+-- x, and where 1 and 2 are
+abbrev marking_state : ℕ → Value → Value → State
+marking_state a l m = state ((codes "x", num a) ∷ (codes "pc", on (num 1 ∷ num 2 ∷ []) (l ∷ m ∷ [])) ∷ [])
+
+abbrev pub marking_constants : List (Word × Value)
+marking_constants = (codes "defaultInitValue", defaultInitValue) ∷ []
+
+-- 1 goes into the branch, and through the label there; 2 doesn't go into it
+abbrev pub marking : Example
+marking = record {
+  values = constants marking_constants;
+  first = marking_state 0 (text (codes "A")) (text (codes "A"));
+  later =
+      marking_state 1 (text (codes "Lbl_1")) (text (codes "A"))
+      ∷ marking_state 3 (text (codes "Done")) (text (codes "A"))
+      ∷ marking_state 3 (text (codes "Done")) (text (codes "Done"))
+      ∷ [];
+  other = marking_state 3 (text (codes "Done")) (text (codes "A"));
+  ended = marking_state 3 (text (codes "Done")) (text (codes "Done"));
+}

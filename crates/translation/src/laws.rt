@@ -37,7 +37,7 @@ ghost use Rattle.promise.specs.Options.{Options};
 ghost use Rattle.file_answer.specs.Checking.{AnswersChecking};
 ghost use Rattle.translation.specs.PromiseWhole.{WrittenWhole};
 ghost use Rattle.translation.specs.Worked.{MeetsPremises};
-ghost use Rattle.translation.specs.WorkedFiles.{adding_file, adding, counting_file, counting, picking_file, picking};
+ghost use Rattle.translation.specs.WorkedFiles.{adding_file, adding, counting_file, counting, picking_file, picking, marking_file, marking};
 ghost use Rattle.first_path.specs.Form.{Parts};
 ghost use Rattle.first_path.specs.TreeForm.{HasForm};
 ghost use Rattle.first_path.specs.Placed.{translation_of};
@@ -278,7 +278,8 @@ pub fn translating_again_changes_nothing()
 /// The first has processes, a procedure that calls itself by one statement with a `return`, and marks of labels; the second one body to which labels are added, a macro,
 /// a definition and a constant; the third a single process that asks what is in its identifier, a set.
 pub fn the_premises_are_met()
-    ensures processes { MeetsPremises adding_file adding }
-    ensures one_body { MeetsPremises counting_file counting }
-    ensures set { MeetsPremises picking_file picking }
+    ensures processes { (forced : Bool) → MeetsPremises forced adding_file adding }
+    ensures one_body { (forced : Bool) → MeetsPremises forced counting_file counting }
+    ensures set { (forced : Bool) → MeetsPremises forced picking_file picking }
+    ensures option { MeetsPremises true marking_file marking }
 {}

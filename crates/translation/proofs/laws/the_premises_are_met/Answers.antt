@@ -1,6 +1,7 @@
 -- Proves the law `the_premises_are_met`.
 use Rattle.translation.proofs.RowsAdding.{adding_meets}
 use Rattle.translation.proofs.RowsCounting.{counting_meets}
+use Rattle.translation.proofs.RowsMarking.{marking_meets}
 use Rattle.translation.proofs.RowsPicking.{picking_meets}
 use Rattle.translation.proofs.laws.the_premises_are_met.Goals as goal
 
@@ -12,3 +13,6 @@ returns-clause-one_body c = counting_meets
 
 pub returns-clause-set : goal.returns-clause-set
 returns-clause-set c = picking_meets
+
+pub returns-clause-option : goal.returns-clause-option
+returns-clause-option c = marking_meets
