@@ -133,3 +133,4 @@ pub mod RowsAdding
 pub mod RowsCounting
 pub mod RowsPicking
 pub mod RowsMarking
+pub mod RowsFair

@@ -125,7 +125,7 @@ module _ (o : Outside) (g : Algorithm) (accepted : IsAcceptedInFile o g) (e : Ex
   ending : AreConstants (record { title = []; outside = o; region = region_of true (with_names o g) }) e.values
   ending = record { unset = c.constants.unset; given = c.constants.given; no_other = c.constants.no_other; canonical = c.constants.canonical }
 
-  all_runs : Runs own e
+  pub all_runs : Runs own e
   all_runs = record {
     is = c.first;
     initial = c.starts;

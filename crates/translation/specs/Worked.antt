@@ -1,26 +1,40 @@
 -- What is shown of a worked file: nothing is wrong with it, and states are on both sides of what its Next and its Init are to say. So the promise speaks of something.
-use Rattle.std.specs.Prelude.{◌≡◌, ◌<◌, List, [], ◌∷◌, ◌++◌, length, Bool, true, false, not, cond, bytes_eq, codes, Option, Some, None, Ok}
+use Rattle.std.specs.Prelude.{◌≡◌, ◌<◌, ℕ, List, [], ◌∷◌, ◌++◌, length, Bool, true, false, not, cond, bytes_eq, codes, Option, Some, None, Ok}
+use Rattle.std.specs.List.{AllByRecursion}
 use Rattle.tla_token.specs.Limits.{past_text}
 use Rattle.tla_tree.specs.Tree.{Word}
 use Rattle.tla_value.specs.Value.{Value, truth}
 use Rattle.tla_value.specs.Stops.{plain}
 use Rattle.tla_value.specs.Definitions.{Valuation}
+use Rattle.tla_value.specs.Outside.{Outside}
+use Rattle.pcal_tree.specs.Algorithm.{Algorithm}
 use Rattle.pcal_tree.specs.Faults.{Sound}
 use Rattle.pcal_tree.specs.InitialStates.{Initial}
 use Rattle.pcal_tree.specs.Labelled.{labelled}
-use Rattle.pcal_tree.specs.Program.{Program}
+use Rattle.pcal_tree.specs.Processes.{OneOf, IsActor}
+use Rattle.pcal_tree.specs.Program.{Program, Actor}
 use Rattle.pcal_tree.specs.Scope.{State}
 use Rattle.pcal_tree.specs.Step.{Step, Stutters}
+use Rattle.pcal_tree.specs.Takers.{Taken}
 use Rattle.pcal_tree.specs.Variables.{on_variables}
 use Rattle.module_tree.specs.Module.{Module}
 use Rattle.module_tree.specs.ModuleTruth.{next_holds, init_holds}
 use Rattle.module_tree.specs.Reading.{Reads}
 use Rattle.module_tree.specs.TextFront.{Text}
+use Rattle.module_tree.specs.Walk.{walk}
+use Rattle.module_tree.specs.laws.Outsides.{HasOutside}
+use Rattle.action_builder.specs.WrittenNames.{with_names}
+use Rattle.fairness.specs.Demands.{Demand, demands}
+use Rattle.fairness.specs.FairnessLines.{line_of}
+use Rattle.fairness.specs.Obligations.{obligation_of}
 use Rattle.promise.specs.ConstantsAndStates.{program, AreConstants, IsState}
+use Rattle.promise.specs.Headline.{Stands}
 use Rattle.promise.specs.NextAndInit.{Moves}
 use Rattle.promise.specs.Options.{Options}
 use Rattle.file_answer.specs.Checking.{AnswersChecking}
 use Rattle.translation.specs.PromiseWhole.{WrittenWhole}
+use Rattle.translation.specs.Region.{region_of}
+use Rattle.translation.specs.laws.ActionLaws.{line_holds, StepsFromNames, taken_of}
 
 -- ---- texts, states and constants
 
@@ -96,3 +110,38 @@ pub record MeetsPremises (forced : Bool) (x : Text) (e : Example) : Type 0 where
   pub right : AnswersChecking forced x None
   pub short : length x < past_text
   pub both : (no_terminating : Bool) → HasBothSides (record { label = forced; no_terminating = no_terminating }) x e
+
+-- ---- fairness
+
+-- each state of a run with the next one
+abbrev pub pairs : State → List State → List (State × State)
+pairs s [] = []
+pairs s (t ∷ ts) = (s, t) ∷ pairs t ts
+
+-- the formula of a demand is true of a process and two states, and the process steps as is demanded; or it is false, and the process doesn't
+abbrev pub FairAt : Bool → Module → Program → Valuation → Actor → Demand → State × State → Type 0
+FairAt true m P values v D p =
+    (line_holds m values (on_variables P p.0) (on_variables P p.1) v (line_of P D) ≡ Ok true) × StepsFromNames P v (obligation_of P D).labels p.0 p.1
+FairAt false m P values v D p =
+    (line_holds m values (on_variables P p.0) (on_variables P p.1) v (line_of P D) ≡ Ok false) × (StepsFromNames P v (obligation_of P D).labels p.0 p.1 → ⊥)
+
+-- a process of which a demand is, its formula being true of one step of the run, and false of another
+pub record FairOnBothSides (m : Module) (P : Program) (e : Example) (D : Demand) : Type 0 where
+  pub process : Actor
+  pub is_process : IsActor P process
+  pub taken : Taken
+  pub demanded : taken_of D ≡ Some taken
+  pub its_own : process.own ≡ taken.routine
+  pub step : State × State
+  pub in_run : OneOf step (pairs e.first e.later)
+  pub is_true : FairAt true m P e.values process D step
+  pub other_step : State × State
+  pub also_in_run : OneOf other_step (pairs e.first e.later)
+  pub is_false : FairAt false m P e.values process D other_step
+
+-- in what is written for x there are n formulas of fairness of processes, and each has both sides
+abbrev pub HasFairness : Bool → Text → Example → ℕ → Type 0
+HasFairness forced x e n =
+    (a : Algorithm) (o : Outside) → Stands x a → HasOutside (walk x) o → (no_terminating : Bool) (title : Word)
+    → (let g = labelled forced a in let m : Module = record { title = title; outside = o; region = region_of no_terminating (with_names o g) } in
+    (length (demands g) ≡ n) × AllByRecursion (FairOnBothSides m (program g m e.values) e) (demands g))
