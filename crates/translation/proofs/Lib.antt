@@ -134,3 +134,4 @@ pub mod RowsCounting
 pub mod RowsPicking
 pub mod RowsMarking
 pub mod RowsFair
+pub mod RowsAddingFair

@@ -29,7 +29,7 @@ use Rattle.translation.proofs.RowsRuns.{no_other, all_canonical}
 use Rattle.translation.proofs.RowsShown.{IsComputed, meets}
 use Rattle.translation.proofs.RowsSpelled.{at, named, number, name}
 
-abbrev adding_text : Text
+abbrev pub adding_text : Text
 adding_text = record {
   head = algorithm (at 4 1);
   name = named 4 13 (codes "Adding");
@@ -73,10 +73,10 @@ adding_text = record {
   } ∷ []);
 }
 
-abbrev adder : Algorithm
+abbrev pub adder : Algorithm
 adder = algorithm_of adding_text
 
-is_spelled : IsSpelled adding_file adding_text (text_of (algorithm_in adding_file))
+pub is_spelled : IsSpelled adding_file adding_text (text_of (algorithm_in adding_file))
 is_spelled = record {
   is_text = refl;
   syntax = refl;
@@ -92,24 +92,24 @@ outside : outside_read (walk adding_file) ≡ sequences
 unfolding readers
 outside = refl
 
-has : HasOutside (walk adding_file) sequences
+pub has : HasOutside (walk adding_file) sequences
 has = subst (λ (o : Outside). HasOutside (walk adding_file) o) outside (has_outside (walk adding_file))
 
 -- no label is missing, so none is added where they are forced
-same_labels : (forced : Bool) → labelled forced adder ≡ adder
+pub same_labels : (forced : Bool) → labelled forced adder ≡ adder
 same_labels true = refl
 same_labels false = refl
 
 of_adder : (forced : Bool) → OfTree nothing sequences (labelled forced adder)
 of_adder forced = subst (OfTree nothing sequences) (sym (same_labels forced)) (record { names = refl; labels = refl })
 
-right : (forced : Bool) → AnswersChecking forced adding_file None
+pub right : (forced : Bool) → AnswersChecking forced adding_file None
 right forced = nothing_wrong adding_file adding_text (text_of (algorithm_in adding_file)) is_spelled sequences has forced (of_adder forced)
 
-short : length adding_file < past_text
+pub short : length adding_file < past_text
 short = omega arith
 
-computed : IsComputed sequences adder adding
+pub computed : IsComputed sequences adder adding
 computed = record {
   processes = _;
   constants = record { unset = refl; given = tt; no_other = no_other adding_constants; canonical = all_canonical adding_constants (tt, tt) };

@@ -51,9 +51,9 @@ module _ (o : Outside) (g : Algorithm) (e : Example) where
   value_of b title v D p = line_holds (module_with b title) e.values (on_variables P p.0) (on_variables P p.1) v (line_of P D)
 
 -- what is computed of a demand: of one of the processes its formula is true of one step of the run, and false of another
-pub record FairComputed (o : Outside) (g : Algorithm) (e : Example) (processes : List Actor) (D : Demand) : Type 0 where
+pub record FairComputed (o : Outside) (g : Algorithm) (e : Example) (D : Demand) : Type 0 where
   pub process : Actor
-  pub is_process : OneOf process processes
+  pub is_process : IsActor (P o g e) process
   pub taken : Taken
   pub demanded : taken_of D ≡ Some taken
   pub its_own : process.own ≡ taken.routine
@@ -99,9 +99,9 @@ module _ (o : Outside) (g : Algorithm) (accepted : IsAcceptedInFile o g) (e : Ex
   false_by v S (true, f, h) k = absurd (k (h.0 refl))
   false_by v S (false, f, h) k = f
 
-  one_fair : (b : Bool) (title : Word) (D : Demand) → OneOf D (demands g) → FairComputed o g e c.processes D → FairOnBothSides (module_with o g e b title) own e D
+  one_fair : (b : Bool) (title : Word) (D : Demand) → OneOf D (demands g) → FairComputed o g e D → FairOnBothSides (module_with o g e b title) own e D
   one_fair b title D d f =
-      let is : IsActor own f.process = (c.processes, c.all, f.is_process) in
+      let is : IsActor own f.process = f.is_process in
       let steps = yes _ _ (told false [] f.step f.in_run D d f.taken f.demanded f.process is f.its_own) f.is_true in
       let stays = no _ _ (told false [] f.other_step f.also_in_run D d f.taken f.demanded f.process is f.its_own) f.is_false in
       record {
@@ -118,16 +118,16 @@ module _ (o : Outside) (g : Algorithm) (accepted : IsAcceptedInFile o g) (e : Ex
         is_false = (false_by _ _ (told b title f.other_step f.also_in_run D d f.taken f.demanded f.process is f.its_own) stays, stays);
       }
 
-  all_fair : (b : Bool) (title : Word) (ds : List Demand) → ((D : Demand) → OneOf D ds → OneOf D (demands g)) → AllByRecursion (FairComputed o g e c.processes) ds → AllByRecursion (FairOnBothSides (module_with o g e b title) own e) ds
+  all_fair : (b : Bool) (title : Word) (ds : List Demand) → ((D : Demand) → OneOf D ds → OneOf D (demands g)) → AllByRecursion (FairComputed o g e) ds → AllByRecursion (FairOnBothSides (module_with o g e b title) own e) ds
   all_fair b title [] within f = tt
   all_fair b title (D ∷ ds) within f = (one_fair b title D (within D (inl refl)) f.0, all_fair b title ds (λ E k. within E (inr k)) f.1)
 
-  pub fair_here : (b : Bool) (title : Word) → AllByRecursion (FairComputed o g e c.processes) (demands g) → AllByRecursion (FairOnBothSides (module_with o g e b title) own e) (demands g)
+  pub fair_here : (b : Bool) (title : Word) → AllByRecursion (FairComputed o g e) (demands g) → AllByRecursion (FairOnBothSides (module_with o g e b title) own e) (demands g)
   fair_here b title f = all_fair b title (demands g) (λ D k. k) f
 
 -- of a file
 pub fair_in_file : (forced : Bool) (x : Text) (a g : Algorithm) (o : Outside) (e : Example) → Stands x a → HasOutside (walk x) o → labelled forced a ≡ g → IsAcceptedInFile o g → (c : IsComputed o g e) → (n : ℕ) → length (demands g) ≡ n
-    → AllByRecursion (FairComputed o g e c.processes) (demands g) → HasFairness forced x e n
+    → AllByRecursion (FairComputed o g e) (demands g) → HasFairness forced x e n
 fair_in_file forced x a g o e stands has with_labels accepted c n many f d q s k b title =
     let of_g : Algorithm → Outside → Type 0 = λ h r.
     (length (demands h) ≡ n) × AllByRecursion (FairOnBothSides (module_with r h e b title) (program_in plain r h e.values) e) (demands h) in

@@ -36,7 +36,7 @@ ghost use Rattle.promise.specs.Headline.{Stands, Headline};
 ghost use Rattle.promise.specs.Options.{Options};
 ghost use Rattle.file_answer.specs.Checking.{AnswersChecking};
 ghost use Rattle.translation.specs.PromiseWhole.{WrittenWhole};
-ghost use Rattle.translation.specs.Worked.{MeetsPremises};
+ghost use Rattle.translation.specs.Worked.{MeetsPremises, HasFairness};
 ghost use Rattle.translation.specs.WorkedFiles.{adding_file, adding, counting_file, counting, picking_file, picking, marking_file, marking};
 ghost use Rattle.first_path.specs.Form.{Parts};
 ghost use Rattle.first_path.specs.TreeForm.{HasForm};
@@ -279,6 +279,7 @@ pub fn translating_again_changes_nothing()
 /// a definition and a constant; the third a single process that asks what is in its identifier, a set.
 pub fn the_premises_are_met()
     ensures processes { (forced : Bool) → MeetsPremises forced adding_file adding }
+    ensures fairness { (forced : Bool) → HasFairness forced adding_file adding 4 }
     ensures one_body { (forced : Bool) → MeetsPremises forced counting_file counting }
     ensures set { (forced : Bool) → MeetsPremises forced picking_file picking }
     ensures option { MeetsPremises true marking_file marking }
