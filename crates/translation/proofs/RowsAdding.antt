@@ -1,22 +1,17 @@
 -- The worked file of processes and a procedure: nothing is wrong with it, and what is written for it has both sides, by computation.
-use Rattle.std.proofs.Common.{◌≡◌, ◌<◌, length, List, [], ◌∷◌, Bool, true, false, cond, bytes_eq, codes, Option, Some, None, Ok, Err, refl, sym, subst, arith}
+use Rattle.std.proofs.Common.{◌≡◌, ◌<◌, length, [], ◌∷◌, Bool, true, false, codes, Some, None, refl, sym, subst, arith}
 use Rattle.tla_token.specs.Limits.{past_text}
-use Rattle.tla_token.specs.Signs.{is_among}
 use Rattle.tla_tree.specs.Reader.{readers}
 use Rattle.tla_tree.specs.Spelling.{last, more, set_of, infix_of}
-use Rattle.tla_tree.specs.Tree.{Word}
 use Rattle.tla_tree.specs.declared.op.Op.TheVariants.{Plus, Minus, Greater}
 use Rattle.tla_value.specs.Outside.{Outside}
-use Rattle.tla_value.specs.Stops.{plain}
 use Rattle.pcal_tree.specs.Algorithm.{Algorithm}
-use Rattle.pcal_tree.specs.Grammar.{Text, algorithm, to_end, no_define, begin_end, processes, weak, bare, spell, algorithm_of, Good, p_syntax}
+use Rattle.pcal_tree.specs.Grammar.{Text, algorithm, to_end, no_define, begin_end, processes, weak, bare, algorithm_of}
 use Rattle.pcal_tree.specs.GrammarP.{simple, branch, no_else, last_statement, more_statements}
 use Rattle.pcal_tree.specs.GrammarParts.{by_semicolon, equals, no_section, section, last_variable, last_parameter, some_parameters, some_arguments, colon, colon_plus, colon_minus, label, no_labels, assign, last_assignment, call, return}
 use Rattle.pcal_tree.specs.Labelled.{labelled}
 use Rattle.pcal_tree.specs.OpenForms.{opens}
-use Rattle.pcal_tree.specs.Program.{Program}
-use Rattle.pcal_tree.specs.Programs.{program_in}
-use Rattle.module_tree.specs.AlgorithmText.{AlgorithmText, algorithm_in}
+use Rattle.module_tree.specs.AlgorithmText.{algorithm_in}
 use Rattle.module_tree.specs.Walk.{walk}
 use Rattle.module_tree.specs.laws.Outsides.{HasOutside}
 use Rattle.module_tree.proofs.SomeOutside.{outside_read, has_outside}
@@ -43,34 +38,34 @@ adding_text = record {
     parameters = some_parameters (at 6 14) (last_parameter (named 6 15 (codes "n")) (equals (at 6 17) (number 6 19 0))) (at 6 20);
     variables = no_section;
     body = begin_end (at 7 1)
-      (more_statements (label (named 8 3 (codes "P")) (colon (at 8 4)) no_labels) (simple (assign (last_assignment (name 8 6 (codes "total")) (at 8 12) (infix_of (name 8 15 (codes "total")) (at 8 21) Plus (name 8 23 (codes "n")))))) (at 8 24)
-      (more_statements no_labels (branch (at 9 6) (infix_of (name 9 9 (codes "n")) (at 9 11) Greater (number 9 13 0)) (at 9 15)
-      (more_statements no_labels (simple (call (at 9 20) (named 9 25 (codes "Add")) (some_arguments (at 9 28) (last (infix_of (name 9 29 (codes "n")) (at 9 31) Minus (number 9 33 1))) (at 9 34)))) (at 9 35)
-      (last_statement no_labels (simple (return (at 9 37))) (Some (at 9 43))))
-      no_else (at 9 45) (at 9 49)) (at 9 51)
-      (last_statement (label (named 10 3 (codes "Q")) (colon (at 10 4)) no_labels) (simple (return (at 10 6))) (Some (at 10 12)))))
-      (at 11 1) (at 11 5) None;
+        (more_statements (label (named 8 3 (codes "P")) (colon (at 8 4)) no_labels) (simple (assign (last_assignment (name 8 6 (codes "total")) (at 8 12) (infix_of (name 8 15 (codes "total")) (at 8 21) Plus (name 8 23 (codes "n")))))) (at 8 24)
+        (more_statements no_labels (branch (at 9 6) (infix_of (name 9 9 (codes "n")) (at 9 11) Greater (number 9 13 0)) (at 9 15)
+        (more_statements no_labels (simple (call (at 9 20) (named 9 25 (codes "Add")) (some_arguments (at 9 28) (last (infix_of (name 9 29 (codes "n")) (at 9 31) Minus (number 9 33 1))) (at 9 34)))) (at 9 35)
+        (last_statement no_labels (simple (return (at 9 37))) (Some (at 9 43))))
+        no_else (at 9 45) (at 9 49)) (at 9 51)
+        (last_statement (label (named 10 3 (codes "Q")) (colon (at 10 4)) no_labels) (simple (return (at 10 6))) (Some (at 10 12)))))
+        (at 11 1) (at 11 5) None;
   } ∷ [];
   main = processes
-    (record {
-    fair = weak (at 12 1);
-    place = at 12 6;
-    identity = bare (named 12 14 (codes "Left")) true (at 12 19) (set_of (at 12 23) (more (number 12 24 1) (at 12 25) (last (number 12 27 2))) (at 12 28));
-    variables = section (at 13 1) false (last_variable (named 13 10 (codes "m")) (equals (at 13 12) (number 13 14 0)) (Some (by_semicolon (at 13 15))));
-    body = begin_end (at 14 1)
-      (more_statements (label (named 15 3 (codes "A")) (colon_minus (at 15 4) (at 15 5)) no_labels) (simple (assign (last_assignment (name 15 7 (codes "m")) (at 15 9) (name 15 12 (codes "self"))))) (at 15 16)
-      (last_statement (label (named 16 3 (codes "B")) (colon_plus (at 16 4) (at 16 5)) no_labels) (simple (call (at 16 7) (named 16 12 (codes "Add")) (some_arguments (at 16 15) (last (name 16 16 (codes "m"))) (at 16 17)))) (Some (at 16 18))))
-      (at 17 1) (at 17 5) None;
-  })
-    (record {
-    fair = weak (at 18 1);
-    place = at 18 6;
-    identity = bare (named 18 14 (codes "Right")) false (at 18 20) (number 18 22 3);
-    variables = section (at 19 1) false (last_variable (named 19 10 (codes "k")) (equals (at 19 12) (number 19 14 1)) (Some (by_semicolon (at 19 15))));
-    body = begin_end (at 20 1)
-      (last_statement (label (named 21 3 (codes "C")) (colon (at 21 4)) no_labels) (simple (assign (last_assignment (name 21 6 (codes "k")) (at 21 8) (name 21 11 (codes "total"))))) (Some (at 21 16)))
-      (at 22 1) (at 22 5) None;
-  } ∷ []);
+      (record {
+        fair = weak (at 12 1);
+        place = at 12 6;
+        identity = bare (named 12 14 (codes "Left")) true (at 12 19) (set_of (at 12 23) (more (number 12 24 1) (at 12 25) (last (number 12 27 2))) (at 12 28));
+        variables = section (at 13 1) false (last_variable (named 13 10 (codes "m")) (equals (at 13 12) (number 13 14 0)) (Some (by_semicolon (at 13 15))));
+        body = begin_end (at 14 1)
+            (more_statements (label (named 15 3 (codes "A")) (colon_minus (at 15 4) (at 15 5)) no_labels) (simple (assign (last_assignment (name 15 7 (codes "m")) (at 15 9) (name 15 12 (codes "self"))))) (at 15 16)
+            (last_statement (label (named 16 3 (codes "B")) (colon_plus (at 16 4) (at 16 5)) no_labels) (simple (call (at 16 7) (named 16 12 (codes "Add")) (some_arguments (at 16 15) (last (name 16 16 (codes "m"))) (at 16 17)))) (Some (at 16 18))))
+            (at 17 1) (at 17 5) None;
+      })
+      (record {
+        fair = weak (at 18 1);
+        place = at 18 6;
+        identity = bare (named 18 14 (codes "Right")) false (at 18 20) (number 18 22 3);
+        variables = section (at 19 1) false (last_variable (named 19 10 (codes "k")) (equals (at 19 12) (number 19 14 1)) (Some (by_semicolon (at 19 15))));
+        body = begin_end (at 20 1)
+            (last_statement (label (named 21 3 (codes "C")) (colon (at 21 4)) no_labels) (simple (assign (last_assignment (name 21 6 (codes "k")) (at 21 8) (name 21 11 (codes "total"))))) (Some (at 21 16)))
+            (at 22 1) (at 22 5) None;
+      } ∷ []);
 }
 
 abbrev pub adder : Algorithm

@@ -30,46 +30,53 @@ fair_steps = (
     also_in_run = inl refl;
     is_false = refl;
   },
-  (record {
-    process = _;
-    is_process = (_, refl, inl refl);
-    taken = _;
-    demanded = refl;
-    its_own = refl;
-    step = _;
-    in_run = inr (inl refl);
-    is_true = refl;
-    other_step = _;
-    also_in_run = inl refl;
-    is_false = refl;
-  },
-  (record {
-    process = _;
-    is_process = (_, refl, inl refl);
-    taken = _;
-    demanded = refl;
-    its_own = refl;
-    step = _;
-    in_run = inr (inr (inl refl));
-    is_true = refl;
-    other_step = _;
-    also_in_run = inl refl;
-    is_false = refl;
-  },
-  (record {
-    process = _;
-    is_process = (_, refl, inr (inr (inl refl)));
-    taken = _;
-    demanded = refl;
-    its_own = refl;
-    step = _;
-    in_run = inr (inr (inr (inr (inr (inl refl)))));
-    is_true = refl;
-    other_step = _;
-    also_in_run = inl refl;
-    is_false = refl;
-  },
-  tt))))
+  (
+    record {
+      process = _;
+      is_process = (_, refl, inl refl);
+      taken = _;
+      demanded = refl;
+      its_own = refl;
+      step = _;
+      in_run = inr (inl refl);
+      is_true = refl;
+      other_step = _;
+      also_in_run = inl refl;
+      is_false = refl;
+    },
+    (
+      record {
+        process = _;
+        is_process = (_, refl, inl refl);
+        taken = _;
+        demanded = refl;
+        its_own = refl;
+        step = _;
+        in_run = inr (inr (inl refl));
+        is_true = refl;
+        other_step = _;
+        also_in_run = inl refl;
+        is_false = refl;
+      },
+      (
+        record {
+          process = _;
+          is_process = (_, refl, inr (inr (inl refl)));
+          taken = _;
+          demanded = refl;
+          its_own = refl;
+          step = _;
+          in_run = inr (inr (inr (inr (inr (inl refl)))));
+          is_true = refl;
+          other_step = _;
+          also_in_run = inl refl;
+          is_false = refl;
+        },
+        tt,
+      ),
+    ),
+  ),
+)
 
 pub adding_fair : (forced : Bool) → HasFairness forced adding_file adding 4
 adding_fair forced =

@@ -1,5 +1,5 @@
 -- The worked file of one body without labels: nothing is wrong with it, and what is written for it has both sides, by computation.
-use Rattle.std.proofs.Common.{◌≡◌, ◌<◌, length, List, [], ◌∷◌, Bool, true, false, codes, Option, Some, None, refl, sym, subst, arith}
+use Rattle.std.proofs.Common.{◌≡◌, ◌<◌, length, [], ◌∷◌, Bool, true, false, codes, Some, None, refl, sym, subst, arith}
 use Rattle.std.specs.Fmt.{digits}
 use Rattle.tla_token.specs.Limits.{past_text}
 use Rattle.tla_tree.specs.Reader.{readers}
@@ -31,17 +31,22 @@ counting_text = record {
   around = to_end (at 21 1) (at 21 5);
   variables = section (at 6 1) true (variable (named 6 11 (codes "x")) (equals (at 6 13) (name 6 15 (codes "Most"))) (by_comma (at 6 19)) (last_variable (named 6 21 (codes "y")) (equals (at 6 23) (number 6 25 0)) (Some (by_semicolon (at 6 26)))));
   define = define_end (at 7 1) (last_definition (plain (named 8 3 (codes "more"))) (at 8 8) (infix_of (name 8 11 (codes "x")) (at 8 13) Greater (number 8 15 0))) (at 9 1) (at 9 5) None;
-  macros = record { place = at 10 1; name = named 10 7 (codes "take"); parameters = some_names (at 10 11) (last_name (named 10 12 (codes "v"))) (at 10 13); body = begin_end (at 11 1)
-      (last_statement no_labels (simple (assign (last_assignment (name 12 3 (codes "v")) (at 12 5) (infix_of (name 12 8 (codes "v")) (at 12 10) Minus (number 12 12 1))))) (Some (at 12 13)))
-      (at 13 1) (at 13 5) None } ∷ [];
+  macros = record {
+    place = at 10 1;
+    name = named 10 7 (codes "take");
+    parameters = some_names (at 10 11) (last_name (named 10 12 (codes "v"))) (at 10 13);
+    body = begin_end (at 11 1)
+        (last_statement no_labels (simple (assign (last_assignment (name 12 3 (codes "v")) (at 12 5) (infix_of (name 12 8 (codes "v")) (at 12 10) Minus (number 12 12 1))))) (Some (at 12 13)))
+        (at 13 1) (at 13 5) None;
+  } ∷ [];
   procedures = [];
   main = begin (at 14 1)
-    (last_statement no_labels (branch (at 15 3) (name 15 6 (codes "more")) (at 15 11)
-    (last_statement no_labels (while (at 16 5) (name 16 11 (codes "more")) (at 16 16)
-    (more_statements no_labels (simple (macro (named 17 7 (codes "take")) (some_arguments (at 17 11) (last (name 17 12 (codes "x"))) (at 17 13)))) (at 17 14)
-    (last_statement no_labels (simple (assign (last_assignment (name 18 7 (codes "y")) (at 18 9) (infix_of (name 18 12 (codes "y")) (at 18 14) Plus (number 18 16 1))))) (Some (at 18 17))))
-    (at 19 5) (at 19 9)) (Some (at 19 14)))
-    no_else (at 20 3) (at 20 7)) (Some (at 20 9)));
+      (last_statement no_labels (branch (at 15 3) (name 15 6 (codes "more")) (at 15 11)
+      (last_statement no_labels (while (at 16 5) (name 16 11 (codes "more")) (at 16 16)
+      (more_statements no_labels (simple (macro (named 17 7 (codes "take")) (some_arguments (at 17 11) (last (name 17 12 (codes "x"))) (at 17 13)))) (at 17 14)
+      (last_statement no_labels (simple (assign (last_assignment (name 18 7 (codes "y")) (at 18 9) (infix_of (name 18 12 (codes "y")) (at 18 14) Plus (number 18 16 1))))) (Some (at 18 17))))
+      (at 19 5) (at 19 9)) (Some (at 19 14)))
+      no_else (at 20 3) (at 20 7)) (Some (at 20 9)));
 }
 
 abbrev typed : Algorithm

@@ -1,5 +1,5 @@
 -- That each formula of fairness of a worked file has both sides, from its truth values on a run, which are computed.
-use Rattle.std.proofs.Common.{◌≡◌, ℕ, length, List, [], ◌∷◌, Bool, true, false, Option, Some, Ok, refl, sym, ap, subst, ◌∙◌, inl, inr}
+use Rattle.std.proofs.Common.{◌≡◌, ℕ, length, List, [], ◌∷◌, Bool, true, false, Some, Ok, refl, sym, ap, subst, ◌∙◌, inl, inr}
 use Rattle.std.specs.List.{AllByRecursion}
 use Rattle.tla_tree.specs.Tree.{Word}
 use Rattle.tla_value.specs.Outside.{Outside}
@@ -24,14 +24,13 @@ use Rattle.module_tree.proofs.SomeOutside.{one_outside_of}
 use Rattle.action_builder.specs.WrittenNames.{with_names}
 use Rattle.fairness.specs.Demands.{Demand, demands}
 use Rattle.fairness.specs.FairnessLines.{line_of}
-use Rattle.fairness.specs.Obligations.{obligation_of}
-use Rattle.promise.specs.ConstantsAndStates.{program, AreConstants, IsState}
+use Rattle.promise.specs.ConstantsAndStates.{AreConstants, IsState}
 use Rattle.promise.specs.Headline.{Stands}
 use Rattle.file_answer.proofs.OneTree.{one_stands}
 use Rattle.translation.specs.Region.{region_of}
-use Rattle.translation.specs.Worked.{Example, Goes, pairs, FairAt, FairOnBothSides, HasFairness}
+use Rattle.translation.specs.Worked.{Example, Goes, pairs, FairOnBothSides, HasFairness}
 use Rattle.translation.specs.laws.AcceptedAlgorithm.{IsAcceptedInFile}
-use Rattle.translation.specs.laws.ActionLaws.{line_holds, StepsFromNames, taken_of, Told}
+use Rattle.translation.specs.laws.ActionLaws.{line_holds, taken_of, Told}
 use Rattle.translation.specs.laws.FreshReads.{readable}
 use Rattle.translation.proofs.FairAll.{fairness_told}
 use Rattle.translation.proofs.NextLaw.{items_ready}

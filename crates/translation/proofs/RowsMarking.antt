@@ -1,5 +1,5 @@
 -- The worked file of a process set to which a label is added by the option: nothing is wrong with it, and what is written for it has both sides, by computation.
-use Rattle.std.proofs.Common.{◌≡◌, ◌<◌, length, List, [], ◌∷◌, Bool, true, false, codes, Option, Some, None, refl, sym, subst, arith}
+use Rattle.std.proofs.Common.{◌≡◌, ◌<◌, length, [], true, codes, Some, None, refl, subst, arith}
 use Rattle.std.specs.Fmt.{digits}
 use Rattle.tla_token.specs.Limits.{past_text}
 use Rattle.tla_tree.specs.Reader.{readers}
@@ -34,19 +34,19 @@ marking_text = record {
   macros = [];
   procedures = [];
   main = processes
-    (record {
-    fair = unfair;
-    place = at 5 1;
-    identity = bare (named 5 9 (codes "P")) true (at 5 11) (set_of (at 5 15) (more (number 5 16 1) (at 5 17) (last (number 5 19 2))) (at 5 20));
-    variables = no_section;
-    body = begin_end (at 6 1)
-      (last_statement (label (named 7 3 (codes "A")) (colon (at 7 4)) no_labels) (branch (at 7 6) (infix_of (name 7 9 (codes "x")) (at 7 11) Equal (number 7 13 0)) (at 7 15)
-      (more_statements no_labels (simple (assign (last_assignment (name 8 8 (codes "x")) (at 8 10) (name 8 13 (codes "self"))))) (at 8 17)
-      (last_statement no_labels (simple (assign (last_assignment (name 9 8 (codes "x")) (at 9 10) (number 9 13 3)))) (Some (at 9 14))))
-      no_else (at 10 6) (at 10 10)) (Some (at 10 12)))
-      (at 11 1) (at 11 5) None;
-  })
-    ([]);
+      (record {
+        fair = unfair;
+        place = at 5 1;
+        identity = bare (named 5 9 (codes "P")) true (at 5 11) (set_of (at 5 15) (more (number 5 16 1) (at 5 17) (last (number 5 19 2))) (at 5 20));
+        variables = no_section;
+        body = begin_end (at 6 1)
+            (last_statement (label (named 7 3 (codes "A")) (colon (at 7 4)) no_labels) (branch (at 7 6) (infix_of (name 7 9 (codes "x")) (at 7 11) Equal (number 7 13 0)) (at 7 15)
+            (more_statements no_labels (simple (assign (last_assignment (name 8 8 (codes "x")) (at 8 10) (name 8 13 (codes "self"))))) (at 8 17)
+            (last_statement no_labels (simple (assign (last_assignment (name 9 8 (codes "x")) (at 9 10) (number 9 13 3)))) (Some (at 9 14))))
+            no_else (at 10 6) (at 10 10)) (Some (at 10 12)))
+            (at 11 1) (at 11 5) None;
+      })
+      ([]);
 }
 
 abbrev typed : Algorithm

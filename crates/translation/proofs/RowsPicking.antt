@@ -1,5 +1,5 @@
 -- The worked file of a single process whose identifier is a set: nothing is wrong with it, and what is written for it has both sides, by computation.
-use Rattle.std.proofs.Common.{◌≡◌, ◌<◌, length, List, [], ◌∷◌, Bool, true, false, codes, Option, Some, None, refl, sym, subst, arith}
+use Rattle.std.proofs.Common.{◌≡◌, ◌<◌, length, [], Bool, true, false, codes, Some, None, refl, sym, subst, arith}
 use Rattle.tla_token.specs.Limits.{past_text}
 use Rattle.tla_tree.specs.Reader.{readers}
 use Rattle.tla_value.specs.Outside.{Outside}
@@ -33,17 +33,17 @@ picking_text = record {
   macros = [];
   procedures = [];
   main = processes
-    (record {
-    fair = unfair;
-    place = at 5 1;
-    identity = bare (named 5 9 (codes "P")) false (at 5 11) (prefix_of (at 5 13) Subset (set_of (at 5 20) (last (number 5 21 1)) (at 5 22)));
-    variables = no_section;
-    body = begin_end (at 6 1)
-      (more_statements (label (named 7 3 (codes "A")) (colon (at 7 4)) no_labels) (simple (await (at 7 6) (infix_of (name 7 12 (codes "x")) (at 7 14) In (name 7 18 (codes "self"))))) (at 7 22)
-      (last_statement no_labels (simple (assign (last_assignment (name 8 6 (codes "x")) (at 8 8) (no_set (at 8 11) (at 8 12))))) (Some (at 8 13))))
-      (at 9 1) (at 9 5) None;
-  })
-    ([]);
+      (record {
+        fair = unfair;
+        place = at 5 1;
+        identity = bare (named 5 9 (codes "P")) false (at 5 11) (prefix_of (at 5 13) Subset (set_of (at 5 20) (last (number 5 21 1)) (at 5 22)));
+        variables = no_section;
+        body = begin_end (at 6 1)
+            (more_statements (label (named 7 3 (codes "A")) (colon (at 7 4)) no_labels) (simple (await (at 7 6) (infix_of (name 7 12 (codes "x")) (at 7 14) In (name 7 18 (codes "self"))))) (at 7 22)
+            (last_statement no_labels (simple (assign (last_assignment (name 8 6 (codes "x")) (at 8 8) (no_set (at 8 11) (at 8 12))))) (Some (at 8 13))))
+            (at 9 1) (at 9 5) None;
+      })
+      ([]);
 }
 
 abbrev picker : Algorithm

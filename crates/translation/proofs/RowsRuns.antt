@@ -7,7 +7,7 @@ use Rattle.tla_value.specs.OrderLaws.{same_is}
 use Rattle.tla_value.specs.Value.{Value, text, Trouble, Outcome}
 use Rattle.tla_value.proofs.Outcomes.{ok_is}
 use Rattle.pcal_tree.specs.FirstTrouble.{stand_named, trouble_of_all}
-use Rattle.pcal_tree.specs.Processes.{OneOf, actors, IsActor}
+use Rattle.pcal_tree.specs.Processes.{OneOf, actors}
 use Rattle.pcal_tree.specs.Program.{Program, Actor}
 use Rattle.pcal_tree.specs.Run.{Course, ends, stops, chooses, Has}
 use Rattle.pcal_tree.specs.Scope.{State}

@@ -1,12 +1,10 @@
 -- That what is written for a worked file has both sides, from what is computed of its algorithm: of a run, of one state that is no start, and of one pair that is no step.
-use Rattle.std.proofs.Common.{◌≡◌, ◌<◌, length, List, [], ◌∷◌, Bool, true, false, not, ◌&&◌, codes, Option, Some, None, Ok, Err, refl, sym, ap, subst, ◌∙◌, inl, inr}
+use Rattle.std.proofs.Common.{◌≡◌, ◌<◌, length, List, [], ◌∷◌, Bool, true, false, not, ◌&&◌, codes, None, Ok, Err, refl, sym, ap, subst, ◌∙◌, inl, inr}
 use Rattle.std.specs.Bool.{IsTrue}
 use Rattle.std.specs.Prelude.{is_some}
 use Rattle.tla_token.specs.Limits.{past_text}
 use Rattle.tla_token.specs.Signs.{is_among}
-use Rattle.tla_token.specs.declared.place.Place.{Place}
-use Rattle.tla_tree.specs.Tree.{Word, Each}
-use Rattle.tla_value.specs.declared.fault.FaultKind.{FaultKind}
+use Rattle.tla_tree.specs.Tree.{Each}
 use Rattle.tla_value.specs.Outside.{Outside}
 use Rattle.tla_value.specs.Stops.{plain}
 use Rattle.tla_value.specs.Value.{Trouble, Outcome, TrueExactly}
@@ -37,7 +35,7 @@ use Rattle.module_tree.proofs.SomeOutside.{one_outside_of}
 use Rattle.module_tree.proofs.WrittenRegion.{written_file}
 use Rattle.promise.specs.ConstantsAndStates.{program, AreConstants, IsState}
 use Rattle.promise.specs.Headline.{Stands}
-use Rattle.promise.specs.NextAndInit.{Moves, NextIs, InitIs}
+use Rattle.promise.specs.NextAndInit.{Moves, NextIs}
 use Rattle.promise.specs.Options.{Options}
 use Rattle.file_answer.specs.Checking.{AnswersChecking}
 use Rattle.file_answer.specs.Holds.{HoldsTree}

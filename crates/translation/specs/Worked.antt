@@ -1,5 +1,5 @@
 -- What is shown of a worked file: nothing is wrong with it, and states are on both sides of what its Next and its Init are to say. So the promise speaks of something.
-use Rattle.std.specs.Prelude.{◌≡◌, ◌<◌, ℕ, List, [], ◌∷◌, ◌++◌, length, Bool, true, false, not, cond, bytes_eq, codes, Option, Some, None, Ok}
+use Rattle.std.specs.Prelude.{◌≡◌, ◌<◌, ℕ, List, [], ◌∷◌, ◌++◌, length, Bool, true, false, not, cond, bytes_eq, codes, Some, None, Ok}
 use Rattle.std.specs.List.{AllByRecursion}
 use Rattle.tla_token.specs.Limits.{past_text}
 use Rattle.tla_tree.specs.Tree.{Word}

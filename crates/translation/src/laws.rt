@@ -272,11 +272,13 @@ pub fn translating_again_changes_nothing()
     ensures files { FileAgainLaw }
 {}
 
-/// The premises of the promise are met together, and neither side of it is empty. With each of these files nothing is wrong, and what is written for it, with each option, reads as a module. There is a
-/// run from an initial state, through sound states: its steps are steps of the algorithm, and Next is true of them. Init is true of the first state, and false of another
-/// that isn't initial and to which the first doesn't step, so Next is false of these two. Where all are done, Next is true of staying, but with `--no-terminating` false.
-/// The first has processes, a procedure that calls itself by one statement with a `return`, and marks of labels; the second one body to which labels are added, a macro,
-/// a definition and a constant; the third a single process that asks what is in its identifier, a set.
+/// The premises of the promise are met together, and neither side of it is empty. With each of these files nothing is wrong, and what is written for it, with the end that
+/// stutters and without, reads as a module. There is a run from an initial state through sound states: its steps are steps of the algorithm, and Next is true of them. Init is
+/// true of the first state, and false of another that isn't initial and to which the first doesn't step, so Next is false of these two. Where all are done, Next is true of
+/// staying there, but with `--no-terminating` false.
+/// The first file has processes, a procedure that calls itself by one statement with a `return`, and marks of labels: of its four formulas of fairness each is true of one step
+/// of the run, and false of another. The second has one body to which labels are added, a macro, a definition and a constant; the third a single process that asks what is in
+/// its identifier, a set; and to the fourth a label is added where labels are forced.
 pub fn the_premises_are_met()
     ensures processes { (forced : Bool) → MeetsPremises forced adding_file adding }
     ensures fairness { (forced : Bool) → HasFairness forced adding_file adding 4 }
