@@ -132,3 +132,13 @@ pub mod CanonicalFaults
 pub mod CanonicalSteps
 pub mod AgainWritten
 pub mod AgainFiles
+pub mod RowsRight
+pub mod RowsRuns
+pub mod RowsShown
+pub mod RowsSpelled
+pub mod RowsAdding
+pub mod RowsCounting
+pub mod RowsPicking
+pub mod RowsMarking
+pub mod RowsFair
+pub mod RowsAddingFair

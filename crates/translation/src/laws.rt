@@ -36,6 +36,8 @@ ghost use Rattle.promise.specs.Headline.{Stands, Headline};
 ghost use Rattle.promise.specs.Options.{Options};
 ghost use Rattle.file_answer.specs.Checking.{AnswersChecking};
 ghost use Rattle.translation.specs.PromiseWhole.{WrittenWhole};
+ghost use Rattle.translation.specs.Worked.{MeetsPremises, HasFairness};
+ghost use Rattle.translation.specs.WorkedFiles.{adding_file, adding, counting_file, counting, picking_file, picking, marking_file, marking};
 ghost use Rattle.first_path.specs.Form.{Parts};
 ghost use Rattle.first_path.specs.TreeForm.{HasForm};
 ghost use Rattle.first_path.specs.Placed.{translation_of};
@@ -270,4 +272,19 @@ pub fn process_set_and_termination_are_of_all_processes()
 pub fn translating_again_changes_nothing()
     ensures alike { AgainLaw }
     ensures files { FileAgainLaw }
+{}
+
+/// The premises of the promise are met together, and neither side of it is empty. With each of these files nothing is wrong, and what is written for it, with the end that
+/// stutters and without, reads as a module. There is a run from an initial state through sound states: its steps are steps of the algorithm, and Next is true of them. Init is
+/// true of the first state, and false of another that isn't initial and to which the first doesn't step, so Next is false of these two. Where all are done, Next is true of
+/// staying there, but with `--no-terminating` false.
+/// The first file has processes, a procedure that calls itself by one statement with a `return`, and marks of labels: of its four formulas of fairness each is true of one step
+/// of the run, and false of another. The second has one body to which labels are added, a macro, a definition and a constant; the third a single process that asks what is in
+/// its identifier, a set; and to the fourth a label is added where labels are forced.
+pub fn the_premises_are_met()
+    ensures processes { (forced : Bool) → MeetsPremises forced adding_file adding }
+    ensures fairness { (forced : Bool) → HasFairness forced adding_file adding 4 }
+    ensures one_body { (forced : Bool) → MeetsPremises forced counting_file counting }
+    ensures set { (forced : Bool) → MeetsPremises forced picking_file picking }
+    ensures option { MeetsPremises true marking_file marking }
 {}
