@@ -126,5 +126,15 @@ pub mod InitRowsProcesses
 pub mod AgainOffences
 pub mod AgainAdded
 pub mod AgainLabels
+pub mod AgainParts
+pub mod AgainUsed
+pub mod AgainJumps
+pub mod AgainUses
+pub mod AgainDeclared
+pub mod AgainRebinds
+pub mod AgainReads
+pub mod AgainCounts
+pub mod AgainOutside
 pub mod AgainWritten
+pub mod AgainChecked
 pub mod AgainFiles
