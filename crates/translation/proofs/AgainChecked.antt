@@ -1,10 +1,10 @@
 -- Nothing is wrong with a translated file, labels added too, where nothing was wrong with the file before.
-use Rattle.std.proofs.Common.{◌≡◌, ◌⊎◌, inl, inr, ℕ, ◌<◌, Bool, List, [], ◌∷◌, ◌++◌, map, Option, Some, None, refl, sym, ap, subst, ◌∙◌}
+use Rattle.std.proofs.Common.{◌≡◌, ℕ, Bool, List, [], ◌∷◌, ◌++◌, map, Option, Some, None, refl, sym, ap, subst, ◌∙◌}
 use Rattle.std.specs.Prelude.{if◌then◌else◌}
 use Rattle.tla_token.specs.declared.rule.Refusal.{Refusal}
 use Rattle.tla_token.specs.Offences.{Offence}
 use Rattle.tla_token.specs.Tokens as text
-use Rattle.tla_tree.specs.FirstStop.{looks, Passes, to_end}
+use Rattle.tla_tree.specs.FirstStop.{looks, Passes}
 use Rattle.tla_value.specs.Outside.{Outside}
 use Rattle.pcal_tree.specs.Algorithm.{Algorithm}
 use Rattle.pcal_tree.specs.AlgorithmTokens.{kind_of, views}
@@ -17,7 +17,6 @@ use Rattle.pcal_tree.specs.Placeless.{placeless}
 use Rattle.pcal_tree.proofs.ClearLabels.{both_none}
 use Rattle.pcal_tree.proofs.LinesGood.{spelled_again}
 use Rattle.module_tree.specs.AlgorithmText.{AlgorithmText, Stage, is_c, algorithm_in, algorithm_tokens}
-use Rattle.module_tree.specs.FileOffences.{file_offences}
 use Rattle.module_tree.specs.TextFront.{Text}
 use Rattle.module_tree.specs.Walk.{walk}
 use Rattle.module_tree.specs.WithTranslation.{WithTranslation}
@@ -28,9 +27,8 @@ use Rattle.module_tree.proofs.AlgorithmMoved.{tokens_kept, token_offences_kept}
 use Rattle.module_tree.proofs.AlgorithmSame.{algorithm_kept}
 use Rattle.module_tree.proofs.FineKept.{fine_kept}
 use Rattle.module_tree.proofs.SomeOutside.{some_outside}
-use Rattle.macro_expand.specs.TooLarge.{too_large}
 use Rattle.algorithm_answer.specs.TokensRefused.{placed}
-use Rattle.file_answer.specs.Checking.{OfTree, IsChecking, AnswersChecking}
+use Rattle.file_answer.specs.Checking.{OfTree, AnswersChecking}
 use Rattle.file_answer.specs.Holds.{HoldsTree}
 use Rattle.file_answer.specs.Refusals.{Wrong}
 use Rattle.file_answer.specs.Spelling.{of_rules, syntax_at, AreRead, AreCounted, OfAlgorithm, IsSpelling}

@@ -1,5 +1,5 @@
 -- The rules on labels that an algorithm offends against rest on no place.
-use Rattle.std.proofs.Common.{◌≡◌, List, [], ◌∷◌, ◌++◌, map, flat_map, reverse, Bool, true, false, ◌||◌, not, codes, None, Some, refl, sym, ap, ◌∙◌}
+use Rattle.std.proofs.Common.{◌≡◌, List, [], ◌∷◌, ◌++◌, map, flat_map, reverse, Bool, true, false, ◌||◌, not, codes, None, Some, refl, ap, ◌∙◌}
 use Rattle.tla_token.specs.declared.place.Place.{Place}
 use Rattle.tla_token.specs.declared.rule.Rule.TheVariants.{LabelInside, UnknownLabel, ReturnOutside, DoubleLabel, FirstLabel}
 use Rattle.tla_token.specs.Signs.{is_among}
@@ -10,7 +10,7 @@ use Rattle.pcal_tree.specs.Offences.{offence_if}
 use Rattle.pcal_tree.specs.OffencesLabels.{Label, labels_of_one, labels, labels_of_some, label_words, labels_of_main, all_labels, Within, within_with, jump_offences_here, jump_offences_inside, jump_offences, jump_offences_of_some, second_labels, misplaced, of_macro, of_procedure, of_body, of_main, label_offences}
 use Rattle.pcal_tree.specs.OffencesSteps.{at_first, call_effect, procedure_effects, outer_effects, missing_in_macro, missing_in_body}
 use Rattle.pcal_tree.specs.Paths.{Effect, nothing}
-use Rattle.pcal_tree.specs.Placeless.{statement_placeless, statements_placeless, branches_placeless, procedures_placeless, processes_placeless, macros_placeless, main_placeless, placeless}
+use Rattle.pcal_tree.specs.Placeless.{statement_placeless, statements_placeless, branches_placeless, procedures_placeless, macros_placeless, main_placeless, placeless}
 use Rattle.translation.proofs.AgainAdded.{calls_bare, outer_bare, own_bare}
 use Rattle.translation.proofs.AgainOffences.{rules, rules_two, rules_if, rules_each, step_offences_bare}
 use Rattle.translation.proofs.AgainParts.{both, each_list, macro_placeless, procedure_placeless, process_placeless, macros_each, procedures_each, processes_each}

@@ -1,6 +1,5 @@
 -- The rules on names, on labels and on sizes that an algorithm offends against are the same wherever its parts are, and in whichever lines all else of the file is.
 use Rattle.std.proofs.Common.{◌≡◌, List, [], ◌∷◌, ◌++◌, map, flat_map, reverse, ◌||◌, codes, refl, sym, ap, ◌∙◌}
-use Rattle.tla_token.specs.declared.rule.Rule.{Rule}
 use Rattle.tla_token.specs.declared.rule.Rule.TheVariants.{Reserved, OutsideVariable}
 use Rattle.tla_token.specs.declared.rule.Refusal.{Refusal}
 use Rattle.tla_token.specs.Places.{nowhere}
@@ -18,7 +17,7 @@ use Rattle.pcal_tree.specs.OffencesNames.{macro_offences, always_known, defined_
 use Rattle.pcal_tree.specs.OffencesOfNames.{offences_of_uses, offences_of_declarations, offences_of_reads, through_each_call, name_offences}
 use Rattle.pcal_tree.specs.OffencesReads.{process_offences, own_offences, order_offences}
 use Rattle.pcal_tree.specs.OffencesRebind.{Standings, naming, any_name, starts_rebind, definitions_rebind, texts_rebind, macro_rebinds, procedure_rebinds, main_rebinds, rebind_offences_of}
-use Rattle.pcal_tree.specs.OffencesReserved.{declared_names, reserved_name, reserved_read, reserved_opaque, reserved_outside, reserved_declared}
+use Rattle.pcal_tree.specs.OffencesReserved.{reserved_name, reserved_read, reserved_opaque, reserved_outside, reserved_declared}
 use Rattle.pcal_tree.specs.OffencesSelf.{self_offences}
 use Rattle.pcal_tree.specs.OffencesStale.{stale_offences}
 use Rattle.pcal_tree.specs.Outside.{unit_names}

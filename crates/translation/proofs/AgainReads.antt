@@ -3,11 +3,10 @@ use Rattle.std.proofs.Common.{◌≡◌, List, [], ◌∷◌, ◌++◌, map, fla
 use Rattle.std.specs.List.{list_any}
 use Rattle.tla_token.specs.declared.place.Place.{Place}
 use Rattle.tla_token.specs.declared.rule.Rule.TheVariants.{ProcessNotConstant, InitSelf, InitLater, SelfOutside, DefinedStale}
-use Rattle.tla_token.specs.declared.rule.Refusal.{Refusal}
 use Rattle.tla_token.specs.Signs.{is_among}
 use Rattle.tla_tree.specs.Tree.{Word, Name, words, Tree, root_place}
 use Rattle.tla_tree.specs.laws.Placeless.{name_placeless, names_placeless, tree_placeless}
-use Rattle.pcal_tree.specs.Algorithm.{nowhere, Start, unset, equals, among, Declaration, declares, Definition, Macro, Procedure, Process, Main, alone, processes, Routine, locals, routines, Statement, assign, await, print, assert, skip, branch, either, with, while, goto, macro, call, return, Statements, Algorithm}
+use Rattle.pcal_tree.specs.Algorithm.{nowhere, Start, unset, equals, among, Declaration, declares, Definition, Macro, Procedure, Process, Main, alone, processes, Routine, locals, routines, Statement, goto, call, Statements, Algorithm}
 use Rattle.pcal_tree.specs.Expand.{expanded}
 use Rattle.pcal_tree.specs.Offences.{offence_if}
 use Rattle.pcal_tree.specs.OffencesCounts.{calls_of}
@@ -15,16 +14,15 @@ use Rattle.pcal_tree.specs.OffencesReads.{processes_of, not_constant, process_of
 use Rattle.pcal_tree.specs.OffencesSelf.{self_offence, selves, used_by_starts, without, reached, used_in_macros, used_by_procedure, used_outside, used_at_the_top, self_offences}
 use Rattle.pcal_tree.specs.OffencesStale.{used_by_variables, used_by_call, self_at, jumps_use, stands_for, stale_at, Looking, stale_in, stale_in_procedure, stale_in_process, stale_in_main, written_out_spots, stale_offences}
 use Rattle.pcal_tree.specs.Paths.{has_assigned}
-use Rattle.pcal_tree.specs.Placeless.{statement_placeless, statements_placeless, start_placeless, declarations_placeless, definitions_placeless, macros_placeless, procedures_placeless, main_placeless, placeless}
+use Rattle.pcal_tree.specs.Placeless.{statement_placeless, statements_placeless, start_placeless, declarations_placeless, procedures_placeless, main_placeless, placeless}
 use Rattle.pcal_tree.specs.Reads.{named, used, initial, Reading, through, looked_at, among_looked_at, readings, readings_of}
 use Rattle.pcal_tree.specs.Spots.{Spot, spots_in, used_in_body}
 use Rattle.pcal_tree.specs.Variables.{declared}
 use Rattle.translation.proofs.AgainOffences.{rules, rules_two, rules_if, rules_each}
-use Rattle.translation.proofs.AgainParts.{both, each_list, each_one, each_joined, map_reversed, declaration_placeless, definition_placeless, macro_placeless, procedure_placeless, process_placeless, definitions_each, macros_each, procedures_each, processes_each, routines_each, words_bare}
+use Rattle.translation.proofs.AgainParts.{both, each_list, each_one, each_joined, map_reversed, definition_placeless, macro_placeless, procedure_placeless, process_placeless, definitions_each, macros_each, procedures_each, processes_each, routines_each, words_bare}
 use Rattle.translation.proofs.AgainUsed.{used_bare, initial_bare, starts_used_in, starts_used, spot_placeless, spots_bare, body_used, calls_bare}
 use Rattle.translation.proofs.NoPlaces.{declared_bare, declarations_joined}
 use Rattle.translation.proofs.PlacelessAlgorithm.{expanded_bare}
-use Rattle.translation.proofs.PlacelessItems.{place_bare}
 use Rattle.translation.proofs.PlacelessJumps.{routine_placeless, locals_bare}
 
 -- names that are those without their places
