@@ -14,7 +14,8 @@ use Rattle.pcal_tree.specs.Run.{Partner, partner_of}
 use Rattle.pcal_tree.specs.Tests.{is_empty}
 use Rattle.pcal_tree.specs.Variables.{declared}
 use Rattle.translation.proofs.AgainOffences.{rules, rules_two, assigned_bare, after_one_bare, next_bare, offences_bare, inside_offences_bare, within_bare}
-use Rattle.translation.proofs.NoPlaces.{declared_bare, declarations_joined}
+use Rattle.translation.proofs.BareNames.{declarations_joined}
+use Rattle.translation.proofs.NoPlaces.{declared_bare}
 use Rattle.translation.proofs.PlacelessAlgorithm.{macros_reversed}
 use Rattle.translation.proofs.PlacelessItems.{partner_placeless, partner_bare}
 

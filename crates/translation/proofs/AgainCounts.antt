@@ -20,10 +20,11 @@ use Rattle.pcal_tree.specs.Program.{inner}
 use Rattle.macro_expand.specs.Measured.{of_trees, of_assignments, of_binds, how_many, of_one, of_all, of_some, of_each, of_start, of_declared, of_procedure, of_process, of_main, of_algorithm}
 use Rattle.macro_expand.specs.Size.{weights, form_nodes, nodes, weighed, in_left, after_first, subscript_nodes, first_subscript_nodes, left_nesting, first_left_nesting, both as sum, expression_size, one_node_more, deeper, one_label_more, sizes, call_size, expanded_main, expansion}
 use Rattle.macro_expand.specs.TooLarge.{is_too_large, too_large}
-use Rattle.translation.proofs.AgainJumps.{label_placeless, all_labels_bare}
+use Rattle.translation.proofs.AgainJumps.{all_labels_bare}
 use Rattle.translation.proofs.AgainOffences.{rules, rules_two, rules_if}
-use Rattle.translation.proofs.AgainParts.{both, each_list, each_one, each_same, procedure_placeless, procedures_each, routines_each, words_bare, seen_bare, names_of_bare, process_names_bare}
+use Rattle.translation.proofs.AgainParts.{procedure_placeless, procedures_each, routines_each, seen_bare, names_of_bare, process_names_bare}
 use Rattle.translation.proofs.AgainUsed.{calls_bare}
+use Rattle.translation.proofs.BareNames.{both, each_list, each_one, each_same, label_placeless, words_bare}
 use Rattle.translation.proofs.PlacelessAlgorithm.{expanded_bare}
 use Rattle.translation.proofs.PlacelessJumps.{routine_placeless, locals_bare}
 

@@ -19,11 +19,12 @@ use Rattle.pcal_tree.specs.OffencesReserved.{names_of_definition, names_of_macro
 use Rattle.pcal_tree.specs.Outside.{unit_names}
 use Rattle.pcal_tree.specs.Placeless.{assignments_placeless, binds_placeless, statement_placeless, statements_placeless, branches_placeless, macros_placeless, procedures_placeless, main_placeless, placeless}
 use Rattle.pcal_tree.specs.Reads.{initial}
-use Rattle.translation.proofs.AgainJumps.{label_placeless, all_labels_bare}
+use Rattle.translation.proofs.AgainJumps.{all_labels_bare}
 use Rattle.translation.proofs.AgainOffences.{rules, rules_two, rules_if, rules_each}
-use Rattle.translation.proofs.AgainParts.{both, each_list, each_one, declaration_placeless, definition_placeless, macro_placeless, procedure_placeless, process_placeless, declarations_each, definitions_each, macros_each, procedures_each, processes_each, routines_each, words_bare, names_of_bare, own_names_bare, process_names_bare, all_bare, bound_bare}
+use Rattle.translation.proofs.AgainParts.{declaration_placeless, definition_placeless, macro_placeless, procedure_placeless, process_placeless, declarations_each, definitions_each, macros_each, procedures_each, processes_each, routines_each, names_of_bare, own_names_bare, process_names_bare}
 use Rattle.translation.proofs.AgainUsed.{initial_bare}
 use Rattle.translation.proofs.AgainUses.{last_bare, member_bare}
+use Rattle.translation.proofs.BareNames.{all_bare, both, bound_bare, each_list, each_one, label_placeless, words_bare}
 use Rattle.translation.proofs.PlacelessJumps.{routine_placeless, locals_bare}
 
 -- names that are those without their places

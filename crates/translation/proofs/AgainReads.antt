@@ -19,9 +19,10 @@ use Rattle.pcal_tree.specs.Reads.{named, used, initial, Reading, through, looked
 use Rattle.pcal_tree.specs.Spots.{Spot, spots_in, used_in_body}
 use Rattle.pcal_tree.specs.Variables.{declared}
 use Rattle.translation.proofs.AgainOffences.{rules, rules_two, rules_if, rules_each}
-use Rattle.translation.proofs.AgainParts.{both, each_list, each_one, each_joined, map_reversed, definition_placeless, macro_placeless, procedure_placeless, process_placeless, definitions_each, macros_each, procedures_each, processes_each, routines_each, words_bare}
+use Rattle.translation.proofs.AgainParts.{definition_placeless, macro_placeless, procedure_placeless, process_placeless, definitions_each, macros_each, procedures_each, processes_each, routines_each}
 use Rattle.translation.proofs.AgainUsed.{used_bare, initial_bare, starts_used_in, starts_used, spot_placeless, spots_bare, body_used, calls_bare}
-use Rattle.translation.proofs.NoPlaces.{declared_bare, declarations_joined}
+use Rattle.translation.proofs.BareNames.{both, declarations_joined, each_joined, each_list, each_one, map_reversed, words_bare}
+use Rattle.translation.proofs.NoPlaces.{declared_bare}
 use Rattle.translation.proofs.PlacelessAlgorithm.{expanded_bare}
 use Rattle.translation.proofs.PlacelessJumps.{routine_placeless, locals_bare}
 

@@ -13,8 +13,9 @@ use Rattle.pcal_tree.specs.Outside.{unit_names}
 use Rattle.pcal_tree.specs.Placeless.{assignments_placeless, binds_placeless, statement_placeless, statements_placeless, branches_placeless, start_placeless, declarations_placeless, definitions_placeless, macros_placeless, procedures_placeless, main_placeless, placeless}
 use Rattle.pcal_tree.specs.Variables.{declared}
 use Rattle.translation.proofs.AgainOffences.{rules, rules_two, rules_if, rules_each}
-use Rattle.translation.proofs.AgainParts.{both, each_list, each_one, each_same, declaration_placeless, definition_placeless, procedure_placeless, process_placeless, declarations_each, definitions_each, procedures_each, processes_each, words_bare, seen_bare, names_of_bare, binds_names_bare, all_bare, form_lists}
-use Rattle.translation.proofs.NoPlaces.{declared_bare, declarations_joined}
+use Rattle.translation.proofs.AgainParts.{declaration_placeless, definition_placeless, procedure_placeless, process_placeless, declarations_each, definitions_each, procedures_each, processes_each, seen_bare, names_of_bare}
+use Rattle.translation.proofs.BareNames.{all_bare, binds_names_bare, both, declarations_joined, each_list, each_one, each_same, form_lists, words_bare}
+use Rattle.translation.proofs.NoPlaces.{declared_bare}
 use Rattle.translation.proofs.PlacelessAlgorithm.{macros_reversed}
 
 -- ---- what a text has around it, without places

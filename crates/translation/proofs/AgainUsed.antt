@@ -13,7 +13,8 @@ use Rattle.pcal_tree.specs.Placeless.{assignments_placeless, binds_placeless, st
 use Rattle.pcal_tree.specs.Reads.{if_free, named, used_by_form, used, used_by_parts, used_by_all, used_by_assignments, used_by_binds, initial}
 use Rattle.pcal_tree.specs.Spots.{Spot, after_path, Further, spots_of_one, spots, spots_of_some, spots_in, used_in_body}
 use Rattle.translation.proofs.AgainOffences.{assigned_bare, after_one_bare}
-use Rattle.translation.proofs.AgainParts.{both, each_list, each_one, words_bare, seen_bare, binds_names_bare}
+use Rattle.translation.proofs.AgainParts.{seen_bare}
+use Rattle.translation.proofs.BareNames.{binds_names_bare, both, each_list, each_one, words_bare}
 
 -- names that are those without their places
 abbrev Bare : List Name → List Name → Type 0

@@ -15,8 +15,9 @@ use Rattle.pcal_tree.specs.Paths.{root}
 use Rattle.pcal_tree.specs.Placeless.{assignments_placeless, binds_placeless, statement_placeless, statements_placeless, branches_placeless, start_placeless, declarations_placeless, definitions_placeless, macros_placeless, procedures_placeless, main_placeless, placeless}
 use Rattle.pcal_tree.specs.Variables.{declared}
 use Rattle.translation.proofs.AgainOffences.{rules, rules_two, rules_if, rules_each}
-use Rattle.translation.proofs.AgainParts.{each_same, map_reversed, declaration_placeless, definition_placeless, procedure_placeless, process_placeless, declarations_each, definitions_each, procedures_each, processes_each, words_bare, seen_bare}
-use Rattle.translation.proofs.NoPlaces.{declared_bare, declarations_joined}
+use Rattle.translation.proofs.AgainParts.{declaration_placeless, definition_placeless, procedure_placeless, process_placeless, declarations_each, definitions_each, procedures_each, processes_each, seen_bare}
+use Rattle.translation.proofs.BareNames.{declarations_joined, each_same, map_reversed, words_bare}
+use Rattle.translation.proofs.NoPlaces.{declared_bare}
 use Rattle.translation.proofs.PlacelessAlgorithm.{macros_reversed}
 use Rattle.translation.proofs.PlacelessItems.{place_bare}
 use Rattle.translation.proofs.WritableBare.{root_bare}

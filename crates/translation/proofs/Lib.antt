@@ -6,6 +6,7 @@ pub mod RowsProcedures
 pub mod RowsProcesses
 mod RowsAll
 mod RowsStands
+pub mod BareNames
 pub mod NoPlaces
 pub mod OfForm
 pub mod ActionTitles
