@@ -22,11 +22,12 @@ use Rattle.macro_expand.specs.Size.{weights, form_nodes, nodes, weighed, in_left
 use Rattle.macro_expand.specs.TooLarge.{is_too_large, too_large}
 use Rattle.translation.proofs.AgainJumps.{all_labels_bare}
 use Rattle.translation.proofs.AgainOffences.{rules, rules_two, rules_if}
-use Rattle.translation.proofs.AgainParts.{procedure_placeless, procedures_each, routines_each, seen_bare, names_of_bare, process_names_bare}
+use Rattle.translation.proofs.AgainParts.{procedure_placeless, procedures_each, seen_bare, names_of_bare, process_names_bare}
 use Rattle.translation.proofs.AgainUsed.{calls_bare}
 use Rattle.translation.proofs.BareNames.{both, each_list, each_one, each_same, label_placeless, words_bare}
 use Rattle.translation.proofs.PlacelessAlgorithm.{expanded_bare}
 use Rattle.translation.proofs.PlacelessJumps.{routine_placeless, locals_bare}
+use Rattle.translation.proofs.PlacelessUnits.{all_routines}
 
 -- ---- names that are counted
 
@@ -40,7 +41,7 @@ past_bare n xs us e = ap (λ (vs : List Name). rules (first_past n vs)) e ∙ ap
 variables_bare : (a : Algorithm) → variable_names (placeless a) ≡ names_placeless (variable_names a)
 variables_bare a =
     both name_placeless (names_of a.globals) (flat_map (λ u. names_of (locals u)) (routines a)) _ _ (names_of_bare a.globals)
-    (ap (flat_map (λ (u : Routine). names_of (locals u))) (routines_each a)
+    (ap (flat_map (λ (u : Routine). names_of (locals u))) (all_routines a)
     ∙ each_list routine_placeless name_placeless (λ u. names_of (locals u)) (λ u. names_of (locals u)) (λ u. ap names_of (locals_bare u) ∙ names_of_bare (locals u)) (routines a))
 
 procedures_bare : (a : Algorithm) → procedure_names (placeless a) ≡ names_placeless (procedure_names a)

@@ -21,11 +21,12 @@ use Rattle.pcal_tree.specs.Placeless.{assignments_placeless, binds_placeless, st
 use Rattle.pcal_tree.specs.Reads.{initial}
 use Rattle.translation.proofs.AgainJumps.{all_labels_bare}
 use Rattle.translation.proofs.AgainOffences.{rules, rules_two, rules_if, rules_each}
-use Rattle.translation.proofs.AgainParts.{declaration_placeless, definition_placeless, macro_placeless, procedure_placeless, process_placeless, declarations_each, definitions_each, macros_each, procedures_each, processes_each, routines_each, names_of_bare, own_names_bare, process_names_bare}
+use Rattle.translation.proofs.AgainParts.{declaration_placeless, definition_placeless, macro_placeless, procedure_placeless, process_placeless, declarations_each, definitions_each, macros_each, procedures_each, processes_each, names_of_bare, own_names_bare, process_names_bare}
 use Rattle.translation.proofs.AgainUsed.{initial_bare}
 use Rattle.translation.proofs.AgainUses.{last_bare, member_bare}
 use Rattle.translation.proofs.BareNames.{all_bare, both, bound_bare, each_list, each_one, label_placeless, words_bare}
 use Rattle.translation.proofs.PlacelessJumps.{routine_placeless, locals_bare}
+use Rattle.translation.proofs.PlacelessUnits.{all_routines}
 
 -- names that are those without their places
 abbrev Bare : List Name → List Name → Type 0
@@ -151,7 +152,7 @@ bodies_bare : (a : Algorithm) → bodies (placeless a) ≡ map statements_placel
 bodies_bare a =
     both statements_placeless (map (λ d. d.body) a.macros) (map (λ u. u.body) (routines a)) _ _
     (ap (map (λ (d : Macro). d.body)) (macros_each a.macros) ∙ each_one macro_placeless statements_placeless (λ d. d.body) (λ d. d.body) (λ d. refl) a.macros)
-    (ap (map (λ (u : Routine). u.body)) (routines_each a) ∙ each_one routine_placeless statements_placeless (λ u. u.body) (λ u. u.body) (λ u. refl) (routines a))
+    (ap (map (λ (u : Routine). u.body)) (all_routines a) ∙ each_one routine_placeless statements_placeless (λ u. u.body) (λ u. u.body) (λ u. refl) (routines a))
 
 all_listed : (a : Algorithm) → Listed (all_statements a) (all_statements (placeless a))
 all_listed a =
@@ -187,7 +188,7 @@ identities_written (processes ps) = ap (map (λ (p : Process). p.identity)) (pro
 pub declarations_all : (a : Algorithm) → all_declarations (placeless a) ≡ map declaration_placeless (all_declarations a)
 declarations_all a =
     both declaration_placeless a.globals (flat_map locals (routines a)) _ _ (declarations_each a.globals)
-    (ap (flat_map locals) (routines_each a)
+    (ap (flat_map locals) (all_routines a)
     ∙ each_list routine_placeless declaration_placeless locals locals (λ u. locals_bare u ∙ declarations_each (locals u)) (routines a))
 
 expressions_written : (a : Algorithm) → Written (all_expressions a) (all_expressions (placeless a))

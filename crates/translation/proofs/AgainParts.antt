@@ -1,13 +1,11 @@
 -- The parts of an algorithm without its places, list by list.
-use Rattle.std.proofs.Common.{◌≡◌, List, [], ◌∷◌, ◌++◌, map, refl, sym, ap, ◌∙◌}
-use Rattle.std.proofs.lemmas.List.{map-append}
+use Rattle.std.proofs.Common.{◌≡◌, List, [], ◌∷◌, ◌++◌, map, refl, ap, ◌∙◌}
 use Rattle.tla_tree.specs.Tree.{words, Form, binding, local, beginnings, seen_names}
 use Rattle.tla_tree.specs.laws.Placeless.{name_placeless, names_placeless, form_placeless, tree_placeless}
-use Rattle.pcal_tree.specs.Algorithm.{Declaration, Definition, Macro, Procedure, Process, Main, alone, processes, main_routines, routines, Algorithm}
+use Rattle.pcal_tree.specs.Algorithm.{Declaration, Definition, Macro, Procedure, Process, Main, alone, processes}
 use Rattle.pcal_tree.specs.OffencesNames.{names_of, process_names}
-use Rattle.pcal_tree.specs.Placeless.{statements_placeless, start_placeless, declarations_placeless, definitions_placeless, macros_placeless, procedures_placeless, processes_placeless, main_placeless, placeless}
+use Rattle.pcal_tree.specs.Placeless.{statements_placeless, start_placeless, declarations_placeless, definitions_placeless, macros_placeless, procedures_placeless, processes_placeless, main_placeless}
 use Rattle.translation.proofs.BareNames.{each_one, each_same, each_joined, words_bare, declarations_joined}
-use Rattle.translation.proofs.PlacelessJumps.{routine_placeless, routines_bare, mains_bare}
 
 -- ---- parts
 
@@ -57,10 +55,6 @@ procedures_each (p ∷ ps) = ap (λ qs. procedure_placeless p ∷ qs) (procedure
 pub processes_each : (ps : List Process) → processes_placeless ps ≡ map process_placeless ps
 processes_each [] = refl
 processes_each (p ∷ ps) = ap (λ qs. process_placeless p ∷ qs) (processes_each ps)
-
-pub routines_each : (a : Algorithm) → routines (placeless a) ≡ map routine_placeless (routines a)
-routines_each a =
-    (λ i. routines_bare a i ++ mains_bare a a.main i) ∙ sym (map-append routine_placeless _ (main_routines a a.main))
 
 -- ---- names
 

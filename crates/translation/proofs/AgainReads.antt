@@ -19,12 +19,13 @@ use Rattle.pcal_tree.specs.Reads.{named, used, initial, Reading, through, looked
 use Rattle.pcal_tree.specs.Spots.{Spot, spots_in, used_in_body}
 use Rattle.pcal_tree.specs.Variables.{declared}
 use Rattle.translation.proofs.AgainOffences.{rules, rules_two, rules_if, rules_each}
-use Rattle.translation.proofs.AgainParts.{definition_placeless, macro_placeless, procedure_placeless, process_placeless, definitions_each, macros_each, procedures_each, processes_each, routines_each}
+use Rattle.translation.proofs.AgainParts.{definition_placeless, macro_placeless, procedure_placeless, process_placeless, definitions_each, macros_each, procedures_each, processes_each}
 use Rattle.translation.proofs.AgainUsed.{used_bare, initial_bare, starts_used_in, starts_used, spot_placeless, spots_bare, body_used, calls_bare}
 use Rattle.translation.proofs.BareNames.{both, declarations_joined, each_joined, each_list, each_one, map_reversed, words_bare}
 use Rattle.translation.proofs.NoPlaces.{declared_bare}
 use Rattle.translation.proofs.PlacelessAlgorithm.{expanded_bare}
 use Rattle.translation.proofs.PlacelessJumps.{routine_placeless, locals_bare}
+use Rattle.translation.proofs.PlacelessUnits.{all_routines}
 
 -- names that are those without their places
 abbrev Bare : List Name → List Name → Type 0
@@ -101,7 +102,7 @@ own_declared u = ap declared (locals_bare u) ∙ declared_bare (locals u)
 
 variables_same : (a : Algorithm) → all_variables (placeless a) ≡ all_variables a
 variables_same a =
-    λ i. declared_bare a.globals i ++ (ap (flat_map (λ (u : Routine). declared (locals u))) (routines_each a)
+    λ i. declared_bare a.globals i ++ (ap (flat_map (λ (u : Routine). declared (locals u))) (all_routines a)
     ∙ each_joined routine_placeless (λ u. declared (locals u)) (λ u. declared (locals u)) own_declared (routines a)) i
 
 later_bare : (a : Algorithm) (before : List Word) (e : Tree) → reads_later (placeless a) before (tree_placeless e) ≡ reads_later a before e
@@ -123,7 +124,7 @@ pub order_offences_bare : (a : Algorithm) → rules (order_offences (placeless a
 order_offences_bare a =
     rules_two (later_in (placeless a) [] (declarations_placeless a.globals)) (flat_map (λ u. later_in (placeless a) (declared (declarations_placeless a.globals)) (locals u)) (routines (placeless a)))
     (later_in a [] a.globals) (flat_map (λ u. later_in a (declared a.globals) (locals u)) (routines a)) (later_ones a [] a.globals)
-    ((λ i. rules (flat_map (λ (u : Routine). later_in (placeless a) (declared_bare a.globals i) (locals u)) (routines_each a i)))
+    ((λ i. rules (flat_map (λ (u : Routine). later_in (placeless a) (declared_bare a.globals i) (locals u)) (all_routines a i)))
     ∙ rules_each routine_placeless (λ u. later_in (placeless a) (declared a.globals) (locals u)) (λ u. later_in a (declared a.globals) (locals u))
     (λ u. ap (λ (ds : List Declaration). rules (later_in (placeless a) (declared a.globals) ds)) (locals_bare u) ∙ later_ones a (declared a.globals) (locals u)) (routines a))
 
