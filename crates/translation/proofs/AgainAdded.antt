@@ -1,21 +1,21 @@
 -- Adding labels keeps places apart: the labels that are added to an algorithm without its places are those that are added to it with them.
-use Rattle.std.proofs.Common.{◌≡◌, List, [], ◌∷◌, ◌++◌, map, reverse, Bool, true, false, ◌||◌, ◌&&◌, not, cond, codes, Option, Some, None, option_map, refl, sym, ap, ◌∙◌}
+use Rattle.std.proofs.Common.{◌≡◌, List, [], ◌∷◌, ◌++◌, reverse, Bool, true, false, ◌&&◌, not, Option, Some, None, option_map, refl, sym, ap, ◌∙◌}
 use Rattle.tla_token.specs.declared.place.Place.{Place}
-use Rattle.tla_token.specs.declared.rule.Rule.{Rule}
 use Rattle.tla_token.specs.declared.rule.Rule.TheVariants.{FirstLabel}
 use Rattle.tla_token.specs.declared.rule.Refusal.{Refusal}
 use Rattle.tla_tree.specs.Tree.{Word, Trees}
 use Rattle.tla_tree.specs.laws.Placeless.{name_placeless, names_placeless, tree_placeless, trees_placeless}
-use Rattle.pcal_tree.specs.Algorithm.{nowhere, Span, Name, Statement, assign, branch, either, with, while, macro, call, return, Statements, done, then, mark, Branches, no_branches, or, Macro, Procedure, Process, Main, alone, processes, Algorithm}
-use Rattle.pcal_tree.specs.Labelled.{Supply, names_after, labelled_if, inside_needs, needs_label, before, add_inside, add, add_some, add_to_macros, add_to_procedures, add_to_processes, add_to_main, with_labels}
-use Rattle.pcal_tree.specs.OffencesSteps.{Before, at_label, at_first, inside, next, offences_at, nothing_put, call_effect, effects_in, procedure_effects, outer_effects}
+use Rattle.pcal_tree.specs.Algorithm.{nowhere, Span, Name, Statement, assign, branch, either, with, while, macro, call, Statements, done, then, mark, Branches, no_branches, or, Macro, Procedure, Process, Main, alone, processes, Algorithm}
+use Rattle.pcal_tree.specs.Labelled.{Supply, names_after, labelled_if, inside_needs, needs_label, before, add_inside, add, add_some, add_to_macros, add_to_procedures, add_to_processes, add_to_main}
+use Rattle.pcal_tree.specs.OffencesSteps.{Before, at_label, at_first, inside, next, nothing_put, call_effect, effects_in, procedure_effects, outer_effects}
 use Rattle.pcal_tree.specs.Paths.{Effect, Effects, nothing, Path, after_one}
-use Rattle.pcal_tree.specs.Placeless.{no_span, statement_placeless, statements_placeless, branches_placeless, declarations_placeless, definitions_placeless, macros_placeless, procedures_placeless, processes_placeless, main_placeless, placeless}
+use Rattle.pcal_tree.specs.Placeless.{no_span, statement_placeless, statements_placeless, branches_placeless, declarations_placeless, macros_placeless, procedures_placeless, processes_placeless, main_placeless, placeless}
 use Rattle.pcal_tree.specs.Run.{Partner, partner_of}
 use Rattle.pcal_tree.specs.Tests.{is_empty}
 use Rattle.pcal_tree.specs.Variables.{declared}
 use Rattle.translation.proofs.AgainOffences.{rules, rules_two, assigned_bare, after_one_bare, next_bare, offences_bare, inside_offences_bare, within_bare}
-use Rattle.translation.proofs.NoPlaces.{declared_bare, declarations_joined}
+use Rattle.translation.proofs.BareNames.{declarations_joined}
+use Rattle.translation.proofs.NoPlaces.{declared_bare}
 use Rattle.translation.proofs.PlacelessAlgorithm.{macros_reversed}
 use Rattle.translation.proofs.PlacelessItems.{partner_placeless, partner_bare}
 

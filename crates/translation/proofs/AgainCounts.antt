@@ -1,12 +1,11 @@
 -- How many names an algorithm has, how long its chains of macros are, how deep its definitions nest, and how large it is with macro calls written out, rests on no place.
-use Rattle.std.proofs.Common.{◌≡◌, ℕ, suc, ◌+◌, ◌*◌, max, length, nat_lt, List, [], ◌∷◌, ◌++◌, map, flat_map, reverse, drop, bytes_eq, refl, sym, ap, ◌∙◌}
+use Rattle.std.proofs.Common.{◌≡◌, ℕ, suc, ◌+◌, ◌*◌, max, length, nat_lt, List, [], ◌∷◌, map, flat_map, reverse, drop, refl, sym, ap, ◌∙◌}
 use Rattle.std.proofs.lemmas.List.{drop-map, length-map}
 use Rattle.tla_token.specs.declared.rule.Rule.TheVariants as rule
 use Rattle.tla_token.specs.declared.rule.Rule.TheVariants.{TooMany}
-use Rattle.tla_token.specs.declared.rule.Refusal.{Refusal}
 use Rattle.tla_token.specs.Limits.{most_variables, most_processes, most_procedures, most_labels, longest_chain, deepest_definition}
 use Rattle.tla_tree.specs.Nesting.{form_nesting, tree_nesting, trees_nesting}
-use Rattle.tla_tree.specs.Tree.{Word, Name, words, Form, name, binding, strict, except, apply, select, Tree, node, Trees, no_trees, tree, seen_names}
+use Rattle.tla_tree.specs.Tree.{Word, Name, words, Form, name, binding, strict, except, Tree, node, Trees, no_trees, tree, seen_names}
 use Rattle.tla_tree.specs.laws.Placeless.{name_placeless, names_placeless, form_placeless, tree_placeless, trees_placeless}
 use Rattle.tla_value.specs.DefinitionNesting as nesting
 use Rattle.tla_value.specs.DefinitionNesting.{Depths, hidden, nests, nest, definition_nests, depths}
@@ -19,14 +18,16 @@ use Rattle.pcal_tree.specs.OffencesNames.{names_of, process_names}
 use Rattle.pcal_tree.specs.Placeless.{assignments_placeless, binds_placeless, statement_placeless, statements_placeless, branches_placeless, start_placeless, declarations_placeless, definitions_placeless, macros_placeless, procedures_placeless, processes_placeless, main_placeless, placeless}
 use Rattle.pcal_tree.specs.Program.{inner}
 use Rattle.macro_expand.specs.Measured.{of_trees, of_assignments, of_binds, how_many, of_one, of_all, of_some, of_each, of_start, of_declared, of_procedure, of_process, of_main, of_algorithm}
-use Rattle.macro_expand.specs.Size.{weights, form_nodes, nodes, weighed, in_left, after_first, subscript_nodes, first_subscript_nodes, left_nesting, first_left_nesting, Size, both as sum, expression_size, one_node_more, deeper, one_label_more, sizes, call_size, expanded_main, expansion, expanded_size}
+use Rattle.macro_expand.specs.Size.{weights, form_nodes, nodes, weighed, in_left, after_first, subscript_nodes, first_subscript_nodes, left_nesting, first_left_nesting, both as sum, expression_size, one_node_more, deeper, one_label_more, sizes, call_size, expanded_main, expansion}
 use Rattle.macro_expand.specs.TooLarge.{is_too_large, too_large}
-use Rattle.translation.proofs.AgainJumps.{label_placeless, all_labels_bare}
+use Rattle.translation.proofs.AgainJumps.{all_labels_bare}
 use Rattle.translation.proofs.AgainOffences.{rules, rules_two, rules_if}
-use Rattle.translation.proofs.AgainParts.{both, each_list, each_one, each_same, procedure_placeless, process_placeless, procedures_each, processes_each, routines_each, words_bare, seen_bare, names_of_bare, process_names_bare}
+use Rattle.translation.proofs.AgainParts.{procedure_placeless, procedures_each, seen_bare, names_of_bare, process_names_bare}
 use Rattle.translation.proofs.AgainUsed.{calls_bare}
+use Rattle.translation.proofs.BareNames.{both, each_list, each_one, each_same, label_placeless, words_bare}
 use Rattle.translation.proofs.PlacelessAlgorithm.{expanded_bare}
 use Rattle.translation.proofs.PlacelessJumps.{routine_placeless, locals_bare}
+use Rattle.translation.proofs.PlacelessUnits.{all_routines}
 
 -- ---- names that are counted
 
@@ -40,7 +41,7 @@ past_bare n xs us e = ap (λ (vs : List Name). rules (first_past n vs)) e ∙ ap
 variables_bare : (a : Algorithm) → variable_names (placeless a) ≡ names_placeless (variable_names a)
 variables_bare a =
     both name_placeless (names_of a.globals) (flat_map (λ u. names_of (locals u)) (routines a)) _ _ (names_of_bare a.globals)
-    (ap (flat_map (λ (u : Routine). names_of (locals u))) (routines_each a)
+    (ap (flat_map (λ (u : Routine). names_of (locals u))) (all_routines a)
     ∙ each_list routine_placeless name_placeless (λ u. names_of (locals u)) (λ u. names_of (locals u)) (λ u. ap names_of (locals_bare u) ∙ names_of_bare (locals u)) (routines a))
 
 procedures_bare : (a : Algorithm) → procedure_names (placeless a) ≡ names_placeless (procedure_names a)

@@ -1,16 +1,14 @@
 -- Which names are declared twice, which are reserved, and what of the standard modules is wanted, rests on no place.
-use Rattle.std.proofs.Common.{◌≡◌, List, [], ◌∷◌, ◌++◌, map, flat_map, Bool, true, false, ◌&&◌, ◌||◌, not, codes, refl, sym, ap, ◌∙◌}
-use Rattle.std.proofs.lemmas.List.{map-append}
+use Rattle.std.proofs.Common.{◌≡◌, List, [], ◌∷◌, ◌++◌, map, flat_map, Bool, false, ◌&&◌, ◌||◌, not, codes, refl, ap, ◌∙◌}
 use Rattle.tla_token.specs.declared.place.Place.{Place}
 use Rattle.tla_token.specs.declared.rule.Rule.TheVariants.{Duplicate, Reserved, NeedsModule, Infinite}
-use Rattle.tla_token.specs.declared.rule.Refusal.{Refusal}
 use Rattle.tla_token.specs.Signs.{is_among}
 use Rattle.tla_token.specs.Words.{is_own, is_standard}
-use Rattle.tla_tree.specs.Tree.{Word, Name, words, Form, name, strings, strict, operator, except, Tree, node, Trees, no_trees, tree}
+use Rattle.tla_tree.specs.Tree.{Word, Name, words, Form, strings, strict, operator, except, Tree, node, Trees, no_trees, tree}
 use Rattle.tla_tree.specs.laws.Placeless.{name_placeless, names_placeless, form_placeless, tree_placeless, trees_placeless}
 use Rattle.tla_value.specs.Outside.{Outside}
 use Rattle.tla_value.specs.StandardModules.{sequence_modules, tlc_modules, extends_one, has_operator, is_member, is_last}
-use Rattle.pcal_tree.specs.Algorithm.{nowhere, Assignments, no_assignments, assignment, Binds, no_binds, one_of, is, Statement, assign, await, print, assert, branch, either, with, while, macro, call, Statements, done, then, mark, Branches, no_branches, or, Declaration, Definition, Macro, Procedure, Process, Main, alone, processes, Routine, locals, routines, Algorithm}
+use Rattle.pcal_tree.specs.Algorithm.{nowhere, Assignments, no_assignments, assignment, Binds, no_binds, one_of, is, Statement, assign, print, assert, branch, either, with, while, macro, call, Statements, done, then, mark, Branches, no_branches, or, Declaration, Definition, Macro, Procedure, Process, Main, alone, processes, Routine, locals, routines, Algorithm}
 use Rattle.pcal_tree.specs.BoundNames.{Lists, all_of, bound_lists}
 use Rattle.pcal_tree.specs.Expressions.{StatementAt, statements_inside, statements_in, statements_in_some, bodies, all_statements, tree_list, expressions_of_assignments, expressions_of_binds, expressions_of, identities, all_declarations, all_expressions}
 use Rattle.pcal_tree.specs.Offences.{offence_if}
@@ -19,14 +17,16 @@ use Rattle.pcal_tree.specs.OffencesModules.{sign_offences, strings_offences, tex
 use Rattle.pcal_tree.specs.OffencesNames.{repeated, names_of, process_names, repeated_in_main, kept_names, repeated_names}
 use Rattle.pcal_tree.specs.OffencesReserved.{names_of_definition, names_of_macro, names_of_procedure, names_of_process, names_of_main, declared_names, reserved_name, reserved_label, reserved_outside, reserved_declared}
 use Rattle.pcal_tree.specs.Outside.{unit_names}
-use Rattle.pcal_tree.specs.Placeless.{assignments_placeless, binds_placeless, statement_placeless, statements_placeless, branches_placeless, declarations_placeless, definitions_placeless, macros_placeless, procedures_placeless, processes_placeless, main_placeless, placeless}
+use Rattle.pcal_tree.specs.Placeless.{assignments_placeless, binds_placeless, statement_placeless, statements_placeless, branches_placeless, macros_placeless, procedures_placeless, main_placeless, placeless}
 use Rattle.pcal_tree.specs.Reads.{initial}
-use Rattle.translation.proofs.AgainJumps.{label_placeless, all_labels_bare}
+use Rattle.translation.proofs.AgainJumps.{all_labels_bare}
 use Rattle.translation.proofs.AgainOffences.{rules, rules_two, rules_if, rules_each}
-use Rattle.translation.proofs.AgainParts.{both, each_list, each_one, declaration_placeless, definition_placeless, macro_placeless, procedure_placeless, process_placeless, declarations_each, definitions_each, macros_each, procedures_each, processes_each, routines_each, words_bare, names_of_bare, own_names_bare, process_names_bare, all_bare, bound_bare}
+use Rattle.translation.proofs.AgainParts.{declaration_placeless, definition_placeless, macro_placeless, procedure_placeless, process_placeless, declarations_each, definitions_each, macros_each, procedures_each, processes_each, names_of_bare, own_names_bare, process_names_bare}
 use Rattle.translation.proofs.AgainUsed.{initial_bare}
 use Rattle.translation.proofs.AgainUses.{last_bare, member_bare}
+use Rattle.translation.proofs.BareNames.{all_bare, both, bound_bare, each_list, each_one, label_placeless, words_bare}
 use Rattle.translation.proofs.PlacelessJumps.{routine_placeless, locals_bare}
+use Rattle.translation.proofs.PlacelessUnits.{all_routines}
 
 -- names that are those without their places
 abbrev Bare : List Name → List Name → Type 0
@@ -152,7 +152,7 @@ bodies_bare : (a : Algorithm) → bodies (placeless a) ≡ map statements_placel
 bodies_bare a =
     both statements_placeless (map (λ d. d.body) a.macros) (map (λ u. u.body) (routines a)) _ _
     (ap (map (λ (d : Macro). d.body)) (macros_each a.macros) ∙ each_one macro_placeless statements_placeless (λ d. d.body) (λ d. d.body) (λ d. refl) a.macros)
-    (ap (map (λ (u : Routine). u.body)) (routines_each a) ∙ each_one routine_placeless statements_placeless (λ u. u.body) (λ u. u.body) (λ u. refl) (routines a))
+    (ap (map (λ (u : Routine). u.body)) (all_routines a) ∙ each_one routine_placeless statements_placeless (λ u. u.body) (λ u. u.body) (λ u. refl) (routines a))
 
 all_listed : (a : Algorithm) → Listed (all_statements a) (all_statements (placeless a))
 all_listed a =
@@ -188,7 +188,7 @@ identities_written (processes ps) = ap (map (λ (p : Process). p.identity)) (pro
 pub declarations_all : (a : Algorithm) → all_declarations (placeless a) ≡ map declaration_placeless (all_declarations a)
 declarations_all a =
     both declaration_placeless a.globals (flat_map locals (routines a)) _ _ (declarations_each a.globals)
-    (ap (flat_map locals) (routines_each a)
+    (ap (flat_map locals) (all_routines a)
     ∙ each_list routine_placeless declaration_placeless locals locals (λ u. locals_bare u ∙ declarations_each (locals u)) (routines a))
 
 expressions_written : (a : Algorithm) → Written (all_expressions a) (all_expressions (placeless a))

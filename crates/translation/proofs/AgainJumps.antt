@@ -1,48 +1,29 @@
 -- The rules on labels that an algorithm offends against rest on no place.
-use Rattle.std.proofs.Common.{◌≡◌, List, [], ◌∷◌, ◌++◌, map, flat_map, reverse, Bool, true, false, ◌||◌, not, codes, None, Some, refl, sym, ap, ◌∙◌}
+use Rattle.std.proofs.Common.{◌≡◌, List, [], ◌∷◌, ◌++◌, map, flat_map, reverse, Bool, true, false, ◌||◌, not, codes, None, Some, refl, ap, ◌∙◌}
 use Rattle.tla_token.specs.declared.place.Place.{Place}
 use Rattle.tla_token.specs.declared.rule.Rule.TheVariants.{LabelInside, UnknownLabel, ReturnOutside, DoubleLabel, FirstLabel}
 use Rattle.tla_token.specs.Signs.{is_among}
 use Rattle.tla_tree.specs.Tree.{Word, Trees}
-use Rattle.tla_tree.specs.laws.Placeless.{name_placeless, trees_placeless}
+use Rattle.tla_tree.specs.laws.Placeless.{trees_placeless}
 use Rattle.pcal_tree.specs.Algorithm.{nowhere, Statement, branch, either, with, while, goto, call, return, Statements, done, then, mark, Branches, no_branches, or, Macro, Procedure, Process, Main, alone, processes, Algorithm}
 use Rattle.pcal_tree.specs.Offences.{offence_if}
-use Rattle.pcal_tree.specs.OffencesLabels.{Label, labels_of_one, labels, labels_of_some, label_words, labels_of_main, all_labels, Within, within_with, jump_offences_here, jump_offences_inside, jump_offences, jump_offences_of_some, second_labels, misplaced, of_macro, of_procedure, of_body, of_main, label_offences}
+use Rattle.pcal_tree.specs.OffencesLabels.{Label, labels, label_words, labels_of_main, all_labels, Within, within_with, jump_offences_here, jump_offences_inside, jump_offences, jump_offences_of_some, second_labels, misplaced, of_macro, of_procedure, of_body, of_main, label_offences}
 use Rattle.pcal_tree.specs.OffencesSteps.{at_first, call_effect, procedure_effects, outer_effects, missing_in_macro, missing_in_body}
 use Rattle.pcal_tree.specs.Paths.{Effect, nothing}
-use Rattle.pcal_tree.specs.Placeless.{statement_placeless, statements_placeless, branches_placeless, procedures_placeless, processes_placeless, macros_placeless, main_placeless, placeless}
+use Rattle.pcal_tree.specs.Placeless.{statement_placeless, statements_placeless, branches_placeless, procedures_placeless, macros_placeless, main_placeless, placeless}
 use Rattle.translation.proofs.AgainAdded.{calls_bare, outer_bare, own_bare}
 use Rattle.translation.proofs.AgainOffences.{rules, rules_two, rules_if, rules_each, step_offences_bare}
-use Rattle.translation.proofs.AgainParts.{both, each_list, macro_placeless, procedure_placeless, process_placeless, macros_each, procedures_each, processes_each}
+use Rattle.translation.proofs.AgainParts.{macro_placeless, procedure_placeless, process_placeless, macros_each, procedures_each, processes_each}
+use Rattle.translation.proofs.BareNames.{both, each_list, label_placeless, labels_bare}
 use Rattle.translation.proofs.NoPlaces.{all_labels as label_words_bare}
 
 -- ---- labels
-
-abbrev pub label_placeless : Label → Label
-label_placeless l = record { name = name_placeless l.name; second = l.second }
 
 abbrev Bare : List Label → List Label → Type 0
 Bare xs ys = ys ≡ map label_placeless xs
 
 two : (xs ys us vs : List Label) → Bare xs us → Bare ys vs → Bare (xs ++ ys) (us ++ vs)
 two = both label_placeless
-
-mutual
-  one_labels : (st : Statement) → Bare (labels_of_one st) (labels_of_one (statement_placeless st))
-  one_labels (branch e a b) = two (labels false a) (labels false b) _ _ (labels_bare false a) (labels_bare false b)
-  one_labels (either bs) = some_labels bs
-  one_labels (with bs b) = labels_bare false b
-  one_labels (while e b) = labels_bare false b
-  one_labels st = refl
-
-  pub labels_bare : (l : Bool) (b : Statements) → Bare (labels l b) (labels l (statements_placeless b))
-  labels_bare l done = refl
-  labels_bare l (mark n k rest) = ap (λ (ls : List Label). record { name = name_placeless n; second = l } ∷ ls) (labels_bare true rest)
-  labels_bare l (then at st rest) = two (labels_of_one st) (labels false rest) _ _ (one_labels st) (labels_bare false rest)
-
-  some_labels : (bs : Branches) → Bare (labels_of_some bs) (labels_of_some (branches_placeless bs))
-  some_labels no_branches = refl
-  some_labels (or b bs) = two (labels false b) (labels_of_some bs) _ _ (labels_bare false b) (some_labels bs)
 
 main_labels : (m : Main) → Bare (labels_of_main m) (labels_of_main (main_placeless m))
 main_labels (alone b) = labels_bare false b

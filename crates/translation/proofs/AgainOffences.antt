@@ -1,20 +1,20 @@
 -- Where a label is missing, and what is assigned twice, rests on no place: without its places an algorithm offends against the same of these rules, in the same order.
-use Rattle.std.proofs.Common.{◌≡◌, List, [], ◌∷◌, ◌++◌, map, Bool, true, false, ◌||◌, ◌&&◌, not, cond, bytes_eq, Option, Some, None, option_map, refl, sym, ap, ◌∙◌}
+use Rattle.std.proofs.Common.{◌≡◌, List, [], ◌∷◌, ◌++◌, map, Bool, true, false, ◌||◌, cond, bytes_eq, Option, Some, None, option_map, refl, sym, ap, ◌∙◌}
 use Rattle.std.specs.List.{flat_map, list_any}
 use Rattle.std.specs.Option.{option_or}
 use Rattle.std.proofs.lemmas.List.{map-append}
 use Rattle.tla_token.specs.declared.place.Place.{Place}
 use Rattle.tla_token.specs.declared.rule.Rule.{Rule}
-use Rattle.tla_token.specs.declared.rule.Rule.TheVariants.{WhileLabel, AfterJump, AfterBranch, AssignTwice}
+use Rattle.tla_token.specs.declared.rule.Rule.TheVariants.{AfterJump, AfterBranch, AssignTwice}
 use Rattle.tla_token.specs.declared.rule.Refusal.{Refusal}
 use Rattle.tla_tree.specs.Tree.{Word, Tree, Trees, Graft}
 use Rattle.tla_tree.specs.laws.Placeless.{names_placeless, tree_placeless, trees_placeless}
 use Rattle.pcal_tree.specs.Algorithm.{nowhere, Name, Assignments, no_assignments, assignment, Statement, assign, branch, either, with, while, goto, macro, call, return, Statements, done, then, mark, Branches, no_branches, or, Macro}
 use Rattle.pcal_tree.specs.Expand.{graft_all}
-use Rattle.pcal_tree.specs.Offences.{offence, offence_if}
-use Rattle.pcal_tree.specs.OffencesSteps.{holds_one, holds, holds_some, due_after, Before, at_label, inside, next, Visit, visits_inside, visits, visits_of_some, due_offence, while_offence, missing_label, effect_with, effect_at, assigns_twice, offences_at, step_offences, in_macro, body_visits, reached_variables, effect_of_body, called_with, effect_within}
-use Rattle.pcal_tree.specs.Paths.{some_word, roots, clashes, Effect, Effects, nothing, assigned, Path, joined, rounds, after_one, after, after_some, is_reached, has_assigned}
-use Rattle.pcal_tree.specs.Placeless.{no_span, assignments_placeless, statement_placeless, statements_placeless, branches_placeless, macros_placeless}
+use Rattle.pcal_tree.specs.Offences.{offence_if}
+use Rattle.pcal_tree.specs.OffencesSteps.{holds_one, holds, holds_some, due_after, Before, at_label, inside, next, Visit, visits_inside, visits, visits_of_some, due_offence, while_offence, missing_label, effect_with, assigns_twice, offences_at, step_offences, in_macro, body_visits, reached_variables, effect_of_body, called_with, effect_within}
+use Rattle.pcal_tree.specs.Paths.{some_word, roots, Effect, Effects, assigned, Path, joined, rounds, after_one, after, after_some, is_reached, has_assigned}
+use Rattle.pcal_tree.specs.Placeless.{assignments_placeless, statement_placeless, statements_placeless, branches_placeless, macros_placeless}
 use Rattle.pcal_tree.specs.Run.{Partner, no_partner, goto_partner, return_partner, partner_of, is_pair, arguments}
 use Rattle.translation.proofs.PlacelessItems.{partner_placeless, partner_bare}
 use Rattle.translation.proofs.WritableBare.{root_bare, clashes_bare, grafted_all, arguments_bare}

@@ -3,11 +3,10 @@ use Rattle.std.proofs.Common.{◌≡◌, List, [], ◌∷◌, ◌++◌, map, fla
 use Rattle.std.specs.List.{list_any}
 use Rattle.tla_token.specs.declared.place.Place.{Place}
 use Rattle.tla_token.specs.declared.rule.Rule.TheVariants.{ProcessNotConstant, InitSelf, InitLater, SelfOutside, DefinedStale}
-use Rattle.tla_token.specs.declared.rule.Refusal.{Refusal}
 use Rattle.tla_token.specs.Signs.{is_among}
 use Rattle.tla_tree.specs.Tree.{Word, Name, words, Tree, root_place}
 use Rattle.tla_tree.specs.laws.Placeless.{name_placeless, names_placeless, tree_placeless}
-use Rattle.pcal_tree.specs.Algorithm.{nowhere, Start, unset, equals, among, Declaration, declares, Definition, Macro, Procedure, Process, Main, alone, processes, Routine, locals, routines, Statement, assign, await, print, assert, skip, branch, either, with, while, goto, macro, call, return, Statements, Algorithm}
+use Rattle.pcal_tree.specs.Algorithm.{nowhere, Start, unset, equals, among, Declaration, declares, Definition, Macro, Procedure, Process, Main, alone, processes, Routine, locals, routines, Statement, goto, call, Statements, Algorithm}
 use Rattle.pcal_tree.specs.Expand.{expanded}
 use Rattle.pcal_tree.specs.Offences.{offence_if}
 use Rattle.pcal_tree.specs.OffencesCounts.{calls_of}
@@ -15,17 +14,18 @@ use Rattle.pcal_tree.specs.OffencesReads.{processes_of, not_constant, process_of
 use Rattle.pcal_tree.specs.OffencesSelf.{self_offence, selves, used_by_starts, without, reached, used_in_macros, used_by_procedure, used_outside, used_at_the_top, self_offences}
 use Rattle.pcal_tree.specs.OffencesStale.{used_by_variables, used_by_call, self_at, jumps_use, stands_for, stale_at, Looking, stale_in, stale_in_procedure, stale_in_process, stale_in_main, written_out_spots, stale_offences}
 use Rattle.pcal_tree.specs.Paths.{has_assigned}
-use Rattle.pcal_tree.specs.Placeless.{statement_placeless, statements_placeless, start_placeless, declarations_placeless, definitions_placeless, macros_placeless, procedures_placeless, main_placeless, placeless}
+use Rattle.pcal_tree.specs.Placeless.{statement_placeless, statements_placeless, start_placeless, declarations_placeless, procedures_placeless, main_placeless, placeless}
 use Rattle.pcal_tree.specs.Reads.{named, used, initial, Reading, through, looked_at, among_looked_at, readings, readings_of}
 use Rattle.pcal_tree.specs.Spots.{Spot, spots_in, used_in_body}
 use Rattle.pcal_tree.specs.Variables.{declared}
 use Rattle.translation.proofs.AgainOffences.{rules, rules_two, rules_if, rules_each}
-use Rattle.translation.proofs.AgainParts.{both, each_list, each_one, each_joined, map_reversed, declaration_placeless, definition_placeless, macro_placeless, procedure_placeless, process_placeless, definitions_each, macros_each, procedures_each, processes_each, routines_each, words_bare}
+use Rattle.translation.proofs.AgainParts.{definition_placeless, macro_placeless, procedure_placeless, process_placeless, definitions_each, macros_each, procedures_each, processes_each}
 use Rattle.translation.proofs.AgainUsed.{used_bare, initial_bare, starts_used_in, starts_used, spot_placeless, spots_bare, body_used, calls_bare}
-use Rattle.translation.proofs.NoPlaces.{declared_bare, declarations_joined}
+use Rattle.translation.proofs.BareNames.{both, declarations_joined, each_joined, each_list, each_one, map_reversed, words_bare}
+use Rattle.translation.proofs.NoPlaces.{declared_bare}
 use Rattle.translation.proofs.PlacelessAlgorithm.{expanded_bare}
-use Rattle.translation.proofs.PlacelessItems.{place_bare}
 use Rattle.translation.proofs.PlacelessJumps.{routine_placeless, locals_bare}
+use Rattle.translation.proofs.PlacelessUnits.{all_routines}
 
 -- names that are those without their places
 abbrev Bare : List Name → List Name → Type 0
@@ -102,7 +102,7 @@ own_declared u = ap declared (locals_bare u) ∙ declared_bare (locals u)
 
 variables_same : (a : Algorithm) → all_variables (placeless a) ≡ all_variables a
 variables_same a =
-    λ i. declared_bare a.globals i ++ (ap (flat_map (λ (u : Routine). declared (locals u))) (routines_each a)
+    λ i. declared_bare a.globals i ++ (ap (flat_map (λ (u : Routine). declared (locals u))) (all_routines a)
     ∙ each_joined routine_placeless (λ u. declared (locals u)) (λ u. declared (locals u)) own_declared (routines a)) i
 
 later_bare : (a : Algorithm) (before : List Word) (e : Tree) → reads_later (placeless a) before (tree_placeless e) ≡ reads_later a before e
@@ -124,7 +124,7 @@ pub order_offences_bare : (a : Algorithm) → rules (order_offences (placeless a
 order_offences_bare a =
     rules_two (later_in (placeless a) [] (declarations_placeless a.globals)) (flat_map (λ u. later_in (placeless a) (declared (declarations_placeless a.globals)) (locals u)) (routines (placeless a)))
     (later_in a [] a.globals) (flat_map (λ u. later_in a (declared a.globals) (locals u)) (routines a)) (later_ones a [] a.globals)
-    ((λ i. rules (flat_map (λ (u : Routine). later_in (placeless a) (declared_bare a.globals i) (locals u)) (routines_each a i)))
+    ((λ i. rules (flat_map (λ (u : Routine). later_in (placeless a) (declared_bare a.globals i) (locals u)) (all_routines a i)))
     ∙ rules_each routine_placeless (λ u. later_in (placeless a) (declared a.globals) (locals u)) (λ u. later_in a (declared a.globals) (locals u))
     (λ u. ap (λ (ds : List Declaration). rules (later_in (placeless a) (declared a.globals) ds)) (locals_bare u) ∙ later_ones a (declared a.globals) (locals u)) (routines a))
 

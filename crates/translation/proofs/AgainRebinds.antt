@@ -1,23 +1,21 @@
 -- Which names are bound where they are in scope rests on no place.
-use Rattle.std.proofs.Common.{◌≡◌, List, [], ◌∷◌, ◌++◌, map, flat_map, reverse, Bool, true, false, ◌&&◌, ◌||◌, cond, bytes_eq, codes, refl, sym, ap, ◌∙◌}
-use Rattle.std.proofs.lemmas.List.{map-append}
+use Rattle.std.proofs.Common.{◌≡◌, List, [], ◌∷◌, ◌++◌, map, flat_map, reverse, Bool, true, false, ◌&&◌, ◌||◌, cond, bytes_eq, codes, refl, ap, ◌∙◌}
 use Rattle.tla_token.specs.declared.rule.Rule.TheVariants.{Rebind}
-use Rattle.tla_token.specs.declared.rule.Refusal.{Refusal}
 use Rattle.tla_token.specs.Signs.{is_among}
 use Rattle.tla_tree.specs.Tree.{Word, Name, words, Form, name, Tree, node, Trees, no_trees, tree, seen_names}
 use Rattle.tla_tree.specs.laws.Placeless.{name_placeless, names_placeless, form_placeless, tree_placeless, trees_placeless}
 use Rattle.tla_value.specs.Outside.{Outside}
 use Rattle.pcal_tree.specs.Algorithm.{nowhere, Assignments, no_assignments, assignment, Binds, no_binds, one_of, is, Statement, assign, await, print, assert, skip, branch, either, with, while, goto, macro, call, return, Statements, done, then, mark, Branches, no_branches, or, Start, unset, equals, among, Declaration, Definition, Macro, Procedure, Process, Main, alone, processes, Algorithm}
 use Rattle.pcal_tree.specs.BoundNames.{all_of, lists_of, names_of_binds}
-use Rattle.pcal_tree.specs.Offences.{offence_if}
 use Rattle.pcal_tree.specs.OffencesNames.{names_of}
 use Rattle.pcal_tree.specs.OffencesRebind.{Standing, named, stands_for, Standings, naming, in_scope, brought, may_rebind, rebound, rebound_all, put_in, any_name, self_alone, form_rebinds, tree_rebinds, parts_rebind, Piece, binds, frees, free_piece, pieces, pieces_in, piece_names, bound_by, Calls, start_rebinds, starts_rebind, jump_rebinds, call_rebinds, whole_rebinds, each_rebinds, assignments_rebind, binds_rebind, one_rebinds, body_rebinds, branches_rebind, putting_in, macro_rebinds, texts_rebind, standing_outside, standing_inside, definitions_rebind, locals_rebind, procedure_rebinds, in_process_body, process_rebinds, main_rebinds, rebind_offences_of}
 use Rattle.pcal_tree.specs.Outside.{unit_names}
 use Rattle.pcal_tree.specs.Placeless.{assignments_placeless, binds_placeless, statement_placeless, statements_placeless, branches_placeless, start_placeless, declarations_placeless, definitions_placeless, macros_placeless, procedures_placeless, main_placeless, placeless}
 use Rattle.pcal_tree.specs.Variables.{declared}
 use Rattle.translation.proofs.AgainOffences.{rules, rules_two, rules_if, rules_each}
-use Rattle.translation.proofs.AgainParts.{both, each_list, each_one, each_same, declaration_placeless, definition_placeless, procedure_placeless, process_placeless, declarations_each, definitions_each, procedures_each, processes_each, words_bare, seen_bare, names_of_bare, binds_names_bare, all_bare, form_lists}
-use Rattle.translation.proofs.NoPlaces.{declared_bare, declarations_joined}
+use Rattle.translation.proofs.AgainParts.{declaration_placeless, definition_placeless, procedure_placeless, process_placeless, declarations_each, definitions_each, procedures_each, processes_each, seen_bare, names_of_bare}
+use Rattle.translation.proofs.BareNames.{all_bare, binds_names_bare, both, declarations_joined, each_list, each_one, each_same, form_lists, words_bare}
+use Rattle.translation.proofs.NoPlaces.{declared_bare}
 use Rattle.translation.proofs.PlacelessAlgorithm.{macros_reversed}
 
 -- ---- what a text has around it, without places

@@ -1,6 +1,5 @@
 -- The names that an algorithm without its places uses are those that it uses with them, without their places: in expressions, and on the paths through statements.
-use Rattle.std.proofs.Common.{◌≡◌, List, [], ◌∷◌, ◌++◌, map, flat_map, Bool, true, false, cond, Some, refl, sym, ap, ◌∙◌}
-use Rattle.std.proofs.lemmas.List.{map-append}
+use Rattle.std.proofs.Common.{◌≡◌, List, [], ◌∷◌, ◌++◌, map, flat_map, Bool, true, false, cond, Some, refl, ap, ◌∙◌}
 use Rattle.tla_token.specs.declared.place.Place.{Place}
 use Rattle.tla_token.specs.Signs.{is_among}
 use Rattle.tla_tree.specs.Tree.{Word, Name, words, Form, name, operator_call, Tree, node, Trees, no_trees, tree, seen_names}
@@ -14,7 +13,8 @@ use Rattle.pcal_tree.specs.Placeless.{assignments_placeless, binds_placeless, st
 use Rattle.pcal_tree.specs.Reads.{if_free, named, used_by_form, used, used_by_parts, used_by_all, used_by_assignments, used_by_binds, initial}
 use Rattle.pcal_tree.specs.Spots.{Spot, after_path, Further, spots_of_one, spots, spots_of_some, spots_in, used_in_body}
 use Rattle.translation.proofs.AgainOffences.{assigned_bare, after_one_bare}
-use Rattle.translation.proofs.AgainParts.{both, each_list, each_one, words_bare, seen_bare, binds_names_bare}
+use Rattle.translation.proofs.AgainParts.{seen_bare}
+use Rattle.translation.proofs.BareNames.{binds_names_bare, both, each_list, each_one, words_bare}
 
 -- names that are those without their places
 abbrev Bare : List Name → List Name → Type 0

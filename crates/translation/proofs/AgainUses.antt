@@ -1,23 +1,23 @@
 -- Whether names are used as they may be rests on no place.
 use Rattle.std.proofs.Common.{◌≡◌, ℕ, suc, length, nat_eq, List, [], ◌∷◌, ◌++◌, map, flat_map, reverse, Bool, true, false, ◌&&◌, not, cond, bytes_eq, codes, Option, Some, None, option_map, refl, sym, ap, ◌∙◌}
-use Rattle.std.proofs.lemmas.List.{map-append, length-map}
+use Rattle.std.proofs.lemmas.List.{length-map}
 use Rattle.tla_token.specs.declared.place.Place.{Place}
-use Rattle.tla_token.specs.declared.rule.Rule.TheVariants.{Arity, NeedsModule, Infinite, Unknown}
-use Rattle.tla_token.specs.declared.rule.Refusal.{Refusal}
+use Rattle.tla_token.specs.declared.rule.Rule.TheVariants.{Arity, NeedsModule, Infinite}
 use Rattle.tla_tree.specs.Tree.{Word, Name, words, Form, name, operator_call, Tree, node, Trees, no_trees, tree, seen_names, root_place}
 use Rattle.tla_tree.specs.laws.Placeless.{name_placeless, names_placeless, form_placeless, tree_placeless, trees_placeless}
 use Rattle.tla_value.specs.Outside.{Outside}
 use Rattle.tla_value.specs.StandardModules.{standard_table, is_member, is_last}
 use Rattle.pcal_tree.specs.Algorithm.{nowhere, Assignments, no_assignments, assignment, Binds, no_binds, one_of, is, Statement, assign, await, print, assert, skip, branch, either, with, while, goto, macro, call, return, Statements, done, then, mark, Branches, no_branches, or, Start, unset, equals, among, Declaration, Definition, Macro, Procedure, Process, Main, alone, processes, Algorithm}
-use Rattle.pcal_tree.specs.NameUses.{Use, takes, variable, argument, standard, unread, Known, Sight, knowing, plain, hidden_name, known_standard, seeing_plain, seeing_variables, use_of, arity_of, use_offences, module_offences, infinite_offences, applied_offences, left_offences, handed_use}
+use Rattle.pcal_tree.specs.NameUses.{Use, takes, variable, argument, standard, unread, Known, Sight, knowing, plain, hidden_name, known_standard, seeing_plain, seeing_variables, use_of, applied_offences, left_offences, handed_use}
 use Rattle.pcal_tree.specs.Offences.{offence_if}
-use Rattle.pcal_tree.specs.OffencesNames.{form_offences, count, in_tree, in_parts, in_whole, in_each, root_offences, in_left, in_left_parts, Calls, call_offences, in_assignments, in_binds, after_binds, in_one, in_body, in_branches, parameter_use, seeing_parameters, macro_offences, always_known, defined_inside, defined_outside, sight_outside, sight_inside, in_start, in_declared, in_definitions, in_procedure, in_process, in_main, use_offences_of}
+use Rattle.pcal_tree.specs.OffencesNames.{form_offences, count, in_tree, in_parts, in_whole, in_each, root_offences, in_left, in_left_parts, Calls, call_offences, in_assignments, in_binds, after_binds, in_one, in_body, in_branches, parameter_use, seeing_parameters, macro_offences, defined_inside, defined_outside, sight_outside, sight_inside, in_start, in_declared, in_definitions, in_procedure, in_process, in_main, use_offences_of}
 use Rattle.pcal_tree.specs.Paths.{root}
 use Rattle.pcal_tree.specs.Placeless.{assignments_placeless, binds_placeless, statement_placeless, statements_placeless, branches_placeless, start_placeless, declarations_placeless, definitions_placeless, macros_placeless, procedures_placeless, main_placeless, placeless}
 use Rattle.pcal_tree.specs.Variables.{declared}
 use Rattle.translation.proofs.AgainOffences.{rules, rules_two, rules_if, rules_each}
-use Rattle.translation.proofs.AgainParts.{each_same, map_reversed, declaration_placeless, definition_placeless, procedure_placeless, process_placeless, declarations_each, definitions_each, procedures_each, processes_each, words_bare, seen_bare}
-use Rattle.translation.proofs.NoPlaces.{declared_bare, declarations_joined}
+use Rattle.translation.proofs.AgainParts.{declaration_placeless, definition_placeless, procedure_placeless, process_placeless, declarations_each, definitions_each, procedures_each, processes_each, seen_bare}
+use Rattle.translation.proofs.BareNames.{declarations_joined, each_same, map_reversed, words_bare}
+use Rattle.translation.proofs.NoPlaces.{declared_bare}
 use Rattle.translation.proofs.PlacelessAlgorithm.{macros_reversed}
 use Rattle.translation.proofs.PlacelessItems.{place_bare}
 use Rattle.translation.proofs.WritableBare.{root_bare}

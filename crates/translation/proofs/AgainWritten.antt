@@ -49,7 +49,7 @@ one_text x t w v a c =
     a.is ∙ ap (λ (s : Span). take s.from x ++ (begin_line ++ (t ++ (end_line ++ (line_end_if_new x ++ drop s.to x))))) same ∙ sym c.is
 
 -- what a file with a translation has outside is the same, in other lines
-outside_same : (x t w : Text) (o q : Outside) → IsFine x → IsInside t → WithTranslation x t w → HasOutside (walk x) o → HasOutside (walk w) q → SameOutside o q
+pub outside_same : (x t w : Text) (o q : Outside) → IsFine x → IsInside t → WithTranslation x t w → HasOutside (walk x) o → HasOutside (walk w) q → SameOutside o q
 outside_same x t w o q fine inside put h k =
     let (p, there, same, alike) = outside_kept x t w o (keeps_file x t w fine inside put) h in
     subst (SameOutside o) (one_outside_of (walk w) p q there k)
@@ -61,7 +61,7 @@ module _ (b : Bool) (x w : Text) (o : Outside) (g : Algorithm) (accepted : IsAcc
   abbrev t : Text
   t = layout (written_region b o g)
 
-  inside : IsInside t
+  pub inside : IsInside t
   inside = layout_inside (written_region b o g) (written_is_region b o g (text_writable x o g accepted short outside))
 
   -- the algorithm is in it, places aside

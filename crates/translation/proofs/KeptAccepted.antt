@@ -60,16 +60,16 @@ none_placed x ts e = by (algorithm_offences ts) e
     by (o ∷ os) e = absurd cc
 
 -- each list of what is wrong has no member
-record NothingWrong (w : Wrong) : Type 0 where
-  bytes : w.bytes ≡ []
-  parts : w.parts ≡ []
-  tokens : w.tokens ≡ []
-  syntax : w.syntax ≡ None
-  counts : w.counts ≡ []
-  names : w.names ≡ []
-  labels : w.labels ≡ []
+pub record NothingWrong (w : Wrong) : Type 0 where
+  pub bytes : w.bytes ≡ []
+  pub parts : w.parts ≡ []
+  pub tokens : w.tokens ≡ []
+  pub syntax : w.syntax ≡ None
+  pub counts : w.counts ≡ []
+  pub names : w.names ≡ []
+  pub labels : w.labels ≡ []
 
-nothing_wrong : (w : Wrong) → refusal_of of_all w ≡ None → NothingWrong w
+pub nothing_wrong : (w : Wrong) → refusal_of of_all w ≡ None → NothingWrong w
 nothing_wrong w e =
     let all : counting w ≡ [] = all_counted (counting w) (none_first (up_to of_all (counting w)) e) in
     let a = neither w.bytes _ all in
@@ -93,7 +93,7 @@ checked_is_spelled forced x (w, h, e) = (record w { names = []; labels = [] }, h
 -- ---- the algorithm that is in it
 
 -- no token of it breaks a rule
-none_of_tokens : (forced : Bool) (x : Text) → AnswersChecking forced x None → (a : AlgorithmText) → algorithm_in x ≡ Some a → algorithm_offences (algorithm_tokens x a) ≡ []
+pub none_of_tokens : (forced : Bool) (x : Text) → AnswersChecking forced x None → (a : AlgorithmText) → algorithm_in x ≡ Some a → algorithm_offences (algorithm_tokens x a) ≡ []
 none_of_tokens forced x (w, h, e) a is = by (algorithm_in x) h.spelling.algorithm is
   where
     by : (o : Option AlgorithmText) → OfAlgorithm x (record w { names = []; labels = [] }) o → o ≡ Some a → algorithm_offences (algorithm_tokens x a) ≡ []

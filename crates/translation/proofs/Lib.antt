@@ -6,6 +6,7 @@ pub mod RowsProcedures
 pub mod RowsProcesses
 mod RowsAll
 mod RowsStands
+pub mod BareNames
 pub mod NoPlaces
 pub mod OfForm
 pub mod ActionTitles
@@ -130,7 +131,17 @@ pub mod CanonicalTold
 pub mod CanonicalRuns
 pub mod CanonicalFaults
 pub mod CanonicalSteps
+pub mod AgainParts
+pub mod AgainUsed
+pub mod AgainJumps
+pub mod AgainUses
+pub mod AgainDeclared
+pub mod AgainRebinds
+pub mod AgainReads
+pub mod AgainCounts
+pub mod AgainOutside
 pub mod AgainWritten
+pub mod AgainChecked
 pub mod AgainFiles
 pub mod RowsRight
 pub mod RowsRuns

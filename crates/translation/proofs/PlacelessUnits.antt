@@ -4,9 +4,9 @@ use Rattle.std.specs.List.{list_any}
 use Rattle.std.specs.Option.{option_or}
 use Rattle.std.proofs.lemmas.List.{map-append}
 use Rattle.tla_tree.specs.declared.op.Op.TheVariants.{Cup}
-use Rattle.tla_tree.specs.Tree.{Word, Name, words, strict, operator, cases, Tree, node, no_trees, tree, graft}
+use Rattle.tla_tree.specs.Tree.{Word, strict, operator, cases, Tree, node, no_trees, tree, graft}
 use Rattle.tla_tree.specs.TreeOf.{trees_from}
-use Rattle.tla_tree.specs.laws.Placeless.{name_placeless, names_placeless, tree_placeless, trees_placeless}
+use Rattle.tla_tree.specs.laws.Placeless.{tree_placeless, trees_placeless}
 use Rattle.tla_value.specs.Definitions as outside_of
 use Rattle.module_tree.specs.Module.{test, Items, item, call, one_way, some_way, all_of, some_of}
 use Rattle.module_tree.specs.Formulas.{self, named, quoted, empty_tuple, equal, is_in, at, function_of_self}
@@ -31,6 +31,7 @@ use Rattle.action_builder.specs.Prepared.{prepared, action_items}
 use Rattle.action_builder.specs.ProcessSets.{set_of_takers, union_from, union, sets_of_processes, process_set_of}
 use Rattle.action_builder.specs.SingleProcess.{in_place_of}
 use Rattle.action_builder.specs.WrittenNames.{renamed, written_statements}
+use Rattle.translation.proofs.BareNames.{each_list, each_one, each_same, words_bare, declarations_joined}
 use Rattle.translation.proofs.NoPlaces.{all_labels}
 use Rattle.translation.proofs.PlacelessItems.{label_bare, prepared_bare, actions_bare, items_bare, put_for}
 use Rattle.translation.proofs.PlacelessJumps.{routine_placeless, takers_placeless, taken_placeless, routines_bare, mains_bare, taken_bare, taken_procedures_bare, locals_bare, Q, own_same, vars_bare, renamed_bare, localised_bare, written_bare, first_bare, jumps_bare}
@@ -38,17 +39,8 @@ use Rattle.translation.proofs.WritableBare.{graft_bare}
 
 -- ---- lists
 
-pub each_bare : {X Y Z W : Type 0} (h : Y → W) (k : X → Z) (F : X → Y) (G : Z → W) → ((x : X) → h (F x) ≡ G (k x)) → (xs : List X) → map h (map F xs) ≡ map G (map k xs)
-each_bare h k F G e [] = refl
-each_bare h k F G e (x ∷ xs) = λ i. e x i ∷ each_bare h k F G e xs i
-
-pub each_same : {X Y : Type 0} (h : Y → Y) (F G : X → Y) → ((x : X) → h (F x) ≡ G x) → (xs : List X) → map h (map F xs) ≡ map G xs
-each_same h F G e [] = refl
-each_same h F G e (x ∷ xs) = λ i. e x i ∷ each_same h F G e xs i
-
 pub flat_bare : {X Y Z W : Type 0} (h : Y → W) (k : X → Z) (F : X → List Y) (G : Z → List W) → ((x : X) → map h (F x) ≡ G (k x)) → (xs : List X) → map h (flat_map F xs) ≡ flat_map G (map k xs)
-flat_bare h k F G e [] = refl
-flat_bare h k F G e (x ∷ xs) = map-append h (F x) (flat_map F xs) ∙ (λ i. e x i ++ flat_bare h k F G e xs i)
+flat_bare h k F G e xs = sym (each_list k h G F (λ x. sym (e x)) xs)
 
 -- ---- where a step begins
 
@@ -155,10 +147,6 @@ for_all_bare (processes ps) e = refl
 
 -- ---- definitions and model values
 
-words_bare : (xs : List Name) → words (names_placeless xs) ≡ words xs
-words_bare [] = refl
-words_bare (x ∷ xs) = λ i. x.word ∷ words_bare xs i
-
 pub definitions_bare : (ds : List Definition) → map definition_placeless (map inner ds) ≡ map inner (definitions_placeless ds)
 definitions_bare [] = refl
 definitions_bare (d ∷ ds) = λ i. record { title = d.name.word; params = sym (words_bare d.params) i; body = tree_placeless d.body; outside = false } ∷ definitions_bare ds i
@@ -172,20 +160,16 @@ any_unset : (ds : List Declaration) → list_any (λ d. is_unset d.start) (decla
 any_unset [] = refl
 any_unset (d ∷ ds) = λ i. unset_bare d.start i || any_unset ds i
 
-joined : (ds es : List Declaration) → declarations_placeless ds ++ declarations_placeless es ≡ declarations_placeless (ds ++ es)
-joined [] es = refl
-joined (d ∷ ds) es = λ i. record { name = name_placeless d.name; start = start_placeless d.start } ∷ joined ds es i
-
 locals_all : (us : List Routine) → flat_map locals (map routine_placeless us) ≡ declarations_placeless (flat_map locals us)
 locals_all [] = refl
-locals_all (u ∷ us) = (λ i. locals_bare u i ++ locals_all us i) ∙ joined (locals u) (flat_map locals us)
+locals_all (u ∷ us) = (λ i. locals_bare u i ++ locals_all us i) ∙ declarations_joined (locals u) (flat_map locals us)
 
-all_routines : (g : Algorithm) → routines (placeless g) ≡ map routine_placeless (routines g)
+pub all_routines : (g : Algorithm) → routines (placeless g) ≡ map routine_placeless (routines g)
 all_routines g = (λ i. routines_bare g i ++ mains_bare g g.main i) ∙ sym (map-append routine_placeless (procedure_routines g) (main_routines g g.main))
 
 pub model_bare : (g : Algorithm) → model_values (placeless g) ≡ model_values g
 model_bare g =
-    let ds : all_declarations (placeless g) ≡ declarations_placeless (all_declarations g) = (λ i. declarations_placeless g.globals ++ (ap (flat_map locals) (all_routines g) ∙ locals_all (routines g)) i) ∙ joined g.globals (flat_map locals (routines g)) in
+    let ds : all_declarations (placeless g) ≡ declarations_placeless (all_declarations g) = (λ i. declarations_placeless g.globals ++ (ap (flat_map locals) (all_routines g) ∙ locals_all (routines g)) i) ∙ declarations_joined g.globals (flat_map locals (routines g)) in
     λ i. cond ((ap (list_any (λ (d : Declaration). is_unset d.start)) ds ∙ any_unset (all_declarations g)) i) (codes "defaultInitValue" ∷ []) []
 
 module _ (outside : List outside_of.Definition) (N : Naming) (g : Algorithm) where
@@ -216,11 +200,11 @@ module _ (outside : List outside_of.Definition) (N : Naming) (g : Algorithm) whe
 
   label_actions_bare : (t : Taken) → map action_placeless (label_actions P t) ≡ label_actions B (taken_placeless t)
   label_actions_bare t =
-      each_same action_placeless (label_action P t) (label_action B (taken_placeless t)) (label_action_bare t) (label_words t.routine.body) ∙ ap (map (label_action B (taken_placeless t))) (sym (all_labels false t.routine.body))
+      each_same (label_action P t) action_placeless (label_action B (taken_placeless t)) (label_action_bare t) (label_words t.routine.body) ∙ ap (map (label_action B (taken_placeless t))) (sym (all_labels false t.routine.body))
 
   label_ways_bare : (t : Taken) → map way_placeless (label_ways P t) ≡ label_ways B (taken_placeless t)
   label_ways_bare t =
-      each_same way_placeless (λ l. one_way (call_by t.takers (label_name P t.routine l))) (λ l. one_way (call_by (takers_placeless t.takers) (label_name P t.routine l))) (λ l. ap one_way (call_bare t.takers (label_name P t.routine l))) (label_words t.routine.body)
+      each_same (λ l. one_way (call_by t.takers (label_name P t.routine l))) way_placeless (λ l. one_way (call_by (takers_placeless t.takers) (label_name P t.routine l))) (λ l. ap one_way (call_bare t.takers (label_name P t.routine l))) (label_words t.routine.body)
       ∙ ap (map (λ l. one_way (call_by (takers_placeless t.takers) (label_name P t.routine l)))) (sym (all_labels false t.routine.body))
 
   own_action_bare : (t : Taken) → action_placeless (own_action P t) ≡ own_action B (taken_placeless t)
@@ -250,7 +234,7 @@ module _ (outside : List outside_of.Definition) (N : Naming) (g : Algorithm) whe
   main_ways_bare : (m : Main) → map way_placeless (main_ways P m) ≡ main_ways B (main_placeless m)
   main_ways_bare (alone ss) = flat_bare way_placeless taken_placeless (label_ways P) (label_ways B) label_ways_bare (taken_main g (alone ss)) ∙ ap (flat_map (label_ways B)) (sym (taken_bare g (alone ss)))
   main_ways_bare (processes ps) =
-      each_bare way_placeless taken_placeless (own_way P) (own_way B) (λ t. way_bare t t.takers) (taken_main g (processes ps)) ∙ ap (map (own_way B)) (sym (taken_bare g (processes ps)))
+      each_one (own_way P) (own_way B) way_placeless taken_placeless (λ t. way_bare t t.takers) (taken_main g (processes ps)) ∙ ap (map (own_way B)) (sym (taken_bare g (processes ps)))
 
   last_bare : (c : Bool) → map way_placeless (cond c [] (one_way (call (codes "Terminating")) ∷ [])) ≡ cond c [] (one_way (call (codes "Terminating")) ∷ [])
   last_bare true = refl
@@ -259,7 +243,7 @@ module _ (outside : List outside_of.Definition) (N : Naming) (g : Algorithm) whe
   pub next_bare : (c : Bool) → map way_placeless (next c P) ≡ next c B
   next_bare c =
       map-append way_placeless (map (own_way P) (taken_procedures g)) _
-      ∙ (λ i. (each_bare way_placeless taken_placeless (own_way P) (own_way B) (λ t. way_bare t t.takers) (taken_procedures g) ∙ ap (map (own_way B)) (sym (taken_procedures_bare g))) i
+      ∙ (λ i. (each_one (own_way P) (own_way B) way_placeless taken_placeless (λ t. way_bare t t.takers) (taken_procedures g) ∙ ap (map (own_way B)) (sym (taken_procedures_bare g))) i
       ++ (map-append way_placeless (main_ways P g.main) (cond c [] (one_way (call (codes "Terminating")) ∷ [])) ∙ (λ j. main_ways_bare g.main j ++ last_bare c j)) i)
 
   -- ---- Init

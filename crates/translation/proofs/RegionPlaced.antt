@@ -28,9 +28,10 @@ use Rattle.fairness.specs.Obligations.{written_labels}
 use Rattle.fairness.specs.FairnessLines.{identifier_of, over_of, action_call, guard_of, line_of, fairness_lines}
 use Rattle.translation.specs.Region.{region_of}
 use Rattle.translation.specs.laws.AcceptedLaws.{RegionPlaced}
+use Rattle.translation.proofs.BareNames.{each_one, each_same}
 use Rattle.translation.proofs.NoPlaces.{naming_bare, first_process_bare}
 use Rattle.translation.proofs.PlacelessJumps.{routine_placeless, takers_placeless, taken_placeless, taken_one, routines_bare, Q, vars_bare}
-use Rattle.translation.proofs.PlacelessUnits.{flat_bare, each_bare, each_same, call_bare, process_set_bare, done_bare, ended_bare, definitions_bare, model_bare, all_actions_bare, next_bare, init_bare}
+use Rattle.translation.proofs.PlacelessUnits.{flat_bare, call_bare, process_set_bare, done_bare, ended_bare, definitions_bare, model_bare, all_actions_bare, next_bare, init_bare}
 use Rattle.translation.proofs.PlacesTwice.{region_twice}
 
 -- ---- marked labels, and procedures that are called
@@ -127,7 +128,7 @@ demands_in_bare t s u = λ i. routine_steps (taken_placeless t) s (routine_place
     by : (c : Bool) → map demand_placeless (cond c [] (map (label_steps t u) (strong_labels u.body))) ≡ cond c [] (map (label_steps (taken_placeless t) (routine_placeless u)) (strong_labels (statements_placeless u.body)))
     by true = refl
     by false =
-        each_same demand_placeless (label_steps t u) (label_steps (taken_placeless t) (routine_placeless u)) (λ l. refl) (strong_labels u.body)
+        each_same (label_steps t u) demand_placeless (label_steps (taken_placeless t) (routine_placeless u)) (λ l. refl) (strong_labels u.body)
         ∙ (λ i. map (label_steps (taken_placeless t) (routine_placeless u)) (flat_map (λ (m : Marked). if_strong m.label m.mark) (sym (all_marked u.body) i)))
 
 all_demands_in : (g : Algorithm) (s : Bool) (t : Taken)
@@ -207,7 +208,7 @@ module _ (outside : List Definition) (N : Naming) (g : Algorithm) where
   line_bare (label_steps t u l) = λ i. record { over = over_bare t.takers i; strong = true; guard = None; action = action_bare t u (label_name P u l) i }
 
   lines_bare : map fairness_placeless (fairness_lines P) ≡ fairness_lines B
-  lines_bare = each_bare fairness_placeless demand_placeless (line_of P) (line_of B) line_bare (demands g) ∙ ap (map (line_of B)) (demands_bare g)
+  lines_bare = each_one (line_of P) (line_of B) fairness_placeless demand_placeless line_bare (demands g) ∙ ap (map (line_of B)) (demands_bare g)
 
   pub region_bare : (c : Bool) → region_placeless (region_of c P) ≡ region_of c B
   region_bare c = λ i. record {

@@ -19,6 +19,7 @@ use Rattle.file_answer.proofs.OneTree.{one_held}
 use Rattle.action_builder.specs.WrittenNames.{with_names}
 use Rattle.translation.specs.PromiseWhole.{WrittenWhole}
 use Rattle.translation.specs.Region.{region_of}
+use Rattle.translation.proofs.AgainFiles.{text_checked_again, text_written_again}
 use Rattle.translation.proofs.KeptPromise.{texts_keep_the_promise}
 use Rattle.translation.proofs.RowsProcedures as procedures
 use Rattle.translation.proofs.RowsStands.{add_text, add_good, add_stands, add_same, add_has}
@@ -71,3 +72,10 @@ add_short = omega arith
 
 add_kept : Headline no_options procedures.file procedures.translated
 add_kept = texts_keep_the_promise no_options procedures.file procedures.translated (add_is_right false) add_short add_whole
+
+-- with that text nothing is wrong either, and it alone is what is written for it
+add_is_right_again : AnswersChecking false procedures.translated None
+add_is_right_again = text_checked_again no_options procedures.file procedures.translated (add_is_right false) add_short add_whole
+
+add_stays : WrittenWhole no_options procedures.translated procedures.translated
+add_stays = text_written_again no_options procedures.file procedures.translated (add_is_right false) add_short add_whole

@@ -268,10 +268,14 @@ pub fn process_set_and_termination_are_of_all_processes()
 {}
 
 /// Translating again changes nothing: of an algorithm that is the accepted one but for places, as that in the translated file is, beside what that file has outside, the same
-/// is written, and where it is put in again, the file stays as it is. So a translated file is translated to itself, labels added too.
+/// is written, and where it is put in again, the file stays as it is. So a translated file is translated to itself, labels added too. And where nothing is wrong with a file,
+/// nothing is wrong with it once it is translated, so it isn't refused, and it itself is what is written for it, and nothing else.
 pub fn translating_again_changes_nothing()
     ensures alike { AgainLaw }
     ensures files { FileAgainLaw }
+    ensures accepted { (options : Options) (x w : Text) → AnswersChecking options.label x None → length x < past_text → WrittenWhole options x w → AnswersChecking options.label w None }
+    ensures some { (options : Options) (x w : Text) → AnswersChecking options.label x None → length x < past_text → WrittenWhole options x w → WrittenWhole options w w }
+    ensures one { (options : Options) (x w : Text) → AnswersChecking options.label x None → length x < past_text → WrittenWhole options x w → (u : Text) → WrittenWhole options w u → u ≡ w }
 {}
 
 /// The premises of the promise are met together, and neither side of it is empty. With each of these files nothing is wrong, and what is written for it, with the end that
