@@ -18,9 +18,7 @@ pub mod MeansInit
 pub mod Promise
 pub mod TreeParts
 pub mod TreeBare
-pub mod TreesMoved
-pub mod AlgorithmsMoved
-pub mod SpelledInFile
+pub mod OfForm
 pub mod TreeForms
 pub mod WorkedForms
 pub mod Witness

@@ -17,7 +17,7 @@ use Rattle.module_tree.specs.FileOffences.{file_offences}
 use Rattle.promise.specs.Headline.{Stands}
 use Rattle.first_path.specs.TreeForm.{HasForm}
 use Rattle.first_path.specs.Worked.{worked_text, worked_parts, full_text, full_parts}
-use Rattle.first_path.proofs.SpelledInFile.{stand_there}
+use Rattle.file_answer.proofs.SpelledInFile.{stand_there}
 use Rattle.first_path.proofs.TreeForms.{form_found}
 
 -- an algorithm that the tokens of a file spell is in it

@@ -7,7 +7,6 @@ pub mod RowsProcesses
 mod RowsAll
 mod RowsStands
 pub mod NoPlaces
-pub mod OfForm
 pub mod ActionTitles
 pub mod WrittenIdentifiers
 pub mod WritableBodies

@@ -14,8 +14,8 @@ use Rattle.first_path.proofs.ReadsModule.{apart_read}
 use Rattle.first_path.proofs.TreeForms.{form_stands}
 use Rattle.file_answer.proofs.OneTree.{one_stands}
 use Rattle.translation.specs.Region.{written_module}
-use Rattle.translation.proofs.OfForm.{nowhere_at_all, written_of_form}
-use Rattle.translation.proofs.laws.the_form_is_translated_as_any_algorithm.Goals as goal
+use Rattle.first_path.proofs.OfForm.{nowhere_at_all, written_of_form}
+use Rattle.first_path.proofs.laws.the_form_is_translated_as_any_algorithm.Goals as goal
 
 written_around : (x : List ℕ) (f : Parts) → IsFitted x f → (o : Outside) → Apart o f → (p : Places)
     → Around x (written_module false f.title o (labelled false (algorithm_at p f))) (translation_of x f)
