@@ -24,3 +24,4 @@ pub mod WorkedForms
 pub mod Witness
 mod RowsForm
 mod RowsTree
+mod RowsOutside
