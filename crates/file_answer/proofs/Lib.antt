@@ -16,3 +16,4 @@ pub mod TokensAnswered
 pub mod TokensScanned
 pub mod Changed
 pub mod Refused
+pub mod CheckedClean
