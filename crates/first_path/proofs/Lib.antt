@@ -5,6 +5,7 @@ pub mod WritableForm
 pub mod RegionPlaces
 pub mod BesideKept
 pub mod BoundWords
+pub mod UnitsApart
 pub mod OutsideApart
 pub mod ModuleApart
 pub mod Placing
@@ -19,7 +20,9 @@ pub mod Promise
 pub mod TreeParts
 pub mod TreeBare
 pub mod OfForm
+pub mod OffencesOfForm
 pub mod TreeForms
+pub mod WholeForm
 pub mod WorkedForms
 pub mod Witness
 mod RowsForm

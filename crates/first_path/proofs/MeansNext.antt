@@ -2,11 +2,11 @@
 use Rattle.std.proofs.Common.{◌≡◌, List, [], ◌∷◌, ◌++◌, Bool, true, false, ◌&&◌, cond, bytes_eq, Option, Some, None, codes, refl, sym, ap, ◌∙◌, subst, ◌⊎◌, inl, inr, Ok, Err}
 use Rattle.std.specs.Bool.{IsTrue}
 use Rattle.std.specs.List.{list_all}
-use Rattle.std.proofs.lemmas.Bool.{and_parts, and_from, or_from, or_right, both_ways, false_from_ne_true}
+use Rattle.std.proofs.lemmas.Bool.{and_parts, and_from, or_from, or_right, both_ways}
 use Rattle.std.proofs.lemmas.Option.{same_Some}
 use Rattle.tla_token.specs.declared.place.Place.{Place}
 use Rattle.tla_token.specs.Signs.{is_among}
-use Rattle.tla_token.proofs.Spelled.{among_head, same_bytes}
+use Rattle.tla_token.proofs.Spelled.{among_head}
 use Rattle.tla_tree.specs.Tree.{Word}
 use Rattle.tla_value.specs.declared.fault.FaultKind.TheVariants.{NotInteger}
 use Rattle.tla_value.specs.Value.{Value, text, fault, and_then, or_all, TrueExactly, ◌>>=◌}
@@ -27,12 +27,14 @@ use Rattle.pcal_tree.specs.Step.{StepFrom, course_of, pc_of, Step, Stutters}
 use Rattle.module_tree.specs.ActionTruth.{Verdict, value_in, truth_in, acted, is_value, is_unchanged, are_unchanged}
 use Rattle.module_tree.specs.ModuleTruth.{definitions_in, acts_in, scope, next_holds}
 use Rattle.module_tree.proofs.Tells.{tells_and, tells_or, tells_as, tells_of}
+use Rattle.action_builder.proofs.Equal.{other-name}
 use Rattle.first_path.specs.Form.{number_operand, variable_operand, Right, single, sum, Parts, is_fit}
 use Rattle.first_path.specs.Placed.{Places, right_at, label_at, algorithm_at, module_at}
 use Rattle.promise.specs.NextAndInit.{NextIs}
 use Rattle.first_path.proofs.Names.{all_more, word_same}
 use Rattle.first_path.proofs.Fit.{Fit, fit_of, not_own}
-use Rattle.first_path.proofs.OutsideApart.{other, others, none_other, Apart}
+use Rattle.first_path.proofs.UnitsApart.{other, others, none_other}
+use Rattle.first_path.proofs.OutsideApart.{Apart}
 use Rattle.first_path.proofs.Untitled.{found_untitled}
 use Rattle.first_path.proofs.Means.{true_tells, last_tells, label_free, StandsFor, result, tells_same, label_tells, value_tells, right_tells}
 use Rattle.first_path.proofs.MeansStep.{program_of, actor, stand, Kept, is_actor, actor_is, stand_is, stands_there, there_stands, course_for, course_is, ended}
@@ -288,14 +290,10 @@ right_bound v (sum variable_operand variable_operand) p q s = refl
 kept_are : (p : Places) (f : Parts) → kept (algorithm_at p f) ≡ f.variable ∷ []
 kept_are p f = rw (right_bound f.variable f.right (p 7) (p 8) (p 9)) refl
 
--- words that differ, the other way round
-differ_back : (v w : Word) → bytes_eq v w ≡ false → bytes_eq w v ≡ false
-differ_back v w e = false_from_ne_true (bytes_eq w v) (λ d. both_ways (bytes_eq v w) e (let s : w ≡ v = same_bytes w v d in rw s (word_same v)))
-
 pub label_kept : (o : Outside) (p : Places) (f : Parts) → Fit f → Apart o f → Kept f (naming (algorithm_at p f) o)
 label_kept o p f h a =
     let taken = taken_outside o ++ kept (algorithm_at p f) in
-    let apart : list_all (other f.label) (f.variable ∷ []) ≡ true = others f.label (f.variable ∷ []) (or_from (bytes_eq f.variable f.label) false (differ_back f.label f.variable h.not_variable) refl) in
+    let apart : list_all (other f.label) (f.variable ∷ []) ≡ true = others f.label (f.variable ∷ []) (or_from (bytes_eq f.variable f.label) false (other-name f.label f.variable h.not_variable) refl) in
     let all = all_more (other f.label) (taken_outside o) (f.variable ∷ []) (others f.label (taken_outside o) a.label) apart in
     ap (λ b. cond b (first_free o.extended taken f.label) f.label) (word_same f.label)
     ∙ ap (λ ws. first_free o.extended (taken_outside o ++ ws) f.label) (kept_are p f)

@@ -1,0 +1,82 @@
+-- What is written for a file of the form is what is written for any text; and nothing is wrong with the file where its spelling isn't refused and what it has outside is clear.
+use Rattle.std.proofs.Common.{◌≡◌, ◌↔◌, ℕ, Bool, true, false, not, ◌||◌, List, [], Option, Some, None, refl, sym, ap, subst, ◌∙◌}
+use Rattle.tla_tree.specs.declared.op.Op.TheVariants.{Plus}
+use Rattle.tla_value.specs.Outside.{Outside}
+use Rattle.tla_value.specs.StandardModules.{has_operator}
+use Rattle.pcal_tree.specs.Algorithm.{Algorithm}
+use Rattle.pcal_tree.specs.Labelled.{labelled}
+use Rattle.pcal_tree.specs.OffencesLabels.{label_offences}
+use Rattle.pcal_tree.specs.OffencesModules.{module_needs}
+use Rattle.pcal_tree.specs.OffencesOfNames.{name_offences}
+use Rattle.pcal_tree.specs.OffencesNames.{use_offences_of}
+use Rattle.pcal_tree.proofs.ClearLabels.{both_none}
+use Rattle.module_tree.specs.Layout.{layout}
+use Rattle.module_tree.specs.Module.{Region}
+use Rattle.module_tree.specs.TextFront.{Text}
+use Rattle.module_tree.specs.Walk.{walk}
+use Rattle.module_tree.specs.WithTranslation.{WithTranslation}
+use Rattle.module_tree.specs.laws.Outsides.{HasOutside}
+use Rattle.module_tree.proofs.LayoutBare.{same_layout}
+use Rattle.module_tree.proofs.SomeOutside.{some_outside}
+use Rattle.macro_expand.specs.TooLarge.{too_large}
+use Rattle.promise.specs.Headline.{Stands}
+use Rattle.promise.specs.Options.{no_options}
+use Rattle.file_answer.specs.Checking.{AnswersChecking}
+use Rattle.file_answer.specs.Holds.{HoldsTree}
+use Rattle.file_answer.specs.Spelling.{AnswersRewriting}
+use Rattle.file_answer.proofs.CheckedClean.{checked_clean}
+use Rattle.file_answer.proofs.OneTree.{one_stands}
+use Rattle.file_answer.proofs.SpelledInFile.{stand_there}
+use Rattle.file_answer.proofs.Unrefused.{unrefused_is_fine}
+use Rattle.translation.specs.PromiseWhole.{WrittenWhole}
+use Rattle.translation.specs.Region.{written_region}
+use Rattle.translation.proofs.KeptAccepted.{checked_is_spelled, stands_accepted}
+use Rattle.translation.proofs.NamesOfRules.{rules_of_names}
+use Rattle.translation.proofs.AcceptedNames.{no_offence}
+use Rattle.first_path.specs.Form.{number_operand, variable_operand, Right, single, sum, is_sum, Parts}
+use Rattle.first_path.specs.Placed.{Places, algorithm_at, region_at, region_of, translation_of}
+use Rattle.first_path.specs.TreeForm.{IsFitted, HasForm}
+use Rattle.first_path.specs.laws.ClearOutside.{IsClear}
+use Rattle.first_path.proofs.Fit.{fit_of}
+use Rattle.first_path.proofs.ModuleApart.{has_apart}
+use Rattle.first_path.proofs.OffencesOfForm.{labels_clear, small, names_clear}
+use Rattle.first_path.proofs.OfForm.{nowhere_at_all, written_of_form}
+use Rattle.first_path.proofs.OutsideApart.{Apart}
+use Rattle.first_path.proofs.Placing.{placed}
+use Rattle.first_path.proofs.RegionPlaces.{alike_anywhere}
+use Rattle.first_path.proofs.TreeParts.{form_is}
+
+apart_there : (x : Text) (f : Parts) → IsFitted x f → (o : Outside) → HasOutside (walk x) o → Apart o f
+apart_there x f h o has = has_apart x o f has h.suited
+
+-- ---- what is written
+
+pub form_whole : (x : Text) (f : Parts) → HasForm x f → WrittenWhole no_options x (translation_of x f)
+form_whole x f h =
+    let o = some_outside (walk x) in
+    let own = form_is f.title h.tree f h.form in
+    let region : written_region false o.0 (labelled false h.tree) ≡ region_at nowhere_at_all f =
+    ap (λ (g : Algorithm). written_region false o.0 (labelled false g)) own.is ∙ written_of_form o.0 own.places f h.fitted.fit (apart_there x f h.fitted o.0 o.1) in
+    let text = ap (λ (r : Region). layout r) region ∙ same_layout (region_at nowhere_at_all f) (region_of f) (alike_anywhere nowhere_at_all f) in
+    record {
+      algorithm = h.tree;
+      stands = h.stands;
+      outside = o.0;
+      has = o.1;
+      is = subst (λ (t : Text). WithTranslation x t (translation_of x f)) (sym text) (placed x f h.fitted);
+    }
+
+-- ---- what is wrong with it
+
+-- by its algorithm
+abbrev NoneOf : Outside → Algorithm → Type 0
+NoneOf o g = (name_offences g o ≡ []) × (label_offences g ≡ []) × (too_large g ≡ [])
+
+pub form_clear : (x : Text) (f : Parts) (h : HasForm x f) (o : Outside) → HasOutside (walk x) o → IsClear o f → NoneOf o (labelled false h.tree)
+form_clear x f h o has c =
+    let own = form_is f.title h.tree f h.form in
+    subst (λ (g : Algorithm). NoneOf o (labelled false g)) (sym own.is) (
+      names_clear o own.places f (fit_of f h.fitted.fit) (apart_there x f h.fitted o has) c,
+      labels_clear own.places f.title f.algorithm f.variable f.initial f.label f.right,
+      small own.places f.title f.algorithm f.variable f.initial f.label f.right,
+    )
