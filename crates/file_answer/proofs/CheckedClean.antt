@@ -21,7 +21,7 @@ use Rattle.file_answer.specs.Checking.{AnswersChecking}
 use Rattle.file_answer.specs.Holds.{HoldsTree}
 use Rattle.file_answer.specs.Refusals.{Wrong, or_else, counting, up_to, of_spelling, of_all, refusal_of}
 use Rattle.file_answer.specs.Spelling.{of_rules, OfAlgorithm, IsSpelling, AnswersRewriting}
-use Rattle.file_answer.proofs.Decided.{is_asked_of, all_up, in_text_asked, read_all}
+use Rattle.file_answer.proofs.Decided.{is_asked_of, all_up, all_or_else, in_text_asked, read_all}
 use Rattle.file_answer.proofs.OneAnswer.{asked, asked_alone}
 use Rattle.file_answer.proofs.Unrefused.{is_asked, none_first, rules_asked, tokens_asked}
 
@@ -29,10 +29,6 @@ use Rattle.file_answer.proofs.Unrefused.{is_asked, none_first, rules_asked, toke
 
 abbrev AllAsked : List Refusal → Type 0
 AllAsked rs = list_all is_asked_of rs ≡ true
-
-either_asked : (early late : List Refusal) → AllAsked early → AllAsked late → AllAsked (or_else early late)
-either_asked [] late h k = k
-either_asked (r ∷ rs) late h k = h
 
 of_algorithm : (x : Text) (w : Wrong) (o : Option AlgorithmText) → OfAlgorithm x w o → AllAsked (w.tokens ++ or_counts w.syntax w.counts)
 of_algorithm x w None h = rw (h.0, h.1, h.2) refl
@@ -46,7 +42,7 @@ all_asked x w h =
     let os = file_offences x in
     let bytes = subst AllAsked (sym h.bytes) (in_text_asked x (of_rules 1 4 os) (rules_asked 1 4 refl os)) in
     let parts = subst AllAsked (sym h.parts) (in_text_asked x (of_rules 5 10 os) (rules_asked 5 10 refl os)) in
-    either_asked w.bytes _ bytes (all_more is_asked_of w.parts (w.tokens ++ or_counts w.syntax w.counts) parts (of_algorithm x w (algorithm_in x) h.algorithm))
+    all_or_else is_asked_of w.bytes _ bytes (all_more is_asked_of w.parts (w.tokens ++ or_counts w.syntax w.counts) parts (of_algorithm x w (algorithm_in x) h.algorithm))
 
 none_asked : (x : Text) (w : Wrong) → IsSpelling x w → refusal_of of_spelling w ≡ None → asked w ≡ []
 none_asked x w h e = sym (all_up (asked w) (all_asked x w h)) ∙ sym (asked_alone w h.names h.labels) ∙ none_first (up_to of_spelling (counting w)) e
