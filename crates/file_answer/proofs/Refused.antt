@@ -29,8 +29,7 @@ use Rattle.printed_text.specs.laws.HoldsPrinted.{past_stage}
 use Rattle.printed_text.specs.laws.BreaksFew.{BreaksFew}
 use Rattle.printed_text.proofs.Rewritten.{breaks_few, fine_without}
 use Rattle.algorithm_answer.specs.Answered.{or_counts}
-use Rattle.algorithm_answer.specs.TokensRefused.{placed}
-use Rattle.file_answer.specs.Refusals.{Wrong, or_else, up_to, of_spelling}
+use Rattle.file_answer.specs.Refusals.{Wrong, up_to, of_spelling}
 use Rattle.file_answer.specs.Spelling.{of_rules, syntax_at, AreRead, AreCounted, OfAlgorithm, IsSpelling, AnswersRewriting}
 use Rattle.file_answer.specs.laws.FewRules.{is_too_much, is_options_or_too_much}
 use Rattle.file_answer.proofs.OneAnswer.{asked, asked_alone}

@@ -1,6 +1,6 @@
 -- The algorithm of the form breaks no rule on labels, and none on names but by what is outside.
-use Rattle.std.proofs.Common.{◌≡◌, ℕ, Bool, true, false, not, ◌||◌, List, [], ◌∷◌, ◌++◌, bytes_eq, codes, map, refl, sym, ap, ◌∙◌}
-use Rattle.std.specs.List.{list_all, list_any, flat_map}
+use Rattle.std.proofs.Common.{◌≡◌, ℕ, true, false, not, ◌||◌, List, [], ◌∷◌, ◌++◌, bytes_eq, codes, map, refl}
+use Rattle.std.specs.List.{list_all, flat_map}
 use Rattle.std.proofs.lemmas.Bool.{and_parts, or_parts, not-true}
 use Rattle.tla_token.specs.Signs.{is_among}
 use Rattle.tla_token.specs.Words.{is_own, is_standard}

@@ -2,7 +2,6 @@
 use Rattle.std.proofs.Common.{◌≡◌, ℕ, true, List, Option, Some, sym, ap, subst, ◌∙◌}
 use Rattle.tla_value.specs.Outside.{Outside}
 use Rattle.module_tree.specs.TextFront.{Text}
-use Rattle.module_tree.specs.Walk.{walk}
 use Rattle.module_tree.specs.FileParts.{Span}
 use Rattle.module_tree.specs.Around.{Around}
 use Rattle.module_tree.specs.Layout.{layout}

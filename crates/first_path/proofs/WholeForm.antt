@@ -1,5 +1,5 @@
 -- What is written for a file of the form is what is written for any text; and nothing is wrong with the file where its spelling isn't refused and what it has outside is clear.
-use Rattle.std.proofs.Common.{◌≡◌, ◌↔◌, ℕ, Bool, true, false, not, ◌||◌, List, [], Option, Some, None, refl, sym, ap, subst, ◌∙◌}
+use Rattle.std.proofs.Common.{◌≡◌, ◌↔◌, Bool, true, false, not, ◌||◌, [], None, refl, sym, ap, subst, ◌∙◌}
 use Rattle.tla_tree.specs.declared.op.Op.TheVariants.{Plus}
 use Rattle.tla_value.specs.Outside.{Outside}
 use Rattle.tla_value.specs.StandardModules.{has_operator}
@@ -33,8 +33,7 @@ use Rattle.translation.specs.PromiseWhole.{WrittenWhole}
 use Rattle.translation.specs.Region.{written_region}
 use Rattle.translation.proofs.KeptAccepted.{checked_is_spelled, stands_accepted}
 use Rattle.translation.proofs.NamesOfRules.{rules_of_names}
-use Rattle.translation.proofs.AcceptedNames.{no_offence}
-use Rattle.first_path.specs.Form.{number_operand, variable_operand, Right, single, sum, is_sum, Parts}
+use Rattle.first_path.specs.Form.{Right, single, sum, is_sum, Parts}
 use Rattle.first_path.specs.Placed.{Places, algorithm_at, region_at, region_of, translation_of}
 use Rattle.first_path.specs.TreeForm.{IsFitted, HasForm}
 use Rattle.first_path.specs.laws.ClearOutside.{IsClear}
