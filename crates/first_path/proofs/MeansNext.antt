@@ -1,8 +1,8 @@
 -- Next of the form's translation is true exactly of the algorithm's steps, and of its stuttering end.
-use Rattle.std.proofs.Common.{◌≡◌, List, [], ◌∷◌, ◌++◌, Bool, true, false, ◌&&◌, cond, bytes_eq, Option, Some, None, codes, refl, sym, ap, ◌∙◌, subst, ◌⊎◌, inl, inr, Ok, Err}
+use Rattle.std.proofs.Common.{◌≡◌, List, [], ◌∷◌, ◌++◌, true, false, cond, bytes_eq, Option, Some, None, codes, refl, sym, ap, ◌∙◌, subst, ◌⊎◌, inl, inr, Ok, Err}
 use Rattle.std.specs.Bool.{IsTrue}
 use Rattle.std.specs.List.{list_all}
-use Rattle.std.proofs.lemmas.Bool.{and_parts, and_from, or_from, or_right, both_ways}
+use Rattle.std.proofs.lemmas.Bool.{or_from, or_right, both_ways}
 use Rattle.std.proofs.lemmas.Option.{same_Some}
 use Rattle.tla_token.specs.declared.place.Place.{Place}
 use Rattle.tla_token.specs.Signs.{is_among}
@@ -10,7 +10,6 @@ use Rattle.tla_token.proofs.Spelled.{among_head}
 use Rattle.tla_tree.specs.Tree.{Word}
 use Rattle.tla_value.specs.declared.fault.FaultKind.TheVariants.{NotInteger}
 use Rattle.tla_value.specs.Value.{Value, text, fault, and_then, or_all, TrueExactly, ◌>>=◌}
-use Rattle.tla_value.specs.Order.{same}
 use Rattle.tla_value.proofs.Outcomes.{ok_is}
 use Rattle.tla_value.specs.Stops.{plain}
 use Rattle.tla_value.specs.Meaning.{Env}
@@ -24,7 +23,7 @@ use Rattle.pcal_tree.specs.Scope.{State}
 use Rattle.pcal_tree.specs.Run.{Has}
 use Rattle.pcal_tree.specs.Program.{Program, Actor}
 use Rattle.pcal_tree.specs.Step.{StepFrom, course_of, pc_of, Step, Stutters}
-use Rattle.module_tree.specs.ActionTruth.{Verdict, value_in, truth_in, acted, is_value, is_unchanged, are_unchanged}
+use Rattle.module_tree.specs.ActionTruth.{Verdict, value_in, truth_in, acted, is_value, are_unchanged}
 use Rattle.module_tree.specs.ModuleTruth.{definitions_in, acts_in, scope, next_holds}
 use Rattle.module_tree.proofs.Tells.{tells_and, tells_or, tells_as, tells_of}
 use Rattle.action_builder.proofs.Equal.{other-name}
@@ -37,7 +36,7 @@ use Rattle.first_path.proofs.Fit.{Fit, fit_of, not_own}
 use Rattle.first_path.proofs.UnitsApart.{other, others, none_other}
 use Rattle.first_path.proofs.OutsideApart.{Apart}
 use Rattle.first_path.proofs.Untitled.{found_untitled}
-use Rattle.first_path.proofs.Means.{true_tells, last_tells, label_free, StandsFor, result, tells_same, label_tells, value_tells, right_tells}
+use Rattle.first_path.proofs.Means.{last_tells, label_free, StandsFor, result, label_tells, value_tells, right_tells}
 use Rattle.first_path.proofs.MeansStep.{program_of, actor, stand, Kept, is_actor, actor_is, stand_is, stands_there, there_stands, course_for, course_is, ended}
 use Rattle.pcal_tree.specs.Variables.{pc, vars, Agree, on_variables}
 use Rattle.pcal_tree.specs.Processes.{IsActor}
