@@ -60,6 +60,11 @@ told_all p x (o ∷ os) h =
     let k = and_parts (p o.0) (list_all (λ (o : Offence). p o.0) os) h in
     and_from (p o.0) (list_all (λ (r : Refusal). p r.rule) (placed x os)) k.0 (told_all p x os k.1)
 
+-- of what counts of two lists
+pub all_or_else : (P : Refusal → Bool) (early late : List Refusal) → list_all P early ≡ true → list_all P late ≡ true → list_all P (or_else early late) ≡ true
+all_or_else P [] late h k = k
+all_or_else P (r ∷ rs) late h k = h
+
 pub in_text_asked : (x : Text) (os : List Offence) → Asked os → list_all is_asked_of (placed x os) ≡ true
 in_text_asked x os h = told_all is_asked x os h
 

@@ -2,6 +2,9 @@ mod RowsRefusals
 pub mod RowsSpelling
 pub mod OneAnswer
 pub mod OneTree
+pub mod TreesMoved
+pub mod AlgorithmsMoved
+pub mod SpelledInFile
 pub mod Unrefused
 pub mod Counts
 pub mod Decided
@@ -13,3 +16,4 @@ pub mod TokensAnswered
 pub mod TokensScanned
 pub mod Changed
 pub mod Refused
+pub mod CheckedClean

@@ -13,10 +13,10 @@ use Rattle.promise.specs.Headline.{Stands}
 use Rattle.file_answer.specs.Holds.{HoldsTree}
 
 -- in one of the syntaxes
-abbrev InOne : List Token → Algorithm → Type 0
+abbrev pub InOne : List Token → Algorithm → Type 0
 InOne ts a = SpellsP ts a ⊎ SpellsC ts a
 
-in_one : (s : Syntax) (ts : List Token) (a : Algorithm) → Spells s ts a → InOne ts a
+pub in_one : (s : Syntax) (ts : List Token) (a : Algorithm) → Spells s ts a → InOne ts a
 in_one p_syntax ts a h = inl h
 in_one c_syntax ts a h = inr h
 

@@ -29,13 +29,13 @@ use Rattle.printed_text.specs.laws.HoldsPrinted.{past_stage}
 use Rattle.printed_text.specs.laws.BreaksFew.{BreaksFew}
 use Rattle.printed_text.proofs.Rewritten.{breaks_few, fine_without}
 use Rattle.algorithm_answer.specs.Answered.{or_counts}
-use Rattle.algorithm_answer.specs.TokensRefused.{placed}
-use Rattle.file_answer.specs.Refusals.{Wrong, or_else, up_to, of_spelling}
+use Rattle.file_answer.specs.Refusals.{Wrong, up_to, of_spelling}
 use Rattle.file_answer.specs.Spelling.{of_rules, syntax_at, AreRead, AreCounted, OfAlgorithm, IsSpelling, AnswersRewriting}
 use Rattle.file_answer.specs.laws.FewRules.{is_too_much, is_options_or_too_much}
 use Rattle.file_answer.proofs.OneAnswer.{asked, asked_alone}
 use Rattle.file_answer.proofs.Unrefused.{many_all, unrefused_is_fine}
 use Rattle.file_answer.proofs.Counts.{counts_many}
+use Rattle.file_answer.proofs.Decided.{told_all, all_or_else}
 
 -- ---- lists of offences that are all of some rules
 
@@ -72,14 +72,6 @@ module _ (p : Rule → Bool) (many : p TooMany ≡ true) (deep : p TooDeep ≡ t
   abbrev All : List Refusal → Type 0
   All rs = list_all holds rs ≡ true
 
-  all_in_text : (x : Text) (os : List Offence) → list_all is_at os ≡ true → All (placed x os)
-  all_in_text x [] h = refl
-  all_in_text x (o ∷ os) h = (let k = and_parts (is_at o) (list_all is_at os) h in and_from (p o.0) (list_all holds (placed x os)) k.0 (all_in_text x os k.1))
-
-  all_or_else : (b more : List Refusal) → All b → All more → All (or_else b more)
-  all_or_else [] more h k = k
-  all_or_else (r ∷ rs) more h k = h
-
   all_unless : (s : Option Refusal) (counts : List Refusal) → ((r : Refusal) → s ≡ Some r → holds r ≡ true) → All counts → All (or_counts s counts)
   all_unless (Some r) counts h k = and_from (holds r) true (h r refl) refl
   all_unless None counts h k = k
@@ -96,7 +88,7 @@ module _ (p : Rule → Bool) (many : p TooMany ≡ true) (deep : p TooDeep ≡ t
   of_algorithm : (s : Syntax) (w : Text) (v : Wrong) (a : AlgorithmText) → syntax_at a ≡ s → BreaksFew s w a → OfAlgorithm w v (Some a) → All (v.tokens ++ or_counts v.syntax v.counts)
   of_algorithm s w v a here b h =
       let ts = algorithm_tokens w a in
-      let tokens : All v.tokens = subst All (sym h.0) (all_in_text w (algorithm_offences ts) (ap (list_all is_at) b.words ∙ many_all p many ts)) in
+      let tokens : All v.tokens = subst All (sym h.0) (told_all p w (algorithm_offences ts) (ap (list_all is_at) b.words ∙ many_all p many ts)) in
       all_more holds v.tokens (or_counts v.syntax v.counts) tokens (all_unless v.syntax v.counts (λ r e. stop v.syntax r e h.1) (counted v.syntax h.2))
     where
       stop : (o : Option Refusal) (r : Refusal) → o ≡ Some r → AreRead w a o → holds r ≡ true
@@ -112,10 +104,10 @@ module _ (p : Rule → Bool) (many : p TooMany ≡ true) (deep : p TooDeep ≡ t
 
   all_asked : (s : Syntax) (w : Text) (v : Wrong) (a : AlgorithmText) → algorithm_in w ≡ Some a → a.rest.stage ≡ past_stage s → BreaksFew s w a → list_all is_at (file_offences w) ≡ true → IsSpelling w v → All (asked v)
   all_asked s w v a there stage b file h =
-      let bytes : All v.bytes = subst All (sym h.bytes) (all_in_text w (of_rules 1 4 (file_offences w)) (all_kept is_at (λ (o : Offence). nat_le 1 (rule_number o.0) && nat_le (rule_number o.0) 4) (file_offences w) file)) in
-      let parts : All v.parts = subst All (sym h.parts) (all_in_text w (of_rules 5 10 (file_offences w)) (all_kept is_at (λ (o : Offence). nat_le 5 (rule_number o.0) && nat_le (rule_number o.0) 10) (file_offences w) file)) in
+      let bytes : All v.bytes = subst All (sym h.bytes) (told_all p w (of_rules 1 4 (file_offences w)) (all_kept is_at (λ (o : Offence). nat_le 1 (rule_number o.0) && nat_le (rule_number o.0) 4) (file_offences w) file)) in
+      let parts : All v.parts = subst All (sym h.parts) (told_all p w (of_rules 5 10 (file_offences w)) (all_kept is_at (λ (o : Offence). nat_le 5 (rule_number o.0) && nat_le (rule_number o.0) 10) (file_offences w) file)) in
       let algorithm : OfAlgorithm w v (Some a) = subst (OfAlgorithm w v) there h.algorithm in
-      all_or_else v.bytes (v.parts ++ (v.tokens ++ or_counts v.syntax v.counts)) bytes
+      all_or_else holds v.bytes (v.parts ++ (v.tokens ++ or_counts v.syntax v.counts)) bytes
       (all_more holds v.parts (v.tokens ++ or_counts v.syntax v.counts) parts (of_algorithm s w v a (syntax_is s a stage) b algorithm))
 
   pub refused_so : (s : Syntax) (w : Text) (a : AlgorithmText) (q : Refusal) → algorithm_in w ≡ Some a → a.rest.stage ≡ past_stage s → BreaksFew s w a → list_all is_at (file_offences w) ≡ true → AnswersRewriting w (Some q) → p q.rule ≡ true

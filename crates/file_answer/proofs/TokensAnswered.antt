@@ -6,7 +6,7 @@ use Rattle.std.proofs.lemmas.Bool.{and_parts}
 use Rattle.std.proofs.lemmas.List.{map-append}
 use Rattle.tla_token.specs.declared.place.Place.{Place}
 use Rattle.tla_token.specs.declared.rule.Rule.{Rule}
-use Rattle.tla_token.specs.declared.rule.Rule.TheVariants.{LeftOutWord, NumberTooBig, TooMany, TooDeep, Syntax}
+use Rattle.tla_token.specs.declared.rule.Rule.TheVariants.{NumberTooBig, TooMany, TooDeep, Syntax}
 use Rattle.tla_token.specs.declared.rule.Refusal.{Refusal}
 use Rattle.tla_token.specs.Places.{place_at}
 use Rattle.tla_token.specs.Rules.{rule_number}
@@ -14,10 +14,9 @@ use Rattle.tla_token.specs.Limits.{past_numbers}
 use Rattle.tla_token.specs.Lexemes.{Kind, name, number, string, one, other}
 use Rattle.tla_token.specs.Signs.{is_among}
 use Rattle.tla_token.specs.Tokens.{Token, Tok, TokAlgorithm, openings, holds_mark, is_unmarked, unmarked_kind}
-use Rattle.tla_token.specs.Offences.{Offence, offence_if, kind_offences}
-use Rattle.tla_token.specs.AlgorithmOffences.{is_left_out, left_out, number_offences, too_many_tokens, algorithm_offences}
+use Rattle.tla_token.specs.Offences.{Offence, kind_offences}
+use Rattle.tla_token.specs.AlgorithmOffences.{left_out, number_offences, too_many_tokens, algorithm_offences}
 use Rattle.tla_token.proofs.Unique.{one_list}
-use Rattle.pcal_tree.specs.Offences as tree
 use Rattle.pcal_tree.specs.Offences.{first}
 use Rattle.pcal_tree.specs.OffencesCounts.{count_offences}
 use Rattle.module_tree.specs.TextFront.{Text}

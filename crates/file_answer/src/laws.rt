@@ -1,23 +1,31 @@
 //! Laws of what rewritings are answered, stated as what functions without a body ensure.
 
-ghost use Rattle.std.specs.Prelude.{◌≡◌, ◌++◌, ℕ, List, [], true, Option, Some, None};
+ghost use Rattle.std.specs.Prelude.{◌≡◌, ◌++◌, ℕ, Bool, List, [], true, Option, Some, None};
 ghost use Rattle.tla_token.specs.Tokens.{stretch};
 ghost use Rattle.tla_token.specs.declared.rule.Refusal.{Refusal};
 ghost use Rattle.tla_token.specs.AlgorithmOffences.{algorithm_offences};
+ghost use Rattle.tla_value.specs.Outside.{Outside};
 ghost use Rattle.pcal_tree.specs.Algorithm.{Algorithm};
+ghost use Rattle.pcal_tree.specs.Labelled.{labelled};
+ghost use Rattle.pcal_tree.specs.OffencesLabels.{label_offences};
+ghost use Rattle.pcal_tree.specs.OffencesOfNames.{name_offences};
 ghost use Rattle.pcal_tree.specs.Offences.{first};
 ghost use Rattle.pcal_tree.specs.Grammar.{Syntax};
 ghost use Rattle.pcal_tree.specs.Printed.{printed};
 ghost use Rattle.module_tree.specs.Beginnings.{is_options, all_at};
 ghost use Rattle.module_tree.specs.AlgorithmText.{AlgorithmText, algorithm_in, algorithm_tokens};
 ghost use Rattle.module_tree.specs.FileOffences.{splitting_offences, RefusesSplit};
+ghost use Rattle.module_tree.specs.Walk.{walk};
 ghost use Rattle.module_tree.specs.laws.Kept.{IsFine};
+ghost use Rattle.module_tree.specs.laws.Outsides.{HasOutside};
+ghost use Rattle.macro_expand.specs.TooLarge.{too_large};
 ghost use Rattle.module_tree.specs.laws.Swaps.{is_paired};
 ghost use Rattle.printed_text.specs.Rewritten.{Rewritten};
 ghost use Rattle.printed_text.specs.Rewrites.{Rewrites};
 ghost use Rattle.algorithm_answer.specs.Answered.{or_counts};
 ghost use Rattle.algorithm_answer.specs.TokensRefused.{placed};
 ghost use Rattle.file_answer.specs.Spelling.{AreRead, AreCounted, AnswersRewriting};
+ghost use Rattle.file_answer.specs.Checking.{AnswersChecking};
 ghost use Rattle.file_answer.specs.Holds.{HoldsTree};
 ghost use Rattle.file_answer.specs.laws.FewRules.{is_too_much, is_options_or_too_much};
 
@@ -42,6 +50,13 @@ pub fn the_algorithm_decides()
 pub fn files_that_are_not_refused_hold_a_tree()
     ensures fine { (x : List ℕ) → AnswersRewriting x None → IsFine x }
     ensures held { (x : List ℕ) → AnswersRewriting x None → (g : Algorithm) × HoldsTree x g }
+{}
+
+/// With a file that a rewriting doesn't refuse nothing is wrong for a check either, where its algorithm, with labels added, breaks no rule on names
+/// and on labels, and isn't too large.
+pub fn files_that_break_no_later_rule_have_nothing_wrong()
+    ensures { (forced : Bool) (x : List ℕ) → AnswersRewriting x None → ((g : Algorithm) (o : Outside) → HoldsTree x g → HasOutside (walk x) o → (name_offences (labelled forced g) o ≡ []) × (label_offences (labelled forced g) ≡ []) × (too_large (labelled forced g) ≡ []))
+        → AnswersChecking forced x None }
 {}
 
 /// In each syntax there is one file with the algorithm of a file that is not refused printed in its place, and it keeps the promise of a rewriting.

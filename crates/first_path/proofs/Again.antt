@@ -1,12 +1,9 @@
 -- A file that suits the form's parts does so with their translation too, and is translated to itself then.
-use Rattle.std.proofs.Common.{◌≡◌, ℕ, List, ◌++◌, take, drop, IsTrue, sym, ap, subst, ◌∙◌}
-use Rattle.std.proofs.lemmas.Option.{same_Some}
-use Rattle.module_tree.specs.TextFront.{Text}
-use Rattle.module_tree.specs.FileParts.{Span}
+use Rattle.std.proofs.Common.{◌≡◌, ℕ, List, IsTrue, sym, subst, ◌∙◌}
 use Rattle.module_tree.specs.Layout.{layout}
-use Rattle.module_tree.specs.WithTranslation.{begin_line, end_line, line_end_if_new, WithTranslation}
 use Rattle.module_tree.proofs.WalkSame.{put_again}
 use Rattle.module_tree.proofs.FineKept.{fine_kept}
+use Rattle.translation.proofs.KeptPromise.{one_put}
 use Rattle.first_path.specs.Beside.{Beside}
 use Rattle.first_path.specs.Form.{Parts, suits}
 use Rattle.first_path.specs.Placed.{region_of, translation_of}
@@ -30,15 +27,10 @@ fitted_again x f h =
 
 -- ---- the text
 
-one_text : (x t w v : Text) → WithTranslation x t w → WithTranslation x t v → w ≡ v
-one_text x t w v a b =
-    let same = same_Some a.at b.at (sym a.is_spot ∙ b.is_spot) in
-    a.is ∙ ap (λ (s : Span). take s.from x ++ (begin_line ++ (t ++ (end_line ++ (line_end_if_new x ++ drop s.to x))))) same ∙ sym b.is
-
 pub text_again : (x : List ℕ) (f : Parts) → IsFitted x f → translation_of (translation_of x f) f ≡ translation_of x f
 text_again x f h =
     let t = layout (region_of f) in
     let w = translation_of x f in
     let i = inside f h.fit in
     let again = put_again x t w t (translation_of w f) h.fine i i (placed x f h) (placed w f (fitted_again x f h)) in
-    one_text x t (translation_of w f) w again (placed x f h)
+    one_put x t (translation_of w f) w again (placed x f h)

@@ -22,6 +22,8 @@ pub record Fit (f : Parts) : Type 0 where
   pub initial : is_small f.initial ≡ true
   pub label : Free f.label
   pub not_variable : bytes_eq f.label f.variable ≡ false
+  pub not_done : bytes_eq f.label (codes "Done") ≡ false
+  pub not_error : bytes_eq f.label (codes "Error") ≡ false
   pub right : is_small_right f.right ≡ true
 
 free : (w : Word) → is_free w ≡ true → Free w
@@ -49,6 +51,8 @@ fit_of f h =
       initial = with_initial.1;
       label = free f.label with_label.1;
       not_variable = not-true (bytes_eq f.label f.variable) with_same.1;
+      not_done = not-true (bytes_eq f.label (codes "Done")) with_done.1;
+      not_error = not-true (bytes_eq f.label (codes "Error")) with_error.1;
       right = with_right.1;
     }
 

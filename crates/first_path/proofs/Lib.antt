@@ -5,6 +5,7 @@ pub mod WritableForm
 pub mod RegionPlaces
 pub mod BesideKept
 pub mod BoundWords
+pub mod UnitsApart
 pub mod OutsideApart
 pub mod ModuleApart
 pub mod Placing
@@ -18,11 +19,12 @@ pub mod MeansInit
 pub mod Promise
 pub mod TreeParts
 pub mod TreeBare
-pub mod TreesMoved
-pub mod AlgorithmsMoved
-pub mod SpelledInFile
+pub mod OfForm
+pub mod OffencesOfForm
 pub mod TreeForms
+pub mod WholeForm
 pub mod WorkedForms
 pub mod Witness
 mod RowsForm
 mod RowsTree
+mod RowsOutside

@@ -1,16 +1,15 @@
 -- Next of the form's translation is true exactly of the algorithm's steps, and of its stuttering end.
-use Rattle.std.proofs.Common.{◌≡◌, List, [], ◌∷◌, ◌++◌, Bool, true, false, ◌&&◌, cond, bytes_eq, Option, Some, None, codes, refl, sym, ap, ◌∙◌, subst, ◌⊎◌, inl, inr, Ok, Err}
+use Rattle.std.proofs.Common.{◌≡◌, List, [], ◌∷◌, ◌++◌, true, false, cond, bytes_eq, Option, Some, None, codes, refl, sym, ap, ◌∙◌, subst, ◌⊎◌, inl, inr, Ok, Err}
 use Rattle.std.specs.Bool.{IsTrue}
 use Rattle.std.specs.List.{list_all}
-use Rattle.std.proofs.lemmas.Bool.{and_parts, and_from, or_from, or_right, both_ways, false_from_ne_true}
+use Rattle.std.proofs.lemmas.Bool.{or_from, or_right, both_ways}
 use Rattle.std.proofs.lemmas.Option.{same_Some}
 use Rattle.tla_token.specs.declared.place.Place.{Place}
 use Rattle.tla_token.specs.Signs.{is_among}
-use Rattle.tla_token.proofs.Spelled.{among_head, same_bytes}
+use Rattle.tla_token.proofs.Spelled.{among_head}
 use Rattle.tla_tree.specs.Tree.{Word}
 use Rattle.tla_value.specs.declared.fault.FaultKind.TheVariants.{NotInteger}
 use Rattle.tla_value.specs.Value.{Value, text, fault, and_then, or_all, TrueExactly, ◌>>=◌}
-use Rattle.tla_value.specs.Order.{same}
 use Rattle.tla_value.proofs.Outcomes.{ok_is}
 use Rattle.tla_value.specs.Stops.{plain}
 use Rattle.tla_value.specs.Meaning.{Env}
@@ -24,17 +23,20 @@ use Rattle.pcal_tree.specs.Scope.{State}
 use Rattle.pcal_tree.specs.Run.{Has}
 use Rattle.pcal_tree.specs.Program.{Program, Actor}
 use Rattle.pcal_tree.specs.Step.{StepFrom, course_of, pc_of, Step, Stutters}
-use Rattle.module_tree.specs.ActionTruth.{Verdict, value_in, truth_in, acted, is_value, is_unchanged, are_unchanged}
+use Rattle.module_tree.specs.ActionTruth.{Verdict, value_in, truth_in, acted, is_value, are_unchanged}
 use Rattle.module_tree.specs.ModuleTruth.{definitions_in, acts_in, scope, next_holds}
 use Rattle.module_tree.proofs.Tells.{tells_and, tells_or, tells_as, tells_of}
+use Rattle.action_builder.proofs.Equal.{other-name}
+use Rattle.translation.proofs.NextEnds.{unchanged_true}
 use Rattle.first_path.specs.Form.{number_operand, variable_operand, Right, single, sum, Parts, is_fit}
 use Rattle.first_path.specs.Placed.{Places, right_at, label_at, algorithm_at, module_at}
 use Rattle.promise.specs.NextAndInit.{NextIs}
 use Rattle.first_path.proofs.Names.{all_more, word_same}
 use Rattle.first_path.proofs.Fit.{Fit, fit_of, not_own}
-use Rattle.first_path.proofs.OutsideApart.{other, others, none_other, Apart}
+use Rattle.first_path.proofs.UnitsApart.{other, others, none_other}
+use Rattle.first_path.proofs.OutsideApart.{Apart}
 use Rattle.first_path.proofs.Untitled.{found_untitled}
-use Rattle.first_path.proofs.Means.{true_tells, last_tells, label_free, StandsFor, result, tells_same, label_tells, value_tells, right_tells}
+use Rattle.first_path.proofs.Means.{last_tells, label_free, StandsFor, result, label_tells, value_tells, right_tells}
 use Rattle.first_path.proofs.MeansStep.{program_of, actor, stand, Kept, is_actor, actor_is, stand_is, stands_there, there_stands, course_for, course_is, ended}
 use Rattle.pcal_tree.specs.Variables.{pc, vars, Agree, on_variables}
 use Rattle.pcal_tree.specs.Processes.{IsActor}
@@ -142,35 +144,14 @@ end_found o q f values S T = refl
 abbrev Over : Parts → State → State → Type 0
 Over f s t = (s pc ≡ text (codes "Done")) × Agree (f.variable ∷ pc ∷ []) s t
 
--- two tests that tell, got at once
-both_tell : (a b : Bool) (P Q : Type 0) → TrueExactly (Ok a) P → TrueExactly (Ok b) Q → TrueExactly (Ok (a && b)) (P × Q)
-both_tell a b P Q (c, e, h) (d, k, g) = (a && b, refl, (to, from))
-  where
-    to : (a && b) ≡ true → P × Q
-    to w = let u = and_parts a b w in (h.0 (sym (ok_is e) ∙ u.0), g.0 (sym (ok_is k) ∙ u.1))
-
-    from : P × Q → (a && b) ≡ true
-    from (x, y) = and_from a b (ok_is e ∙ h.1 x) (ok_is k ∙ g.1 y)
-
-look_tells : (o r : Option Value) (v w : Value) → o ≡ Some v → r ≡ Some w → TrueExactly (Ok (is_unchanged o r)) (v ≡ w)
-look_tells o r v w d e =
-    tells_of (Ok (is_unchanged o r)) (Ok (same w v)) (v ≡ w) (λ i. Ok (is_unchanged (d i) (e i)))
-    (tells_as (Ok (same w v)) (w ≡ v) (v ≡ w) (tells_same w v) sym sym)
-
-same_tells : (x y : Word) (s t : State) (S T : Valuation) → Two x y s S → Two x y t T → TrueExactly (Ok (are_unchanged S T (x ∷ y ∷ []))) (Agree (x ∷ y ∷ []) s t)
-same_tells x y s t S T d e =
-    both_tell (is_unchanged (S x) (T x)) (is_unchanged (S y) (T y) && true) (s x ≡ t x) ((s y ≡ t y) × Unit {0})
-    (look_tells (S x) (T x) (s x) (t x) d.0 e.0)
-    (both_tell (is_unchanged (S y) (T y)) true (s y ≡ t y) (Unit {0}) (look_tells (S y) (T y) (s y) (t y) d.1 e.1) true_tells)
-
-over_tells : (q : Places) (f : Parts) (s t : State) (S T : Valuation) (env : Env) → StandsFor pc (s pc) env → Two f.variable pc s S → Two f.variable pc t T
-    → TrueExactly (end_items q f S T env) (Over f s t)
-over_tells q f s t S T env k d e =
-    let same = Ok (are_unchanged S T (f.variable ∷ pc ∷ [])) in
+over_tells : (ds : List Definition) (p q : Places) (f : Parts) (names : Naming) (values : Valuation) (s t : State) (env : Env) → StandsFor pc (s pc) env
+    → (let P : Program = program_of ds p f names values in TrueExactly (end_items q f (on_variables P s) (on_variables P t) env) (Over f s t))
+over_tells ds p q f names values s t env k =
+    let P : Program = program_of ds p f names values in
+    let same = Ok (are_unchanged (on_variables P s) (on_variables P t) (f.variable ∷ pc ∷ [])) in
     let at = truth_in plain env (label_at (codes "Done") (q 13) (q 14) (q 15)) in
-    let agree = Agree (f.variable ∷ pc ∷ []) s t in
-    tells_and at (and_then same (Ok true)) (s pc ≡ text (codes "Done")) agree (label_tells (codes "Done") (s pc) env k (q 13) (q 14) (q 15))
-    (λ p. last_tells same agree (same_tells f.variable pc s t S T d e))
+    tells_and at (and_then same (Ok true)) (s pc ≡ text (codes "Done")) (Agree (f.variable ∷ pc ∷ []) s t) (label_tells (codes "Done") (s pc) env k (q 13) (q 14) (q 15))
+    (λ h. unchanged_true P s t)
 
 none_tells : TrueExactly (Ok false) ⊥
 none_tells = (false, refl, (λ e. both_ways false refl e, λ e. absurd e))
@@ -260,7 +241,7 @@ next_of o p q f names values h k a s t sound =
     (tells_as (step_items q f T env) (Taken f s t) steps (taken_tells q f s t T env v c e (good_there ds p f names values h k u s sound))
     (taken_step ds p f names values h k u s t) (step_taken ds p f names values h k u s t)) in
     let b : TrueExactly still stays = tells_of still (end_items q f S T env) stays (end_found o q f values S T)
-    (tells_as (end_items q f S T env) (Over f s t) stays (over_tells q f s t S T env c d e) (over_still ds p f names values h k u s t)
+    (tells_as (end_items q f S T env) (Over f s t) stays (over_tells ds p q f names values s t env c) (over_still ds p f names values h k u s t)
     (still_over ds p f names values h k u s t)) in
     tells_as (or_all step (or_all still (Ok false))) (steps ⊎ (stays ⊎ ⊥)) (steps ⊎ stays)
     (tells_or step (or_all still (Ok false)) steps (stays ⊎ ⊥) a (tells_or still (Ok false) stays ⊥ b none_tells)) to from
@@ -288,14 +269,10 @@ right_bound v (sum variable_operand variable_operand) p q s = refl
 kept_are : (p : Places) (f : Parts) → kept (algorithm_at p f) ≡ f.variable ∷ []
 kept_are p f = rw (right_bound f.variable f.right (p 7) (p 8) (p 9)) refl
 
--- words that differ, the other way round
-differ_back : (v w : Word) → bytes_eq v w ≡ false → bytes_eq w v ≡ false
-differ_back v w e = false_from_ne_true (bytes_eq w v) (λ d. both_ways (bytes_eq v w) e (let s : w ≡ v = same_bytes w v d in rw s (word_same v)))
-
 pub label_kept : (o : Outside) (p : Places) (f : Parts) → Fit f → Apart o f → Kept f (naming (algorithm_at p f) o)
 label_kept o p f h a =
     let taken = taken_outside o ++ kept (algorithm_at p f) in
-    let apart : list_all (other f.label) (f.variable ∷ []) ≡ true = others f.label (f.variable ∷ []) (or_from (bytes_eq f.variable f.label) false (differ_back f.label f.variable h.not_variable) refl) in
+    let apart : list_all (other f.label) (f.variable ∷ []) ≡ true = others f.label (f.variable ∷ []) (or_from (bytes_eq f.variable f.label) false (other-name f.label f.variable h.not_variable) refl) in
     let all = all_more (other f.label) (taken_outside o) (f.variable ∷ []) (others f.label (taken_outside o) a.label) apart in
     ap (λ b. cond b (first_free o.extended taken f.label) f.label) (word_same f.label)
     ∙ ap (λ ws. first_free o.extended (taken_outside o ++ ws) f.label) (kept_are p f)

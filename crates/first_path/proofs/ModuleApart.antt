@@ -1,4 +1,4 @@
--- What a translated file reads as has nothing outside that clashes with the names of the form.
+-- What a file has outside, and what a translated one reads as, has nothing that clashes with the names of the form.
 use Rattle.std.proofs.Common.{◌≡◌, Bool, true, false, IsTrue, List, [], ◌∷◌, ◌++◌, refl, sym, ap, subst, ◌∙◌}
 use Rattle.std.specs.List.{list_all, flat_map}
 use Rattle.std.proofs.lemmas.Bool.{and_parts}
@@ -16,7 +16,8 @@ use Rattle.module_tree.specs.FileParts.{before_spot, after_spot}
 use Rattle.module_tree.specs.FileUnits.{tokens_in, begins_unit, cut, units_in}
 use Rattle.module_tree.specs.Outside.{identifiers}
 use Rattle.module_tree.specs.Module.{Module}
-use Rattle.module_tree.specs.Reading.{sight, Reads}
+use Rattle.module_tree.specs.Reading.{sight_in, Reads}
+use Rattle.module_tree.specs.laws.Outsides.{HasOutside}
 use Rattle.first_path.specs.Beside.{Beside, declared_by, extended_by, beside}
 use Rattle.first_path.specs.Form.{Parts, suits}
 use Rattle.first_path.proofs.OutsideApart.{Apart, suited_parts, apart_outside}
@@ -56,14 +57,19 @@ module _ (P : Word → Bool) where
           rw e (refl, all_more P (identifiers (t ∷ (cut ts).front)) (flat_map identifiers (cut ts).units) (joined t (cut ts).front one front) units)
       by false e one (front, units) = rw e (joined t (cut ts).front one front, units)
 
--- ---- what is read
+-- ---- what is outside
 
-pub module_apart : (w : Text) (m : Module) (f : Parts) → Reads w m → IsTrue (suits (beside (walk w)) f) → Apart m.outside f
-module_apart w m f r h =
+pub has_apart : (w : Text) (o : Outside) (f : Parts) → HasOutside (walk w) o → IsTrue (suits (beside (walk w)) f) → Apart o f
+has_apart w o f r h =
     let before : List (List Token) = (units_in (before_spot (walk w))).units in
     let after : List (List Token) = (units_in (after_spot (walk w))).units in
-    let o : Beside = beside (walk w) in
-    subst (λ (o : Outside). Apart o f) (sym r.outside)
-    (apart_outside f (sight m) before after r.before r.after o r.are_before r.are_after (suited_parts o f h)
+    let b : Beside = beside (walk w) in
+    subst (λ (o : Outside). Apart o f) (sym r.is)
+    (apart_outside f (sight_in o) before after r.before r.after b r.are_before r.are_after (suited_parts b f h)
     (sym (flat_map-append declared_by before after)) (sym (flat_map-append extended_by before after))
     (λ P k. (cut_so P (views (tokens_in (before_spot (walk w)))) k).1))
+
+-- a module is read with what its text has outside
+pub module_apart : (w : Text) (m : Module) (f : Parts) → Reads w m → IsTrue (suits (beside (walk w)) f) → Apart m.outside f
+module_apart w m f r h =
+    has_apart w m.outside f (record { before = r.before; are_before = r.are_before; after = r.after; are_after = r.are_after; is = r.outside }) h

@@ -20,7 +20,7 @@ use Rattle.pcal_tree.specs.Tests.{only_if}
 use Rattle.first_path.proofs.Found.{so, some_on, some_is, none_wrong}
 use Rattle.first_path.proofs.TreeParts.{form_is}
 use Rattle.first_path.proofs.TreeBare.{same_form}
-use Rattle.first_path.proofs.SpelledInFile.{stands_kept}
+use Rattle.file_answer.proofs.SpelledInFile.{stands_kept}
 use Rattle.first_path.proofs.Placing.{placed, inside}
 use Rattle.first_path.proofs.ReadsModule.{reads}
 use Rattle.first_path.proofs.Again.{fitted_again, text_again}

@@ -5,7 +5,7 @@ use Rattle.std.proofs.lemmas.Bool.{and_parts, not-true}
 use Rattle.tla_tree.specs.Tree.{Word}
 use Rattle.tla_value.specs.Outside.{ReadDefinition, found}
 use Rattle.tla_value.specs.laws.Untitled.{Untitled}
-use Rattle.first_path.proofs.OutsideApart.{other}
+use Rattle.first_path.proofs.UnitsApart.{other}
 
 pub found_untitled : (x : Word) (ds : List ReadDefinition) → list_all (other x) (map (λ d. d.definition.title) ds) ≡ true → Untitled x (found ds)
 found_untitled x [] h = tt

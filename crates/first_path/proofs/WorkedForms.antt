@@ -17,7 +17,7 @@ use Rattle.module_tree.specs.FileOffences.{file_offences}
 use Rattle.promise.specs.Headline.{Stands}
 use Rattle.first_path.specs.TreeForm.{HasForm}
 use Rattle.first_path.specs.Worked.{worked_text, worked_parts, full_text, full_parts}
-use Rattle.first_path.proofs.SpelledInFile.{stand_there}
+use Rattle.file_answer.proofs.SpelledInFile.{stand_there}
 use Rattle.first_path.proofs.TreeForms.{form_found}
 
 -- an algorithm that the tokens of a file spell is in it
@@ -45,7 +45,7 @@ labelled l k = label (named l k (codes "A")) (colon (at l (k + 1))) no_labels
 
 -- ---- the two files
 
-abbrev worked : Text
+abbrev pub worked : Text
 worked = record {
   head = algorithm (at 4 1);
   name = named 4 13 (codes "Inc");
@@ -57,7 +57,7 @@ worked = record {
   main = begin (at 6 1) (p.last_statement (labelled 7 3) (p.simple (part.assign (last_assignment (name 7 6 (codes "x")) (at 7 8) (infix_of (name 7 11 (codes "x")) (at 7 13) Plus (number 7 15 1))))) (Some (at 7 16)));
 }
 
-worked_good : Good p_syntax worked
+pub worked_good : Good p_syntax worked
 worked_good = search
 
 pub form_worked : HasForm worked_text worked_parts

@@ -1,6 +1,6 @@
 -- The form of algorithm that is translated so far, as a function of the algorithm's tree; and the files that have it, in either syntax and any layout ("A PlusCal
 -- User's Manual", section 2.2 and chapter 3).
-use Rattle.std.specs.Prelude.{◌≡◌, ℕ, Bool, true, false, not, ◌&&◌, IsTrue, List, [], ◌∷◌, Option, Some, None}
+use Rattle.std.specs.Prelude.{◌≡◌, ℕ, Bool, not, ◌&&◌, IsTrue, List, [], ◌∷◌, Option, Some, None}
 use Rattle.std.specs.Str.{bytes_eq}
 use Rattle.tla_token.specs.Offences.{Offence}
 use Rattle.tla_tree.specs.declared.op.Op.TheVariants.{Plus}

@@ -1,23 +1,31 @@
 //! Laws of the form, stated as what functions without a body ensure.
 
-ghost use Rattle.std.specs.Prelude.{◌≡◌, ◌⊎◌, ℕ, List, Some};
+ghost use Rattle.std.specs.Prelude.{◌≡◌, ◌⊎◌, ◌↔◌, ℕ, List, [], Some, None, false};
 ghost use Rattle.tla_token.specs.declared.place.Place.{Place};
 ghost use Rattle.tla_tree.specs.Tree.{Word};
 ghost use Rattle.tla_value.specs.Outside.{Outside};
 ghost use Rattle.tla_value.specs.declared.fault.FaultKind.{FaultKind};
 ghost use Rattle.pcal_tree.specs.Algorithm.{Algorithm};
-ghost use Rattle.pcal_tree.specs.Grammar.{Syntax, Spells};
 ghost use Rattle.pcal_tree.specs.Placeless.{placeless};
 ghost use Rattle.pcal_tree.specs.Step.{Step, Stutters};
 ghost use Rattle.pcal_tree.specs.InitialStates.{Initial, InitFault};
+ghost use Rattle.pcal_tree.specs.Labelled.{labelled};
+ghost use Rattle.pcal_tree.specs.OffencesLabels.{label_offences};
+ghost use Rattle.pcal_tree.specs.OffencesOfNames.{name_offences};
+ghost use Rattle.module_tree.specs.Module.{Module};
+ghost use Rattle.module_tree.specs.Around.{Around};
 ghost use Rattle.module_tree.specs.Reading.{Reads};
-ghost use Rattle.module_tree.specs.AlgorithmText.{AlgorithmText, algorithm_in, algorithm_tokens};
-ghost use Rattle.module_tree.specs.WithTranslation.{WithTranslation};
-ghost use Rattle.module_tree.specs.laws.Kept.{IsFine};
-ghost use Rattle.module_tree.specs.laws.Walks.{IsInside};
+ghost use Rattle.module_tree.specs.Walk.{walk};
+ghost use Rattle.module_tree.specs.laws.Outsides.{HasOutside};
+ghost use Rattle.macro_expand.specs.TooLarge.{too_large};
+ghost use Rattle.file_answer.specs.Checking.{AnswersChecking};
+ghost use Rattle.file_answer.specs.Spelling.{AnswersRewriting};
+ghost use Rattle.translation.specs.PromiseWhole.{WrittenWhole};
+ghost use Rattle.translation.specs.Region.{written_module};
 ghost use Rattle.first_path.specs.Form.{Parts};
 ghost use Rattle.first_path.specs.TreeForm.{form_of, HasForm, tree_form};
 ghost use Rattle.first_path.specs.Placed.{Places, algorithm_at, module_at, translation_of};
+ghost use Rattle.first_path.specs.laws.ClearOutside.{IsClear};
 ghost use Rattle.promise.specs.ConstantsAndStates.{AreConstants, IsState};
 ghost use Rattle.promise.specs.Options.{no_options};
 ghost use Rattle.promise.specs.Headline.{Headline, Stands};
@@ -37,13 +45,6 @@ pub fn files_have_the_form_by_their_trees()
     ensures read { (x : List ℕ) (f : Parts) (h : HasForm x f) → tree_form x h.tree ≡ Some f }
 {}
 
-/// In a file that breaks none of the rules 1 to 10 and 12 the algorithm that its tokens spell is in it. With a translation that is put into the file it
-/// is in it too, places aside.
-pub fn translations_keep_algorithms()
-    ensures spelled { (x : List ℕ) (a : AlgorithmText) (s : Syntax) (g : Algorithm) → IsFine x → algorithm_in x ≡ Some a → Spells s (algorithm_tokens x a) g → Stands x g }
-    ensures kept { (x t w : List ℕ) (g : Algorithm) → IsFine x → IsInside t → WithTranslation x t w → Stands x g → (h : Algorithm) × Stands w h × (placeless h ≡ placeless g) }
-{}
-
 /// What is written for a file whose algorithm has the form reads as one module alone, lies around the file, and where no
 /// expression that is reached faults its Next and Init are true exactly of the steps and initial states of the
 /// algorithm that is in the file. This algorithm and this module are those of the form's parts, wherever
@@ -52,6 +53,23 @@ pub fn translations_keep_the_promise()
     ensures promise { (x : List ℕ) (f : Parts) → HasForm x f → Headline no_options x (translation_of x f) }
     ensures algorithm { (x : List ℕ) (f : Parts) → HasForm x f → (p : Places) × Stands x (algorithm_at p f) }
     ensures module { (x : List ℕ) (f : Parts) → HasForm x f → (o : Outside) × (q : Places) × Reads (translation_of x f) (module_at o q f) }
+{}
+
+/// What is written for a file that has the form is the file with the written module of the algorithm that is in it, labels added
+/// where there are none, in the module that it reads as: the form's own translation is an instance of the whole one. And it is what
+/// is written for any text, without options.
+pub fn the_form_is_translated_as_any_algorithm()
+    ensures whole { (x : List ℕ) (f : Parts) → HasForm x f → WrittenWhole no_options x (translation_of x f) }
+    ensures around { (x : List ℕ) (f : Parts) → HasForm x f → (m : Module) → Reads (translation_of x f) m → (a : Algorithm) → Stands x a
+        → Around x (written_module false f.title m.outside (labelled false a)) (translation_of x f) }
+{}
+
+/// The algorithm of the form breaks no rule on labels and isn't too large; and none on names, where what the file has outside is clear. So with a file
+/// that has the form nothing is wrong by any rule exactly if its spelling isn't refused and what it has outside is clear.
+pub fn files_of_the_form_are_wrong_only_outside()
+    ensures labels { (x : List ℕ) (f : Parts) (h : HasForm x f) → (label_offences (labelled false h.tree) ≡ []) × (too_large (labelled false h.tree) ≡ []) }
+    ensures names { (x : List ℕ) (f : Parts) (h : HasForm x f) (o : Outside) → HasOutside (walk x) o → (name_offences (labelled false h.tree) o ≡ [] ↔ IsClear o f) }
+    ensures checked { (x : List ℕ) (f : Parts) → HasForm x f → (o : Outside) → HasOutside (walk x) o → (AnswersChecking false x None ↔ (AnswersRewriting x None × IsClear o f)) }
 {}
 
 /// The file with its translation has the form too, with the same parts, and translating it again changes nothing.

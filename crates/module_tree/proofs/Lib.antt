@@ -63,6 +63,7 @@ pub mod ProcessSets
 pub mod UnitLists
 pub mod LayoutBare
 pub mod WrittenRegion
+pub mod PutThere
 pub mod First
 pub mod Braces
 pub mod AlgorithmEnds

@@ -13,7 +13,7 @@ use Rattle.first_path.specs.Form.{Parts}
 use Rattle.first_path.specs.Placed.{translation_of}
 use Rattle.first_path.specs.TreeForm.{HasForm, tree_form}
 use Rattle.first_path.specs.Written.{Written}
-use Rattle.first_path.proofs.SpelledInFile.{stand_there}
+use Rattle.file_answer.proofs.SpelledInFile.{stand_there}
 use Rattle.first_path.proofs.TreeForms.{form_found, form_read, form_promise}
 use Rattle.file_answer.specs.Refusals.{IsStop}
 use Rattle.file_answer.specs.Spelling.{AnswersRewriting}

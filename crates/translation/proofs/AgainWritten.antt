@@ -17,6 +17,7 @@ use Rattle.module_tree.specs.laws.Outsides.{HasOutside, SameOutside}
 use Rattle.module_tree.proofs.FineKept.{fine_kept}
 use Rattle.module_tree.proofs.ModuleKept.{outside_kept}
 use Rattle.module_tree.proofs.OutsideAlike.{alike_after, same_outside}
+use Rattle.module_tree.proofs.PutThere.{put_there}
 use Rattle.module_tree.proofs.SomeOutside.{one_outside_of}
 use Rattle.module_tree.proofs.WalkKept.{has_spot}
 use Rattle.module_tree.proofs.WalkSame.{keeps_file, put_again}
@@ -25,8 +26,7 @@ use Rattle.pcal_tree.specs.Algorithm.{Algorithm}
 use Rattle.pcal_tree.specs.Placeless.{placeless}
 use Rattle.pcal_tree.specs.Programs.{program_in}
 use Rattle.promise.specs.Headline.{Stands}
-use Rattle.first_path.proofs.Placing.{put_there}
-use Rattle.first_path.proofs.SpelledInFile.{stands_kept}
+use Rattle.file_answer.proofs.SpelledInFile.{stands_kept}
 use Rattle.translation.specs.Region.{region_of, written_region}
 use Rattle.translation.specs.laws.AcceptedAlgorithm.{IsAccepted}
 use Rattle.translation.proofs.AcceptedAlgorithms.{text_writable}

@@ -8,7 +8,6 @@ mod RowsAll
 mod RowsStands
 pub mod BareNames
 pub mod NoPlaces
-pub mod OfForm
 pub mod ActionTitles
 pub mod WrittenIdentifiers
 pub mod WritableBodies

@@ -31,16 +31,12 @@ ghost use Rattle.translation.specs.laws.AcceptedLaws.{extra_of, Stance, may_bind
 ghost use Rattle.promise.specs.NextAndInit.{InitIs};
 ghost use Rattle.pcal_tree.specs.Variables.{declared, vars};
 ghost use Rattle.pcal_tree.specs.Labelled.{labelled};
-ghost use Rattle.module_tree.specs.Around.{Around};
 ghost use Rattle.promise.specs.Headline.{Stands, Headline};
 ghost use Rattle.promise.specs.Options.{Options};
 ghost use Rattle.file_answer.specs.Checking.{AnswersChecking};
 ghost use Rattle.translation.specs.PromiseWhole.{WrittenWhole};
 ghost use Rattle.translation.specs.Worked.{MeetsPremises, HasFairness};
 ghost use Rattle.translation.specs.WorkedFiles.{adding_file, adding, counting_file, counting, picking_file, picking, marking_file, marking};
-ghost use Rattle.first_path.specs.Form.{Parts};
-ghost use Rattle.first_path.specs.TreeForm.{HasForm};
-ghost use Rattle.first_path.specs.Placed.{translation_of};
 ghost use Rattle.action_builder.specs.WrittenNames.{with_names};
 ghost use Rattle.action_builder.specs.LabelActions.{at_test, items_from};
 ghost use Rattle.action_builder.specs.laws.Settling.{Callable};
@@ -101,13 +97,6 @@ pub fn the_actions_have_the_written_names()
 pub fn the_actions_of_labels_are_those_of_steps()
     ensures { (P : Program) (u : Routine) (l : Word) (b : Begin) (rules : Rules) (names : Word → Bool) (callable : Callable) (scope : Scope)
         → items_from P u l (Some b) ≡ item (test (at_test P u l)) (action_of (vars P) (written_step P u l b rules names callable scope)) }
-{}
-
-/// What is written for a file that has the form is the file with the written module of the algorithm that is in it, labels added
-/// where there are none, in the module that it reads as: the form's own translation is an instance of the whole one.
-pub fn the_form_is_translated_as_any_algorithm()
-    ensures { (x : List ℕ) (f : Parts) → HasForm x f → (m : Module) → Reads (translation_of x f) m → (a : Algorithm) → Stands x a
-        → Around x (written_module false f.title m.outside (labelled false a)) (translation_of x f) }
 {}
 
 /// What is written of an algorithm that can be written is a translation that can be written and read back: all its names are

@@ -1,49 +1,38 @@
 -- The algorithm that the tokens of a file spell is in it; and it is in the file with a translation too, places aside.
-use Rattle.std.proofs.Common.{◌≡◌, ◌⊎◌, inl, inr, ℕ, List, [], ◌∷◌, Option, Some, refl, sym, ap, subst, ◌∙◌}
+use Rattle.std.proofs.Common.{◌≡◌, inl, inr, ℕ, List, [], ◌∷◌, Some, refl, ap, subst, ◌∙◌}
+use Rattle.std.specs.Prelude.{filter}
 use Rattle.tla_token.specs.Tokens as text
 use Rattle.tla_token.specs.Tokens.{TokAlgorithm}
 use Rattle.tla_token.proofs.Unique as token
 use Rattle.tla_tree.specs.FirstStop.{looks}
 use Rattle.pcal_tree.specs.Algorithm.{Algorithm}
 use Rattle.pcal_tree.specs.AlgorithmTokens.{kind_of, views}
-use Rattle.pcal_tree.specs.Grammar.{Syntax, p_syntax, c_syntax, algorithm_of, Spells, SpellsP, SpellsC}
+use Rattle.pcal_tree.specs.Grammar.{Syntax, p_syntax, c_syntax, algorithm_of, Spells}
 use Rattle.pcal_tree.specs.Placeless.{placeless}
 use Rattle.pcal_tree.proofs.LinesGood.{spelled_again}
 use Rattle.module_tree.specs.TextFront.{Text}
-use Rattle.module_tree.specs.Walk.{walk}
 use Rattle.module_tree.specs.AlgorithmText.{AlgorithmText, algorithm_in, algorithm_tokens}
-use Rattle.module_tree.specs.FileOffences.{offences_of, algorithm_offences}
+use Rattle.module_tree.specs.FileOffences.{is_splitting}
 use Rattle.module_tree.specs.WithTranslation.{WithTranslation}
-use Rattle.module_tree.specs.laws.Kept.{IsFine, only_large, TokensMoved}
+use Rattle.module_tree.specs.laws.Kept.{IsFine, TokensMoved}
 use Rattle.module_tree.specs.laws.Walks.{IsInside}
-use Rattle.module_tree.proofs.AlgorithmIsCut.{algorithm_is_cut}
 use Rattle.module_tree.proofs.AlgorithmMoved.{tokens_kept}
 use Rattle.module_tree.proofs.AlgorithmSame.{algorithm_kept}
 use Rattle.module_tree.proofs.FineKept.{fine_kept}
-use Rattle.module_tree.proofs.WalkPlace.{both_empty}
 use Rattle.promise.specs.Headline.{Stands}
-use Rattle.first_path.proofs.AlgorithmsMoved.{same_algorithm}
+use Rattle.file_answer.proofs.AlgorithmStretch.{has_tokens}
+use Rattle.file_answer.proofs.OneTree.{InOne, in_one}
+use Rattle.file_answer.proofs.AlgorithmsMoved.{same_algorithm}
 
 -- ---- tokens
 
 -- where no rule is broken the tokens of the walk are those of the algorithm's stretch
-pub tokens_cut : (x : Text) (a : AlgorithmText) → IsFine x → algorithm_in x ≡ Some a → TokAlgorithm x a.from a.rest.to (algorithm_tokens x a)
-tokens_cut x a fine is =
-    let first = both_empty (offences_of (walk x)) _ fine in
-    let second = both_empty (algorithm_offences (algorithm_in x)) _ first.1 in
-    let none = ap (λ (o : Option AlgorithmText). only_large (algorithm_offences o)) (sym is) ∙ ap only_large second.0 in
-    algorithm_is_cut x a first.0 is none
+tokens_cut : (x : Text) (a : AlgorithmText) → IsFine x → algorithm_in x ≡ Some a → TokAlgorithm x a.from a.rest.to (algorithm_tokens x a)
+tokens_cut x a fine is = has_tokens x a (ap (filter is_splitting) fine) is
 
 -- and no others are
 one_tokens : (x : Text) (g : Algorithm) (s : Stands x g) → IsFine x → s.tokens ≡ algorithm_tokens x s.text
 one_tokens x g s fine = token.one_algorithm x s.text.from s.text.rest.to s.tokens (algorithm_tokens x s.text) s.tok (tokens_cut x s.text fine s.is_text)
-
-abbrev InOne : List text.Token → Algorithm → Type 0
-InOne ts g = SpellsP ts g ⊎ SpellsC ts g
-
-in_one : (s : Syntax) (ts : List text.Token) (g : Algorithm) → Spells s ts g → InOne ts g
-in_one p_syntax ts g h = inl h
-in_one c_syntax ts g h = inr h
 
 pub stand_there : (x : Text) (a : AlgorithmText) (s : Syntax) (g : Algorithm) → IsFine x → algorithm_in x ≡ Some a → Spells s (algorithm_tokens x a) g → Stands x g
 stand_there x a s g fine is h =

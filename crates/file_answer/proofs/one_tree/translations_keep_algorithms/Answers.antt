@@ -1,6 +1,6 @@
 -- Proves the law `translations_keep_algorithms`.
-use Rattle.first_path.proofs.SpelledInFile.{stand_there, stands_kept}
-use Rattle.first_path.proofs.laws.translations_keep_algorithms.Goals as goal
+use Rattle.file_answer.proofs.SpelledInFile.{stand_there, stands_kept}
+use Rattle.file_answer.proofs.one_tree.translations_keep_algorithms.Goals as goal
 
 pub returns-clause-spelled : goal.returns-clause-spelled
 returns-clause-spelled c = stand_there

@@ -13,7 +13,7 @@ use Rattle.pcal_tree.specs.GrammarC as csyntax
 use Rattle.pcal_tree.specs.Grammar as g
 use Rattle.pcal_tree.specs.Placeless.{no_span, assignments_placeless, binds_placeless, statement_placeless, statements_placeless, branches_placeless, start_placeless, declarations_placeless, definitions_placeless, macros_placeless, procedures_placeless, processes_placeless, main_placeless, placeless}
 use Rattle.pcal_tree.specs.laws.Lines.{lineless_name, initial_lineless, variables_lineless, section_lineless, names_lineless, macro_parameters_lineless, parameters_lineless, procedure_parameters_lineless, heading_lineless, definitions_lineless, labels_lineless, binds_lineless, arguments_lineless, assignments_lineless, simple_lineless, p_statement_lineless, p_else_lineless, p_branches_lineless, p_sequence_lineless, c_statement_lineless, c_labelled_lineless, c_else_lineless, c_branches_lineless, c_sequence_lineless, body_lineless, macro_lineless, procedure_lineless, fair_lineless, identity_lineless, process_lineless, head_lineless, define_lineless, main_lineless, text_lineless}
-use Rattle.first_path.proofs.TreesMoved.{same_tree as moved_tree, same_trees as moved_trees}
+use Rattle.file_answer.proofs.TreesMoved.{same_tree as moved_tree, same_trees as moved_trees}
 
 same_tree : (a : Phrase) → tree_placeless (tree_of (lineless a)) ≡ tree_placeless (tree_of a)
 same_tree a = moved_tree column_of a

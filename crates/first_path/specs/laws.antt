@@ -1,0 +1,2 @@
+-- Words that only laws speak of.
+pub mod ClearOutside
