@@ -43,7 +43,7 @@ spelled_there x g fine s = subst (λ (ts : List text.Token). InOne ts g) (one_to
 
 -- ---- the file with a translation
 
-looks_moved : (i j m n : ℕ) (ts us : List text.Token) → TokensMoved i j m n ts us → looks (views ts) ≡ looks (views us)
+pub looks_moved : (i j m n : ℕ) (ts us : List text.Token) → TokensMoved i j m n ts us → looks (views ts) ≡ looks (views us)
 looks_moved i j m n [] [] h = refl
 looks_moved i j m n (t ∷ ts) (u ∷ us) (kind, near, more) =
     let others = looks_moved i j m n ts us more in
@@ -52,7 +52,7 @@ looks_moved i j m n [] (u ∷ us) h = absurd h
 looks_moved i j m n (t ∷ ts) [] h = absurd h
 
 -- in the same syntax, tokens of other lines spell the same algorithm, places aside
-spelled_moved : (s : Syntax) (ts us : List text.Token) (g : Algorithm) → looks (views ts) ≡ looks (views us) → Spells s ts g
+pub spelled_moved : (s : Syntax) (ts us : List text.Token) (g : Algorithm) → looks (views ts) ≡ looks (views us) → Spells s ts g
     → (h : Algorithm) × Spells s us h × (placeless h ≡ placeless g)
 spelled_moved s ts us g e (x, good, is, tree) =
     let (y, well, there, same) = spelled_again s (views ts) (views us) e x good is in

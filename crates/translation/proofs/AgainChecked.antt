@@ -33,28 +33,13 @@ use Rattle.file_answer.specs.Holds.{HoldsTree}
 use Rattle.file_answer.specs.Refusals.{Wrong}
 use Rattle.file_answer.specs.Spelling.{of_rules, syntax_at, AreRead, AreCounted, OfAlgorithm, IsSpelling}
 use Rattle.file_answer.proofs.OneTree.{one_held}
-use Rattle.first_path.proofs.AlgorithmsMoved.{same_algorithm}
+use Rattle.file_answer.proofs.SpelledInFile.{looks_moved, spelled_moved}
 use Rattle.translation.proofs.AgainCounts.{count_offences_bare}
 use Rattle.translation.proofs.AgainLabels.{labels_alike}
 use Rattle.translation.proofs.AgainOffences.{rules}
 use Rattle.translation.proofs.AgainOutside.{none_alike, no_names, no_labels, not_too_large}
 use Rattle.translation.proofs.AgainWritten.{outside_same}
 use Rattle.translation.proofs.KeptAccepted.{NothingWrong, nothing_wrong, checked_is_fine, some_stands, none_of_tokens}
-
--- ---- tokens in other lines
-
-looks_moved : (i j m n : ℕ) (ts us : List text.Token) → TokensMoved i j m n ts us → looks (views ts) ≡ looks (views us)
-looks_moved i j m n [] [] h = refl
-looks_moved i j m n (t ∷ ts) (u ∷ us) (kind, near, more) =
-    let others = looks_moved i j m n ts us more in
-    λ k. (kind_of (kind k), near.2 k) ∷ others k
-looks_moved i j m n [] (u ∷ us) h = absurd h
-looks_moved i j m n (t ∷ ts) [] h = absurd h
-
-spelled_moved : (s : Syntax) (ts us : List text.Token) (g : Algorithm) → looks (views ts) ≡ looks (views us) → Spells s ts g → (h : Algorithm) × Spells s us h × (placeless h ≡ placeless g)
-spelled_moved s ts us g e (x, good, is, tree) =
-    let (y, well, there, same) = spelled_again s (views ts) (views us) e x good is in
-    (algorithm_of y, (y, well, there, refl), same_algorithm y x same ∙ ap placeless tree)
 
 -- ---- what is wrong with the algorithm's tokens: nothing
 
