@@ -61,12 +61,6 @@ unlike_first (x ∷ xs) ys h = (each_left (λ y. bytes_eq x y ≡ false) xs ys h
 pub parameters_first : (P : Program) (p : Routine) → written_all P p (locals p) ≡ written_all P p p.params ++ written_all P p p.variables
 parameters_first P p = ap (map (written P p)) (map-append (λ (d : Declaration). d.name.word) p.params p.variables) ∙ map-append (written P p) (map (λ (d : Declaration). d.name.word) p.params) (map (λ (d : Declaration). d.name.word) p.variables)
 
-pub flipped : (x y : Word) → bytes_eq x y ≡ false → bytes_eq y x ≡ false
-flipped x y e = false_from_ne_true (bytes_eq y x) (λ d. clash (sym ((bytes_eq-Decides x y).1 (sym ((bytes_eq-Decides y x).0 d))) ∙ e))
-  where
-    clash : true ≡ false → ⊥
-    clash q = cc
-
 pub differ : {A : Type 0} (x y : Word) → bytes_eq x y ≡ false → bytes_eq x y ≡ true → A
 differ x y e d = absurd (clash (sym d ∙ e))
   where

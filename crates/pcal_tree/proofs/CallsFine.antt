@@ -112,7 +112,7 @@ not_if : (b : Bool) (r : Rule) (at : Place) → offence_if (not b) r at ≡ [] �
 not_if true r at e = refl
 not_if false r at e = cc
 
-usable_is : (u : Option Use) (n : ℕ) (right : Bool) (at : Place) → applied_offences u n right at ≡ [] → Usable u
+pub usable_is : (u : Option Use) (n : ℕ) (right : Bool) (at : Place) → applied_offences u n right at ≡ [] → Usable u
 usable_is None n right at e = cc
 usable_is (Some unread) n right at e = cc
 usable_is (Some (standard d extended)) n right at e =
@@ -131,7 +131,7 @@ pub in_also : (N : Word → Type 0) (xs : List Word) (y : Word) → N y → Also
 in_also N [] y h = h
 in_also N (x ∷ xs) y h = in_also (Or x N) xs y (inr h)
 
-among_also : (N : Word → Type 0) (xs : List Word) (y : Word) → is_among xs y ≡ true → Also xs N y
+pub among_also : (N : Word → Type 0) (xs : List Word) (y : Word) → is_among xs y ≡ true → Also xs N y
 among_also N [] y e = cc
 among_also N (x ∷ xs) y e = by (bytes_eq x y) refl (among_also (Or x N) xs y)
   where

@@ -81,7 +81,7 @@ own_sorted : (us : List Routine) (vs : List Actor) → AllByRecursion (Own us) v
 own_sorted us [] h = tt
 own_sorted us (v ∷ vs) h = own_placed us v (sorted vs) h.0 (own_sorted us vs h.1)
 
-united_same : (P : Program) (at : Place) (vs ws : List Actor) → united P at vs ≡ Ok ws → vs ≡ ws
+pub united_same : (P : Program) (at : Place) (vs ws : List Actor) → united P at vs ≡ Ok ws → vs ≡ ws
 united_same P at vs ws e = by (P.check at (set (set_from (identifiers vs)))) e
   where
     by : (o : Outcome Value) → o >>= (λ w. Ok vs) ≡ Ok ws → vs ≡ ws
@@ -172,7 +172,7 @@ spread_alone a (alone ss) = (
     equal u w (inr h) k = absurd h
 spread_alone a (processes ps) = (first_process a + length ps, spread_numbered process_routine (λ n x. refl) (first_process a) ps)
 
-one_number : (a : Algorithm) (u w : Routine) → OneOf u (routines a) → OneOf w (routines a) → u.number ≡ w.number → u ≡ w
+pub one_number : (a : Algorithm) (u w : Routine) → OneOf u (routines a) → OneOf w (routines a) → u.number ≡ w.number → u ≡ w
 one_number a u w h k e =
     by (spread_numbered procedure_routine (λ n x. refl) (first_procedure a) a.procedures) (spread_alone a a.main)
     (one_either u (procedure_routines a) (main_routines a a.main) h) (one_either w (procedure_routines a) (main_routines a a.main) k)

@@ -177,7 +177,7 @@ running_ascending u (v ∷ vs) a = by (v.own.number == u.number) (running_ascend
 
 -- ---- all processes, process by process
 
-ids_both : (vs ws : List Actor) (x : Value) → holds x (ids (vs ++ ws)) ≡ (holds x (ids vs) || holds x (ids ws))
+pub ids_both : (vs ws : List Actor) (x : Value) → holds x (ids (vs ++ ws)) ≡ (holds x (ids vs) || holds x (ids ws))
 ids_both [] ws x = refl
 ids_both (v ∷ vs) ws x = ap (λ b. same x (id v) || b) (ids_both vs ws x) ∙ sym (or_assoc (same x (id v)) (holds x (ids vs)) (holds x (ids ws)))
 
@@ -202,7 +202,7 @@ running_other u w no_values e = refl
 running_other u w (and v vs) e = (λ i. cond (e i) (record { self = Some v; own = w } ∷ running u (actors_of w vs)) (running u (actors_of w vs))) ∙ running_other u w vs e
 
 -- what all_actors gives is put together from what each process gives
-all_parts : (P : Program) (n : ℕ) (p : Process) (ps : List Process) (vs : List Actor) → all_actors P n (p ∷ ps) ≡ Ok vs
+pub all_parts : (P : Program) (n : ℕ) (p : Process) (ps : List Process) (vs : List Actor) → all_actors P n (p ∷ ps) ≡ Ok vs
     → (is : Values) × (more : List Actor) × (identifiers_of P p ≡ Ok is) × (all_actors P (suc n) ps ≡ Ok more) × (vs ≡ actors_of (process_routine n p) is ++ more)
 all_parts P n p ps vs e = by (identifiers_of P p) refl (all_actors P (suc n) ps) refl e
   where

@@ -5,7 +5,7 @@ use Rattle.tla_tree.specs.Tree.{Word}
 use Rattle.tla_value.specs.Value.{Value, fault, Outcome, set, ◌>>=◌}
 use Rattle.tla_value.specs.Order.{same, order, set_from}
 use Rattle.tla_value.specs.OrderLaws.{same_self}
-use Rattle.tla_value.proofs.Outcomes.{ok_is}
+use Rattle.tla_value.proofs.Outcomes.{ok_is, bound_ok}
 use Rattle.tla_token.specs.declared.place.Place.{Place}
 use Rattle.tla_value.specs.declared.fault.FaultKind.TheVariants.{SameIdentifier}
 use Rattle.pcal_tree.specs.Algorithm.{Main, alone, processes, first_process, alone_routine}
@@ -83,7 +83,7 @@ in_placed u v (w ∷ ws) h = by (in_placed u v ws) (is_lt (order (identifier v.s
     by ih false (inl p) = inr (inl p)
     by ih false (inr g) = behind (ih g)
 
-in_sorted : (u : Actor) (vs : List Actor) → OneOf u (sorted vs) → OneOf u vs
+pub in_sorted : (u : Actor) (vs : List Actor) → OneOf u (sorted vs) → OneOf u vs
 in_sorted u [] h = h
 in_sorted u (v ∷ vs) h = by (in_sorted u vs) (in_placed u v (sorted vs) h)
   where
@@ -98,10 +98,6 @@ one_distinct : (x : Actor) → Distinct (x ∷ [])
 one_distinct x v w (inl p) (inl q) e = p ∙ sym q
 one_distinct x v w (inl p) (inr q) e = absurd q
 one_distinct x v w (inr p) h e = absurd p
-
-bound_ok : {X Y : Type 0} (o : Outcome X) (go : X → Outcome Y) (y : Y) → o >>= go ≡ Ok y → (x : X) × (o ≡ Ok x) × (go x ≡ Ok y)
-bound_ok (Ok x) go y e = (x, refl, e)
-bound_ok (Err k) go y e = cc
 
 united_is : (P : Program) (at : Place) (us ws : List Actor) → united P at us ≡ Ok ws → us ≡ ws
 united_is P at us ws e = (let r = bound_ok (P.check at (set (set_from (identifiers us)))) (λ v. Ok us) ws e in ok_is r.2)

@@ -45,7 +45,7 @@ use Rattle.fairness.specs.Demands.{routine_steps, label_steps}
 use Rattle.fairness.specs.FairnessLines.{identifier_of, action_call, guard_of, line_of}
 use Rattle.fairness.specs.MarkedLabels.{kept_labels, left_out_labels}
 use Rattle.fairness.specs.Obligations.{Obligation, written_labels, obligation_of}
-use Rattle.translation.proofs.FairLabels.{labels_shared}
+use Rattle.fairness.proofs.LabelsShared.{labels_shared}
 use Rattle.promise.specs.ConstantsAndStates.{AreConstants, IsState}
 use Rattle.translation.specs.Region.{region_of}
 use Rattle.translation.specs.laws.AcceptedAlgorithm.{IsAcceptedInFile}

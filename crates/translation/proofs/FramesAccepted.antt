@@ -41,7 +41,7 @@ use Rattle.translation.specs.laws.AcceptedAlgorithm.{IsAcceptedInFile}
 use Rattle.translation.specs.laws.AcceptedLaws.{extra_of, may_bind}
 use Rattle.translation.proofs.NamesApart.{IsNamed, self_none, self_some, writable, free, never, own_differs, false_among, extra_untitled_by, untitled_mapped, untitled_joined}
 use Rattle.translation.proofs.NamesOfRules.{Unreserved, not_own, turned}
-use Rattle.translation.proofs.RoutinesNamed.{one_each_of, among_later, among_before, local_free}
+use Rattle.translation.proofs.RoutinesNamed.{one_each_of, among_later, among_before, local_free, declared_each}
 use Rattle.translation.proofs.TidySteps.{no_old}
 use Rattle.translation.proofs.VariableNames.{each_from, none_among, vars_each, stack_each, own_each}
 use Rattle.translation.specs.laws.WritableAlgorithm.{IsWritableDeclaration}
@@ -121,10 +121,6 @@ bound_now : (w : Option Value) (e : Env) (x : Word) (at : Place) → bytes_eq se
 bound_now (Some w) e x at q = ap (λ b. cond b (just w) (e.now x at)) q
 bound_now None e x at q = refl
 
-declared_identifiers : (ds : List Declaration) → AllByRecursion IsWritableDeclaration ds → Each IsIdentifier (declared ds)
-declared_identifiers [] h = tt
-declared_identifiers (d ∷ ds) h = (h.0.0, declared_identifiers ds h.1)
-
 module _ (o : Outside) (a : Algorithm) (h : IsAcceptedInFile o a) (values : Valuation) where
   abbrev pub P : Program
   P = program_in plain o a values
@@ -143,7 +139,7 @@ module _ (o : Outside) (a : Algorithm) (h : IsAcceptedInFile o a) (values : Valu
   globals_each : (Q : Word → Type 0) → ((x : Word) → Unreserved o x → IsIdentifier x → Q x) → Each Q (declared a.globals)
   globals_each Q k =
       each_from Q (declared a.globals)
-      (λ x m. k x (one_each_of (Unreserved o) (declared a.globals) (free o a h).globals x m) (one_each_of IsIdentifier (declared a.globals) (declared_identifiers a.globals (writable o a h).globals) x m))
+      (λ x m. k x (one_each_of (Unreserved o) (declared a.globals) (free o a h).globals x m) (one_each_of IsIdentifier (declared a.globals) (declared_each a.globals (writable o a h).globals) x m))
 
   pub old_no_variable : is_among (vars P) old_stack ≡ false
   old_no_variable =

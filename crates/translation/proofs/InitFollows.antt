@@ -21,7 +21,7 @@ use Rattle.pcal_tree.specs.Scope.{State}
 use Rattle.pcal_tree.specs.Takers.{Takers, each_of, single, lone, taken_process, taken_main}
 use Rattle.pcal_tree.specs.Variables.{declared, pc, stack_for, written_by_all, vars}
 use Rattle.pcal_tree.proofs.OneStand.{every_both}
-use Rattle.pcal_tree.proofs.ProcessesInOrder.{id, ids, ids_of_actors, sorted_ascending, At, at_first, at_later, running_in_order, running_ascending, all_owned}
+use Rattle.pcal_tree.proofs.ProcessesInOrder.{id, ids, ids_of_actors, sorted_ascending, At, at_first, at_later, running_in_order, running_ascending, all_owned, all_parts}
 use Rattle.pcal_tree.proofs.RoutineNames.{every_one}
 use Rattle.pcal_tree.proofs.TroubleLaws.{one_left, one_right}
 use Rattle.action_builder.specs.InitialFormulas.{locals_start, globals_start, stack_start, pc_start, init}
@@ -34,9 +34,10 @@ use Rattle.pcal_tree.specs.Program.{written}
 use Rattle.promise.specs.ConstantsAndStates.{AreConstants, IsState}
 use Rattle.translation.specs.laws.AcceptedAlgorithm.{IsAcceptedInFile}
 use Rattle.translation.specs.laws.AcceptedLaws.{extra_of}
-use Rattle.translation.proofs.InitLabels.{in_sorted, one_holds, lone_pc, lone_stack, all_pc, all_stack}
+use Rattle.pcal_tree.proofs.ReplyConverse.{in_sorted}
+use Rattle.translation.proofs.InitLabels.{one_holds, lone_pc, lone_stack, all_pc, all_stack}
 use Rattle.translation.proofs.InitNames.{StartFine, identity_used, all_fine}
-use Rattle.translation.proofs.InitSets.{all_parts, P, E, all_grow, Gives, identity_gives, identity_canonical, value_grows, Running, running_all, process_set_gives}
+use Rattle.translation.proofs.InitSets.{P, E, all_grow, Gives, identity_gives, identity_canonical, value_grows, Running, running_all, process_set_gives}
 use Rattle.translation.proofs.InitValues.{globals_hold, lone_is, single_is, spread_is, locals_hold}
 use Rattle.translation.proofs.NamesApart.{names_apart}
 use Rattle.translation.proofs.NamesOfRules.{rules_of_names}

@@ -44,6 +44,7 @@ use Rattle.translation.specs.laws.AcceptedAlgorithm.{IsAcceptedInFile}
 use Rattle.translation.proofs.InitRows.{told, values, no_constants, values_canonical}
 use Rattle.translation.proofs.RowsProcesses as kinds
 use Rattle.translation.proofs.Trees.{integers}
+use Rattle.translation.proofs.RowsAccepted.{accepted_by}
 
 -- ---- the algorithm
 
@@ -101,32 +102,6 @@ both_outside = refl
 
 both_have : HasOutside (walk kinds.file) integers
 both_have = subst (λ (o : Outside). HasOutside (walk kinds.file) o) both_outside (has_outside (walk kinds.file))
-
--- an algorithm that the tokens of a file spell, and that breaks no rule
-accepted_by : (x : front.Text) (t : Text) (o : Option AlgorithmText) (u : Outside) → algorithm_in x ≡ o → Good p_syntax t → offences_of (walk x) ≡ [] → only_large (algorithm_offences o) ≡ true
-    → front.on_some o (λ a. Some (views (algorithm_tokens x a))) ≡ Some (spell t []) → front.on_some o (λ a. Some (tokens.algorithm_offences (algorithm_tokens x a))) ≡ Some []
-    → labelled false (algorithm_of t) ≡ algorithm_of t → name_offences (algorithm_of t) u ≡ [] → label_offences (algorithm_of t) ≡ [] → length x < past_text → HasOutside (walk x) u → IsAcceptedInFile u (algorithm_of t)
-accepted_by x t (Some a) u is good fine large told rules labels_added names labels short outside = record {
-  file = x;
-  accepted = record {
-    syntax = p_syntax;
-    text = x;
-    from = a.from;
-    to = a.rest.to;
-    tokens = algorithm_tokens x a;
-    tok = algorithm_is_cut x a fine is large;
-    rules = same_Some (tokens.algorithm_offences (algorithm_tokens x a)) [] rules;
-    typed = algorithm_of t;
-    spelled = (t, good, same_Some (views (algorithm_tokens x a)) (spell t []) told, refl);
-    forced = false;
-    labels_added = labels_added;
-    names = names;
-    labels = labels;
-  };
-  short = short;
-  outside = outside;
-}
-accepted_by x t None u is good fine large told rules labels_added names labels short outside = absurd cc
 
 both_accepted : IsAcceptedInFile integers both
 both_accepted = accepted_by kinds.file both_text (algorithm_in kinds.file) integers refl both_good refl refl refl refl refl refl refl (omega arith) both_have

@@ -27,7 +27,6 @@ use Rattle.action_builder.specs.WrittenNames.{renames}
 use Rattle.action_builder.specs.laws.Jumps.{Unlike, AllUnlike}
 use Rattle.action_builder.specs.laws.Ready.{Readable, IsWithin, Apart}
 use Rattle.action_builder.proofs.FitJumps.{parameters_first}
-use Rattle.action_builder.proofs.FitWritten.{among_each}
 use Rattle.translation.specs.laws.FreshReads.{fresh, AllReadFresh}
 use Rattle.translation.specs.laws.StepNames.{name_of, Unused, StepNames, StartReads, Called, Frames}
 use Rattle.translation.specs.laws.StepParts.{Readied}
@@ -38,11 +37,12 @@ use Rattle.translation.proofs.StepNames.{not_true, GlobalsOf, became_global, bec
 use Rattle.translation.proofs.StepsOnce as steps
 use Rattle.translation.proofs.StraightSteps.{all_roots, ReadsAnyhow, WritesAnyhow, AllAnyhow, straight_ready}
 use Rattle.translation.proofs.NamesFree.{AllOf, both_of}
+use Rattle.action_builder.proofs.Names.{each_name}
 
 -- ---- lists of names
 
 pub each_apart : (B : Names) (xs : List Word) → Each (λ x. B x ≡ false) xs → Apart B xs
-each_apart B xs h x m = among_each (λ y. B y ≡ false) xs h x m
+each_apart B xs h x m = each_name (λ y. B y ≡ false) xs h x m
 
 pub each_joined : (Q : Word → Type 0) (xs ys : List Word) → Each Q xs → Each Q ys → Each Q (xs ++ ys)
 each_joined Q [] ys h k = k

@@ -27,12 +27,13 @@ use Rattle.translation.specs.laws.WritableAlgorithm.{IsStarted}
 use Rattle.translation.proofs.BoundOf.{AllIn, MacrosAll, in_both, in_flat, body_bound}
 use Rattle.translation.proofs.FewNames.{tokens_within}
 use Rattle.translation.proofs.NamesApart.{free, mapped_among}
-use Rattle.translation.proofs.NamesInSight.{one_reversed, UsedOutside, sees_map, sees_inside}
+use Rattle.translation.proofs.NamesInSight.{UsedOutside, sees_map, sees_inside}
 use Rattle.translation.proofs.NamesOfRules.{Unreserved, rules_of_names}
 use Rattle.translation.proofs.RoutinesNamed.{among_later, among_before}
 use Rattle.translation.proofs.TypedLabels.{labelled_typed}
 use Rattle.translation.proofs.TypedTexts.{text_typed}
 use Rattle.translation.proofs.VariableNames.{each_to, one_is_among}
+use Rattle.pcal_tree.proofs.StepVariables.{one_reverse}
 
 pub typed : (o : Outside) (a : Algorithm) → IsAccepted o a → IsTypedAlgorithm a
 typed o a h = subst IsTypedAlgorithm h.labels_added (labelled_typed h.forced h.typed (text_typed h.syntax h.text h.from h.to h.tokens h.typed h.tok (tokens_within h.tokens h.rules).0 h.spelled))
@@ -66,11 +67,11 @@ module _ (o : Outside) (a : Algorithm) (h : IsAcceptedInFile o a) where
       let i = in_both N (lists_in_declared a.globals) _ g in
       let j = in_both N (flat_map (λ (c : Definition). lists_in c.body) a.definitions) _ i.1 in
       let l = in_both N (flat_map (λ (c : Macro). lists_in_body c.body) a.macros) _ j.1 in
-      in_flat N (λ (c : Macro). lists_in_body c.body) a.macros l.0 d (one_reversed d a.macros k)
+      in_flat N (λ (c : Macro). lists_in_body c.body) a.macros l.0 d (one_reverse d a.macros k)
 
   text_fine : (d : Macro) → OneOf d (reverse a.macros) → TextFine o a d
   text_fine d k =
-      let m = one_reversed d a.macros k in
+      let m = one_reverse d a.macros k in
       let t = every_one IsTypedMacro d a.macros (typed o a h.accepted).macros m in
       record {
         bound = macros_bound (R o.extended a.procedures) all_bound d k;

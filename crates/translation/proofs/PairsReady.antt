@@ -36,7 +36,7 @@ use Rattle.action_builder.specs.WrittenNames.{renames}
 use Rattle.action_builder.specs.laws.Grafts.{ClearItems}
 use Rattle.action_builder.specs.laws.Jumps.{Unlike, AllUnlike}
 use Rattle.action_builder.specs.laws.Ready.{Readable, IsWithin, Apart, KeptValue, Needs}
-use Rattle.action_builder.proofs.SetAgain.{bad_then}
+use Rattle.action_builder.proofs.SetAgain.{bad_then, bad_in, bad_first}
 use Rattle.translation.specs.laws.FreshReads.{fresh, Plain, AllReadFresh}
 use Rattle.translation.specs.laws.StepNames.{name_of, StepNames, Called, Frames}
 use Rattle.translation.specs.laws.StepParts.{Readied}
@@ -114,14 +114,6 @@ module _ (F : Form → Place → Type 0) (plain_form : (x : Word) (at : Place) �
   own_sides y ms h = every_side y (own y ms) (every_own y ms h)
 
 -- ---- faults
-
-bad_in : {X Y : Type 0} (o : Outcome X) (f : X → Outcome Y) → ((x : X) → IsBad (f x)) → IsBad (o >>= f)
-bad_in (Ok x) f h = h x
-bad_in (Err k) f h = tt
-
-bad_first : (p q : Outcome Bool) → IsBad p → IsBad (and_then p q)
-bad_first (Ok b) q h = absurd h
-bad_first (Err k) q h = tt
 
 abbrev AreBad : Env → Trees → Type 0
 AreBad env ts = IsBad (part_values (evals plain ts) env)

@@ -55,7 +55,8 @@ use Rattle.translation.proofs.ReadyNames.{BoundName, unused_of, outside_unused, 
 use Rattle.translation.proofs.RoutineReady.{named_one}
 use Rattle.translation.proofs.RoutinesNamed.{local_wanted, variables_named}
 use Rattle.translation.proofs.TidySteps.{no_old}
-use Rattle.translation.proofs.VariableNames.{one_variable, one_routine}
+use Rattle.pcal_tree.proofs.OneStand.{one_number}
+use Rattle.translation.proofs.VariableNames.{one_variable}
 
 -- ---- names that are bound are identifiers
 
@@ -234,7 +235,7 @@ module _ (o : Outside) (a : Algorithm) (h : IsAcceptedInFile o a) (values : Valu
           record {
             names = names_ready o a h values v q j (apart_of q (inr m));
             unlike = unlikes o a h values q j;
-            same = λ n. one_routine a u q k j (eqb-true u.number q.number n);
+            same = λ n. one_number a u q k j (eqb-true u.number q.number n);
             other = λ n y z l i s. written_apart u q k j n y z l i s;
             unread = local_unused q j;
             starts = starts_read q m;

@@ -31,10 +31,12 @@ use Rattle.fairness.specs.Obligations.{written_labels}
 use Rattle.fairness.specs.FairnessLines.{identifier_of, over_of, action_call, guard_of, line_of, fairness_lines}
 use Rattle.translation.specs.laws.WritableAlgorithm.{IsWritableMain, IsWritableAlgorithm}
 use Rattle.translation.proofs.RoutinesNamed.{IsTitled, label_identifiers, title_free, label_name_string, label_name_identifier}
-use Rattle.translation.proofs.RegionActions.{every_map, every_both, every_flat, one_filtered, self_name, named_writable, quoted_writable, TakersFit, procedures_in, mains_in, call_writable}
+use Rattle.translation.proofs.RegionActions.{every_map, every_flat, one_filtered, self_name, named_writable, quoted_writable, TakersFit, procedures_in, mains_in, call_writable}
 use Rattle.translation.proofs.RegionInit.{in_writable, listed_writable}
 use Rattle.translation.proofs.RegionNext.{at_writable}
 use Rattle.translation.proofs.RegionTakers.{takers_fit}
+use Rattle.pcal_tree.proofs.OneStand.{every_both}
+use Rattle.fairness.proofs.LinesByProcess.{reached_some}
 
 -- ---- labels with marks
 
@@ -104,10 +106,6 @@ guard_writable t f (l ∷ ls) h =
     texts [] k = tt
     texts (w ∷ ws) k = (quoted_writable w k.0, texts ws k.1)
 
-reached_procedure : (n : ℕ) (a : Algorithm) (u p : Routine) → OneOf p (reached_within n a u) → OneOf p (procedure_routines a)
-reached_procedure zero a u p h = absurd h
-reached_procedure (suc n) a u p h = one_filtered (λ q. is_among (calls_of (u ∷ reached_within n a u)) q.name.word) p (procedure_routines a) h
-
 module _ (o : Outside) (a : Algorithm) (h : IsWritableAlgorithm o a) where
   abbrev program : Program
   program = with_names o a
@@ -139,7 +137,7 @@ module _ (o : Outside) (a : Algorithm) (h : IsWritableAlgorithm o a) where
       where
         own : (u : Routine) → OneOf u (t.routine ∷ reached a t.routine) → IsOwn u
         own u (inl e) = subst IsOwn (sym e) k
-        own u (inr m) = (let p = reached_procedure (length a.procedures) a t.routine u m in (procedures_in o a h u p, titled u p))
+        own u (inr m) = (let p = reached_some (length a.procedures) a t.routine u m in (procedures_in o a h u p, titled u p))
 
     of_fits : (t : Taken) → TakersFit t.takers → IsOwn t.routine → (f : Fairness) → AllByRecursion DemandFits (demands_of a f t)
     of_fits t f k Unfair = tt

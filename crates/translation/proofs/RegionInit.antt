@@ -29,8 +29,9 @@ use Rattle.translation.specs.laws.WritableAlgorithm.{is_procedure, is_variable, 
 use Rattle.translation.proofs.WritableBodies.{label_string}
 use Rattle.translation.proofs.RoutinesNamed.{names_fit, label_name_string}
 use Rattle.translation.proofs.CalledProcedures.{one_declared, exit_string, renamed_writable}
-use Rattle.translation.proofs.RegionActions.{every_map, every_both, every_flat, IsSome, some_after, all_of_each, self_name, named_writable, quoted_writable, equal_writable, TakersFit, procedures_in, mains_in, localised_writable}
+use Rattle.translation.proofs.RegionActions.{every_map, every_flat, IsSome, some_after, all_of_each, self_name, named_writable, quoted_writable, equal_writable, TakersFit, procedures_in, mains_in, localised_writable}
 use Rattle.translation.proofs.RegionTakers.{TakenOf, takers_fit, procedures_taken, main_taken}
+use Rattle.pcal_tree.proofs.OneStand.{every_both}
 
 -- ---- formulas
 

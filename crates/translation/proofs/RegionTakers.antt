@@ -13,7 +13,8 @@ use Rattle.action_builder.specs.LabelActions.{procedure_takers, taken_procedures
 use Rattle.action_builder.specs.WrittenNames.{with_names}
 use Rattle.translation.specs.laws.WritableAlgorithm.{IsWritableMain, IsWritableAlgorithm}
 use Rattle.translation.proofs.RoutinesNamed.{IsTitled}
-use Rattle.translation.proofs.RegionActions.{every_both, every_flat, TakersFit, procedures_in, mains_in, labels_writable, routine_writable}
+use Rattle.translation.proofs.RegionActions.{every_flat, TakersFit, procedures_in, mains_in, labels_writable, routine_writable}
+use Rattle.pcal_tree.proofs.OneStand.{every_both}
 
 pub takers_fit : (p : Process) → IsWritable p.identity → TakersFit (takers_of p)
 takers_fit p h = by p.several

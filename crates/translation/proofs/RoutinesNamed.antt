@@ -99,7 +99,7 @@ title_wanted a (processes ps) u (inr h) =
 
 -- ---- the names of an algorithm
 
-declared_each : (ds : List Declaration) → AllByRecursion IsWritableDeclaration ds → Each IsIdentifier (declared ds)
+pub declared_each : (ds : List Declaration) → AllByRecursion IsWritableDeclaration ds → Each IsIdentifier (declared ds)
 declared_each [] h = tt
 declared_each (d ∷ ds) h = (h.0.0, declared_each ds h.1)
 

@@ -1,6 +1,6 @@
 -- Under written names, and with the variables of the process at its identifier, expressions and assignments of a step are such as items can be written for.
 use Rattle.std.proofs.Common.{◌≡◌, List, [], ◌∷◌, ◌++◌, filter, Bool, true, false, ◌||◌, not, cond, bytes_eq, Option, Some, None, ◌⊎◌, inl, inr, refl, sym, ap, subst, ◌∙◌}
-use Rattle.std.proofs.lemmas.Bool.{both_ways, or_parts}
+use Rattle.std.proofs.lemmas.Bool.{both_ways, or_parts, not-true}
 use Rattle.std.proofs.lemmas.Slice.Eq.{bytes_eq-Decides}
 use Rattle.std.specs.List.{list_any}
 use Rattle.tla_token.specs.declared.place.Place.{Place}
@@ -95,10 +95,6 @@ pub negated : (b : Bool) → b ≡ false → not b ≡ true
 negated true e = cc
 negated false e = refl
 
-pub negated_back : (b : Bool) → not b ≡ true → b ≡ false
-negated_back true e = cc
-negated_back false e = refl
-
 pub not_true : (b : Bool) → (b ≡ true → ⊥) → b ≡ false
 not_true true f = absurd (f refl)
 not_true false f = refl
@@ -192,7 +188,7 @@ module _ (P : Program) (u : Routine) (N : Word → Type 0) (k : StepNames P u N)
   pub fresh_globals : (A B : Names) → GlobalsOf A B → (x : Word) → U A x ≡ true → U B x ≡ true
   fresh_globals A B q x e =
       negated (list_any B (through ds x)) (any_none B (through ds x) (λ y m. not_true (B y) (λ b.
-      both_ways (A y) (any_each A (through ds x) (negated_back (list_any A (through ds x)) e) y m) (q y (through_global a x y m) b))))
+      both_ways (A y) (any_each A (through ds x) (not-true (list_any A (through ds x)) e) y m) (q y (through_global a x y m) b))))
 
   pub fresh_became : (A B : Names) → Became r A B → IsWithin A V → (x : Word) → U A x ≡ true → U B x ≡ true
   fresh_became A B q w = fresh_globals A B (became_global A B q w)
