@@ -43,10 +43,7 @@ use Rattle.translation.proofs.NamesApart.{names_apart}
 use Rattle.translation.proofs.NamesOfRules.{rules_of_names}
 use Rattle.translation.proofs.RoutinesNamed.{among_before}
 use Rattle.translation.proofs.VariableNames.{one_is_among}
-
-every_from : {A : Type 0} (B : A → Type 0) (xs : List A) → ((x : A) → OneOf x xs → B x) → AllByRecursion B xs
-every_from B [] f = tt
-every_from B (x ∷ xs) f = (f x (inl refl), every_from B xs (λ y m. f y (inr m)))
+use Rattle.translation.proofs.NextTrue.{all_from}
 
 declared_one : (d : Declaration) (ds : List Declaration) → OneOf d ds → OneOf d.name.word (declared ds)
 declared_one d [] m = absurd m
@@ -99,7 +96,7 @@ module _ (o : Outside) (a : Algorithm) (h : IsAcceptedInFile o a) (title : Word)
       → Follows (locals_allowed Q u spread vs (locals u) s) (all_hold plain env (locals_start Q (record { takers = t; routine = u })))
   locals_of u mine t spread vs f =
       locals_hold o a h title r values k s state u t spread vs (locals u)
-      (every_from _ (locals u) (λ d m. f d (declared_one d (locals u) m) (every_one (StartFine o a u) d (locals u) (all_fine o a h values u mine) m)))
+      (all_from _ (locals u) (λ d m. f d (declared_one d (locals u) m) (every_one (StartFine o a u) d (locals u) (all_fine o a h values u mine) m)))
 
   -- ---- routine by routine
 
@@ -177,7 +174,7 @@ module _ (o : Outside) (a : Algorithm) (h : IsAcceptedInFile o a) (title : Word)
     )
 
     procedure_local : (u : Routine) → OneOf u (routines a) → Follows (locals_allowed Q u true ws (locals u) s) (all_hold plain env (locals_start Q (record { takers = each_of process_set; routine = u })))
-    procedure_local u mine = locals_of u mine (each_of process_set) true ws (spread_is o a h title r values k s state u mine process_set ws (every_from _ ws (named u mine)) (process_set_gives o a h title r values k s ps ws main run) ascending)
+    procedure_local u mine = locals_of u mine (each_of process_set) true ws (spread_is o a h title r values k s state u mine process_set ws (all_from _ ws (named u mine)) (process_set_gives o a h title r values k s ps ws main run) ascending)
 
     process_local : (p : Process) (m : ℕ) → At p m ps (first_process a) → Follows (locals_allowed Q (process_routine m p) p.several (running (process_routine m p) ws) (locals (process_routine m p)) s) (all_hold plain env (locals_start Q (taken_process m p)))
     process_local p m x =
@@ -202,7 +199,7 @@ module _ (o : Outside) (a : Algorithm) (h : IsAcceptedInFile o a) (title : Word)
                 (all_hold plain env (locals_start Q (record { takers = cond b (each_of p.identity) (single p.identity); routine = process_routine m p })))
             split true q =
                 locals_of (process_routine m p) mine (each_of p.identity) true (running (process_routine m p) ws)
-                (spread_is o a h title r values k s state (process_routine m p) mine p.identity (running (process_routine m p) ws) (every_from _ (running (process_routine m p) ws) (λ v l. named (process_routine m p) mine v (running_one (process_routine m p) v ws l)))
+                (spread_is o a h title r values k s state (process_routine m p) mine p.identity (running (process_routine m p) ws) (all_from _ (running (process_routine m p) ws) (λ v l. named (process_routine m p) mine v (running_one (process_routine m p) v ws l)))
                 (value_grows o a h title r values k env (all_grow o a h title r values k s) p.identity (set is) q ∙ ap (λ z. Ok (set z)) (sym (ap ids those ∙ ids_of_actors (process_routine m p) is)))
                 (running_ascending (process_routine m p) ws ascending))
             split false (i, z, q) =

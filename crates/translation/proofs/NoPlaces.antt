@@ -16,7 +16,7 @@ use Rattle.action_builder.specs.WrittenNames.{with_names}
 
 -- ---- declared names
 
-words_bare : (xs : List Name) → words (names_placeless xs) ≡ words xs
+pub words_bare : (xs : List Name) → words (names_placeless xs) ≡ words xs
 words_bare [] = refl
 words_bare (x ∷ xs) = λ i. x.word ∷ words_bare xs i
 
@@ -116,7 +116,7 @@ in_declared_bare [] = refl
 in_declared_bare (d ∷ ds) =
     two (lists_in_start (start_placeless d.start)) (lists_in_declared (declarations_placeless ds)) (lists_in_start d.start) (lists_in_declared ds) (start_bare d.start) (in_declared_bare ds)
 
-declarations_joined : (ds es : List Declaration) → declarations_placeless ds ++ declarations_placeless es ≡ declarations_placeless (ds ++ es)
+pub declarations_joined : (ds es : List Declaration) → declarations_placeless ds ++ declarations_placeless es ≡ declarations_placeless (ds ++ es)
 declarations_joined [] es = refl
 declarations_joined (d ∷ ds) es = λ i. record { name = name_placeless d.name; start = start_placeless d.start } ∷ declarations_joined ds es i
 
@@ -241,7 +241,7 @@ pub as_many_macros : (ms : List Macro) → length (macros_placeless ms) ≡ leng
 as_many_macros [] = refl
 as_many_macros (m ∷ ms) = ap suc (as_many_macros ms)
 
-as_many_procedures : (ps : List Procedure) → length (procedures_placeless ps) ≡ length ps
+pub as_many_procedures : (ps : List Procedure) → length (procedures_placeless ps) ≡ length ps
 as_many_procedures [] = refl
 as_many_procedures (p ∷ ps) = ap suc (as_many_procedures ps)
 

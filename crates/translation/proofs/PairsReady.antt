@@ -1,6 +1,6 @@
 -- A call that is one statement with a return is such that items can be written for it: the name for the old stack is written by the stack, which the first item needs.
 use Rattle.std.proofs.Common.{◌≡◌, List, [], ◌∷◌, ◌++◌, Bool, true, false, nat_eq, cond, bytes_eq, codes, Some, None, refl, sym, ap, subst, ◌∙◌, Ok, Err}
-use Rattle.std.proofs.lemmas.Bool.{both_ways, or_right}
+use Rattle.std.proofs.lemmas.Bool.{both_ways, or_right, false_from_ne_true}
 use Rattle.std.proofs.lemmas.Slice.Eq.{bytes_eq-Decides}
 use Rattle.tla_token.specs.declared.place.Place.{Place}
 use Rattle.tla_token.specs.Places.{nowhere}
@@ -41,12 +41,13 @@ use Rattle.translation.specs.laws.FreshReads.{fresh, Plain, AllReadFresh}
 use Rattle.translation.specs.laws.StepNames.{name_of, StepNames, Called, Frames}
 use Rattle.translation.specs.laws.StepParts.{Readied}
 use Rattle.translation.specs.laws.WritableAlgorithm.{is_variable}
-use Rattle.translation.proofs.JumpsReady.{used_in, each_joined, each_written, AllReadAnyhow, Writes, Straight, IsNew, unused_anyhow, name_anyhow, none_anyhow, and_anyhow, field_anyhow, rest_anyhow, names_anyhow, pushed_anyhow, one_write, jump_straight, pc_free, ready_from, owned_new, owned_free, stack_free, all_new, called_free, call_straight, call_each, call_unlike}
+use Rattle.translation.proofs.JumpsReady.{used_in, each_written, AllReadAnyhow, Writes, Straight, IsNew, unused_anyhow, name_anyhow, none_anyhow, and_anyhow, field_anyhow, rest_anyhow, names_anyhow, pushed_anyhow, one_write, jump_straight, pc_free, ready_from, owned_new, owned_free, stack_free, all_new, called_free, call_straight, call_each, call_unlike}
 use Rattle.translation.proofs.PutTrees.{IfEvery, every_put}
 use Rattle.translation.proofs.ReadiedSteps.{Became}
-use Rattle.translation.proofs.StepNames.{not_true, became_variables, fresh_globals, named_trees, own_reads, side_reads, fine_of}
+use Rattle.translation.proofs.StepNames.{became_variables, fresh_globals, named_trees, own_reads, side_reads, fine_of}
 use Rattle.translation.proofs.StraightSteps.{all_roots, WritesAnyhow, AllAnyhow}
 use Rattle.translation.proofs.NamesFree.{AllOf, BindsOf}
+use Rattle.translation.proofs.VariableNames.{each_joined}
 
 -- ---- a fact of all trees of a right side
 
@@ -236,10 +237,10 @@ module _ (P : Program) (u : Routine) (N : Word → Type 0) (k : StepNames P u N)
   -- ---- a bound name is clear
 
   turned : (x y : Word) → bytes_eq y x ≡ false → bytes_eq x y ≡ false
-  turned x y e = not_true (bytes_eq x y) (λ q. both_ways (bytes_eq y x) e ((bytes_eq-Decides y x).1 (sym ((bytes_eq-Decides x y).0 q))))
+  turned x y e = false_from_ne_true (bytes_eq x y) (λ q. both_ways (bytes_eq y x) e ((bytes_eq-Decides y x).1 (sym ((bytes_eq-Decides x y).0 q))))
 
   no_variable : (x y : Word) → is_among vs x ≡ false → is_among vs y ≡ true → bytes_eq x y ≡ false
-  no_variable x y e m = not_true (bytes_eq x y) (λ q. both_ways (is_among vs x) e (ap (is_among vs) ((bytes_eq-Decides x y).0 q) ∙ m))
+  no_variable x y e m = false_from_ne_true (bytes_eq x y) (λ q. both_ways (is_among vs x) e (ap (is_among vs) ((bytes_eq-Decides x y).0 q) ∙ m))
 
   name_clear : (B : Names) (x : Word) → N x → Clear plain (in_place_of old_stack (later B)) x
   name_clear B x n = record {
@@ -367,7 +368,7 @@ module _ (P : Program) (u : Routine) (N : Word → Type 0) (k : StepNames P u N)
         named x m = ap (λ (b : Bool). cond b (written P u x) x) m
 
         apart : (y : Word) → declares (locals q) y ≡ true → (x : Word) → declares (locals u) x ≡ true → bytes_eq (written P q y) (written P u x) ≡ false
-        apart y m x n = not_true (bytes_eq (written P q y) (written P u x)) (λ e. c.other z x y (or_right (declares a.globals x) (declares (locals u) x) n) m (named x n ∙ sym ((bytes_eq-Decides (written P q y) (written P u x)).0 e)))
+        apart y m x n = false_from_ne_true (bytes_eq (written P q y) (written P u x)) (λ e. c.other z x y (or_right (declares a.globals x) (declares (locals u) x) n) m (named x n ∙ sym ((bytes_eq-Decides (written P q y) (written P u x)).0 e)))
 
     last_unlike : AllUnlike (ys ++ all_roots last)
     last_unlike = by (nat_eq u.number q.number) refl

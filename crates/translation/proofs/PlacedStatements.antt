@@ -18,6 +18,7 @@ use Rattle.translation.proofs.AcceptedNames.{no_offence, each_none}
 use Rattle.translation.proofs.EndingJumps.{while_missing, each_one}
 use Rattle.translation.proofs.KnownRoutines.{reversed}
 use Rattle.translation.proofs.StepsOnce.{visit_of}
+use Rattle.translation.proofs.EachStepOnce.{two_fine}
 
 -- ---- less is asked where more may be
 
@@ -135,11 +136,6 @@ module _ (X : Writing) (calls : CallsPlaced X) where
 
 abbrev NoOffences : Effects → List Visit → Type 0
 NoOffences E vs = flat_map (offences_at E) vs ≡ []
-
-two_fine : (E : Effects) (vs ws : List Visit) → NoOffences E (vs ++ ws) → NoOffences E vs × NoOffences E ws
-two_fine E vs ws h =
-    let e = sym (flat_map-append (offences_at E) vs ws) ∙ h in
-    (nothing_left (flat_map (offences_at E) vs) _ e, nothing_right (flat_map (offences_at E) vs) _ e)
 
 or_true : (b : Bool) → (b || true) ≡ true
 or_true true = refl

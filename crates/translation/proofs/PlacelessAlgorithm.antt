@@ -18,7 +18,7 @@ use Rattle.pcal_tree.proofs.RoutineNames.{one_either}
 use Rattle.pcal_tree.proofs.TroubleLaws.{one_left, one_right}
 use Rattle.action_builder.specs.laws.Jumps.{AllUnlike}
 use Rattle.translation.specs.laws.WritableAlgorithm.{AreWritableStatements, IsWritableStart, IsWritableDeclaration, IsWritableDefinition, is_procedure, is_variable, IsLabelled, IsWritableRoutine, IsWritableMain, IsWritableAlgorithm}
-use Rattle.translation.proofs.NoPlaces.{declared_bare, all_labels, kept_bare, wanted_bare}
+use Rattle.translation.proofs.NoPlaces.{declared_bare, all_labels, kept_bare, wanted_bare, declarations_joined}
 use Rattle.translation.proofs.WritableBare.{tree_bare, statements_bare, expand_bare, written_out_bare}
 
 -- ---- declarations and definitions
@@ -66,10 +66,6 @@ record Bare (u v : Routine) : Type 0 where
   name : v.name.word ≡ u.name.word
   own : locals v ≡ declarations_placeless (locals u)
   body : v.body ≡ statements_placeless u.body
-
-declarations_joined : (ds es : List Declaration) → declarations_placeless ds ++ declarations_placeless es ≡ declarations_placeless (ds ++ es)
-declarations_joined [] es = refl
-declarations_joined (d ∷ ds) es = ap (λ ks. record { name = name_placeless d.name; start = start_placeless d.start } ∷ ks) (declarations_joined ds es)
 
 abbrev Found : List Routine → Routine → Type 0
 Found us v = (u : Routine) × OneOf u us × Bare u v

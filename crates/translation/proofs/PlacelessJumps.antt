@@ -22,7 +22,7 @@ use Rattle.action_builder.specs.LabelActions.{procedure_takers, taken_procedures
 use Rattle.action_builder.specs.OwnVariables.{own_under, own_variables, is_own_variable, localised}
 use Rattle.action_builder.specs.Written.{old_stack}
 use Rattle.action_builder.specs.WrittenNames.{renames, renamed, written_statements}
-use Rattle.translation.proofs.NoPlaces.{declared_bare, as_many_macros, first_process_bare}
+use Rattle.translation.proofs.NoPlaces.{declared_bare, as_many_macros, first_process_bare, declarations_joined}
 use Rattle.translation.proofs.PlacelessAlgorithm.{expanded_bare}
 use Rattle.translation.proofs.PlacelessItems.{JumpsBare, partner_placeless, label_bare, owned_bare, place_bare}
 use Rattle.translation.proofs.WritableBare.{graft_bare, grafted_all}
@@ -95,12 +95,8 @@ taken_procedures_bare g =
 
 -- ---- names
 
-joined : (ds es : List Declaration) → declarations_placeless ds ++ declarations_placeless es ≡ declarations_placeless (ds ++ es)
-joined [] es = refl
-joined (d ∷ ds) es = λ i. record { name = name_placeless d.name; start = start_placeless d.start } ∷ joined ds es i
-
 pub locals_bare : (u : Routine) → locals (routine_placeless u) ≡ declarations_placeless (locals u)
-locals_bare u = joined u.params u.variables
+locals_bare u = declarations_joined u.params u.variables
 
 words_bare : (u : Routine) → declared (locals (routine_placeless u)) ≡ declared (locals u)
 words_bare u = ap declared (locals_bare u) ∙ declared_bare (locals u)

@@ -31,7 +31,7 @@ use Rattle.action_builder.specs.Prepared.{prepared, action_items}
 use Rattle.action_builder.specs.ProcessSets.{set_of_takers, union_from, union, sets_of_processes, process_set_of}
 use Rattle.action_builder.specs.SingleProcess.{in_place_of}
 use Rattle.action_builder.specs.WrittenNames.{renamed, written_statements}
-use Rattle.translation.proofs.NoPlaces.{all_labels}
+use Rattle.translation.proofs.NoPlaces.{all_labels, declarations_joined, words_bare}
 use Rattle.translation.proofs.PlacelessItems.{label_bare, prepared_bare, actions_bare, items_bare, put_for}
 use Rattle.translation.proofs.PlacelessJumps.{routine_placeless, takers_placeless, taken_placeless, routines_bare, mains_bare, taken_bare, taken_procedures_bare, locals_bare, Q, own_same, vars_bare, renamed_bare, localised_bare, written_bare, first_bare, jumps_bare}
 use Rattle.translation.proofs.WritableBare.{graft_bare}
@@ -155,10 +155,6 @@ for_all_bare (processes ps) e = refl
 
 -- ---- definitions and model values
 
-words_bare : (xs : List Name) → words (names_placeless xs) ≡ words xs
-words_bare [] = refl
-words_bare (x ∷ xs) = λ i. x.word ∷ words_bare xs i
-
 pub definitions_bare : (ds : List Definition) → map definition_placeless (map inner ds) ≡ map inner (definitions_placeless ds)
 definitions_bare [] = refl
 definitions_bare (d ∷ ds) = λ i. record { title = d.name.word; params = sym (words_bare d.params) i; body = tree_placeless d.body; outside = false } ∷ definitions_bare ds i
@@ -172,20 +168,16 @@ any_unset : (ds : List Declaration) → list_any (λ d. is_unset d.start) (decla
 any_unset [] = refl
 any_unset (d ∷ ds) = λ i. unset_bare d.start i || any_unset ds i
 
-joined : (ds es : List Declaration) → declarations_placeless ds ++ declarations_placeless es ≡ declarations_placeless (ds ++ es)
-joined [] es = refl
-joined (d ∷ ds) es = λ i. record { name = name_placeless d.name; start = start_placeless d.start } ∷ joined ds es i
-
 locals_all : (us : List Routine) → flat_map locals (map routine_placeless us) ≡ declarations_placeless (flat_map locals us)
 locals_all [] = refl
-locals_all (u ∷ us) = (λ i. locals_bare u i ++ locals_all us i) ∙ joined (locals u) (flat_map locals us)
+locals_all (u ∷ us) = (λ i. locals_bare u i ++ locals_all us i) ∙ declarations_joined (locals u) (flat_map locals us)
 
 all_routines : (g : Algorithm) → routines (placeless g) ≡ map routine_placeless (routines g)
 all_routines g = (λ i. routines_bare g i ++ mains_bare g g.main i) ∙ sym (map-append routine_placeless (procedure_routines g) (main_routines g g.main))
 
 pub model_bare : (g : Algorithm) → model_values (placeless g) ≡ model_values g
 model_bare g =
-    let ds : all_declarations (placeless g) ≡ declarations_placeless (all_declarations g) = (λ i. declarations_placeless g.globals ++ (ap (flat_map locals) (all_routines g) ∙ locals_all (routines g)) i) ∙ joined g.globals (flat_map locals (routines g)) in
+    let ds : all_declarations (placeless g) ≡ declarations_placeless (all_declarations g) = (λ i. declarations_placeless g.globals ++ (ap (flat_map locals) (all_routines g) ∙ locals_all (routines g)) i) ∙ declarations_joined g.globals (flat_map locals (routines g)) in
     λ i. cond ((ap (list_any (λ (d : Declaration). is_unset d.start)) ds ∙ any_unset (all_declarations g)) i) (codes "defaultInitValue" ∷ []) []
 
 module _ (outside : List outside_of.Definition) (N : Naming) (g : Algorithm) where

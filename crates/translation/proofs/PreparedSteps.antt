@@ -74,18 +74,14 @@ use Rattle.translation.proofs.NamesOfRules.{not_own, turned, rules_of_names}
 use Rattle.translation.proofs.PairsApart.{pairs_law, named_one}
 use Rattle.translation.proofs.ProcedureStarts.{IsSingle, AllSingle, accepted_single}
 use Rattle.translation.proofs.RoutinesNamed.{among_before, variables_named}
-use Rattle.translation.proofs.TidySteps.{CallsFit, Called, all_fit, all_tidy, Ends, ends_pass, Written, written_pass, Placed, placed_pass, routine_placed, called_known, as_many_of, count_grafts, no_old, fit_all_lack}
-use Rattle.translation.proofs.VariableNames.{each_to, none_among, own_each, stack_each, local_among}
+use Rattle.translation.proofs.TidySteps.{CallsFit, Called, all_fit, all_tidy, Ends, ends_pass, Written, written_pass, Placed, placed_pass, routine_placed, called_known, as_many_of, no_old, fit_all_lack, count_grafts}
+use Rattle.translation.proofs.VariableNames.{each_to, none_among, own_each, stack_each, local_among, each_two}
 
 -- ---- small facts
 
 each_unit : (xs : List Word) → Each (λ x. Unit {0}) xs
 each_unit [] = tt
 each_unit (x ∷ xs) = (tt, each_unit xs)
-
-each_two : (A B C : Word → Type 0) → ((x : Word) → A x → B x → C x) → (xs : List Word) → Each A xs → Each B xs → Each C xs
-each_two A B C f [] h k = tt
-each_two A B C f (x ∷ xs) h k = (f x h.0 k.0, each_two A B C f xs h.1 k.1)
 
 pub one_single : (ds : List Declaration) → AllSingle ds → (d : Declaration) → OneOf d ds → IsSingle d.start
 one_single [] h d k = absurd k

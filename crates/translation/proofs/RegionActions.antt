@@ -48,10 +48,6 @@ pub every_map : {X Y : Type 0} (Q : Y → Type 0) (f : X → Y) (xs : List X) �
 every_map Q f [] h = tt
 every_map Q f (x ∷ xs) h = (h x (inl refl), every_map Q f xs (λ y k. h y (inr k)))
 
-pub every_flat : {X Y : Type 0} (Q : Y → Type 0) (f : X → List Y) (xs : List X) → ((x : X) → OneOf x xs → AllByRecursion Q (f x)) → AllByRecursion Q (flat_map f xs)
-every_flat Q f [] h = tt
-every_flat Q f (x ∷ xs) h = every_both Q (f x) (flat_map f xs) (h x (inl refl)) (every_flat Q f xs (λ y k. h y (inr k)))
-
 -- there is one
 abbrev pub IsSome : {X : Type 0} → List X → Type 0
 IsSome [] = ⊥

@@ -30,8 +30,8 @@ use Rattle.fairness.specs.Demands.{Demand, all_steps, routine_steps, label_steps
 use Rattle.fairness.specs.Obligations.{written_labels}
 use Rattle.fairness.specs.FairnessLines.{identifier_of, over_of, action_call, guard_of, line_of, fairness_lines}
 use Rattle.translation.specs.laws.WritableAlgorithm.{IsWritableMain, IsWritableAlgorithm}
-use Rattle.translation.proofs.RoutinesNamed.{IsTitled, label_identifiers, title_free, label_name_string, label_name_identifier}
-use Rattle.translation.proofs.RegionActions.{every_map, every_flat, one_filtered, self_name, named_writable, quoted_writable, TakersFit, procedures_in, mains_in, call_writable}
+use Rattle.translation.proofs.RoutinesNamed.{IsTitled, label_identifiers, title_free, label_name_string, label_name_identifier, all_flat}
+use Rattle.translation.proofs.RegionActions.{every_map, one_filtered, self_name, named_writable, quoted_writable, TakersFit, procedures_in, mains_in, call_writable}
 use Rattle.translation.proofs.RegionInit.{in_writable, listed_writable}
 use Rattle.translation.proofs.RegionNext.{at_writable}
 use Rattle.translation.proofs.RegionTakers.{takers_fit}
@@ -133,7 +133,7 @@ module _ (o : Outside) (a : Algorithm) (h : IsWritableAlgorithm o a) where
 
   module _ (titled : (u : Routine) → OneOf u (procedure_routines a) → IsTitled a a.main u) where
     each_fits : (t : Taken) → TakersFit t.takers → IsOwn t.routine → (strong : Bool) → AllByRecursion DemandFits (flat_map (demands_in t strong) (t.routine ∷ reached a t.routine))
-    each_fits t f k strong = every_flat DemandFits (demands_in t strong) (t.routine ∷ reached a t.routine) (λ u m. in_fits t f strong u (own u m))
+    each_fits t f k strong = all_flat DemandFits (demands_in t strong) (t.routine ∷ reached a t.routine) (λ u m. in_fits t f strong u (own u m))
       where
         own : (u : Routine) → OneOf u (t.routine ∷ reached a t.routine) → IsOwn u
         own u (inl e) = subst IsOwn (sym e) k

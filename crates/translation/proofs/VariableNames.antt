@@ -26,6 +26,10 @@ pub each_to : (Q R : Word → Type 0) → ((x : Word) → Q x → R x) → (xs :
 each_to Q R f [] h = tt
 each_to Q R f (x ∷ xs) h = (f x h.0, each_to Q R f xs h.1)
 
+pub each_two : (A B C : Word → Type 0) → ((x : Word) → A x → B x → C x) → (xs : List Word) → Each A xs → Each B xs → Each C xs
+each_two A B C f [] h k = tt
+each_two A B C f (x ∷ xs) h k = (f x h.0 k.0, each_two A B C f xs h.1 k.1)
+
 pub each_from : (Q : Word → Type 0) (xs : List Word) → ((x : Word) → OneOf x xs → Q x) → Each Q xs
 each_from Q [] h = tt
 each_from Q (x ∷ xs) h = (h x (inl refl), each_from Q xs (λ y k. h y (inr k)))

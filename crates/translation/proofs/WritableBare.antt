@@ -14,16 +14,13 @@ use Rattle.pcal_tree.specs.Paths.{root_form, root, root_of_first, is_whole, same
 use Rattle.pcal_tree.specs.Placeless.{no_span, assignments_placeless, binds_placeless, statement_placeless, statements_placeless, branches_placeless, macros_placeless}
 use Rattle.pcal_tree.specs.Run.{arguments}
 use Rattle.translation.specs.laws.WritableAlgorithm.{AreWritableAssignments, AreWritableBinds, IsWritableStatement, AreWritableStatements, AreWritableBranches}
+use Rattle.translation.proofs.NoPlaces.{words_bare}
 
 -- ---- expressions
 
 count_bare : (ts : Trees) → count (trees_placeless ts) ≡ count ts
 count_bare no_trees = refl
 count_bare (tree t ts) = ap (λ (n : ℕ). n + 1) (count_bare ts)
-
-words_bare : (xs : List Name) → words (names_placeless xs) ≡ words xs
-words_bare [] = refl
-words_bare (x ∷ xs) = ap (λ ys. x.word ∷ ys) (words_bare xs)
 
 length_bare : {X Y : Type 0} (f : X → Y) (xs : List X) → length (map f xs) ≡ length xs
 length_bare f [] = refl
