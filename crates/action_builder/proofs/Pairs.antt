@@ -169,9 +169,6 @@ module _ (P0 : Program) (v : Actor) (p : Routine) (at : Place) where
     pc_variables : Unlike pc (written_all P p p.variables)
     pc_variables = (each_parts (λ y. bytes_eq pc y ≡ false) P p p.params p.variables pc_p).1
 
-    stack_params : Unlike stack params
-    stack_params = (each_parts (λ y. bytes_eq stack y ≡ false) P p p.params p.variables stack_p).0
-
     unlike_parts : (ds es : List Declaration) → AllUnlike (written_all P p (ds ++ es)) → AllUnlike (written_all P p ds) × AllUnlike (written_all P p es) × Each (λ x. Unlike x (written_all P p es)) (written_all P p ds)
     unlike_parts [] es h = (tt, h, tt)
     unlike_parts (d ∷ ds) es h =

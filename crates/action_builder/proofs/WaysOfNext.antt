@@ -49,10 +49,6 @@ ways_both env acts xs ys P Q h k =
     tells_of (some_way_holds plain env acts (xs ++ ys)) (or_all (some_way_holds plain env acts xs) (some_way_holds plain env acts ys)) (P ⊎ Q) (ways_joined env acts xs ys)
     (tells_or (some_way_holds plain env acts xs) (some_way_holds plain env acts ys) P Q h k)
 
--- a call with self, where self stands for v
-self_called : (env : Env) (acts : Acts) (a : Word) (v : Value) → call_holds plain (bind self v env) acts (call_with a (named self)) ≡ acted (acts a) (Some v)
-self_called env acts a v = refl
-
 -- A(self): one of its labels' actions
 pub own_true : (s t : Valuation) (env : Env) (acts : Acts) (title : Word) (label : Word → Word) (labels : List Word) (v : Value) (P : Word → Type 0)
     → AllByRecursion (λ l. TrueExactly (acted (acts (label l)) (Some v)) (P l)) labels

@@ -238,14 +238,6 @@ module _ (ext : List Word) (ps : List Procedure) where
   kept_named xs a y (inl e) = inl (some_named xs a y e)
   kept_named xs a y (inr e) = inr e
 
-  -- with more names bound
-  sees_named : (xs : List Word) (s : Sight) (a : Around) → Sees s (Kept a) → Sees (seeing_plain xs s) (Kept (around_all (naming xs) a))
-  sees_named xs s a h y u = by (is_among xs y) refl (subst Usable (seen_besides xs s y) u)
-    where
-      by : (b : Bool) → is_among xs y ≡ b → Usable (cond b (Some (takes 0)) (use_of s y)) → Kept (around_all (naming xs) a) y
-      by true q k = inl (named_some xs a y q)
-      by false q k = kept_named xs a y (h y k)
-
   -- ---- what a body binds
 
   -- it may be bound where all of these are in scope

@@ -242,7 +242,7 @@ calm_word_step true b n h k = absurd cc
 calm_word_step false true n h k = absurd cc
 calm_word_step false false n h k = refl
 
-close_step : (a : Bool) (m : ℕ) (s : Behind) → a ≡ true → by_close a m s ≡ closed m
+pub close_step : (a : Bool) (m : ℕ) (s : Behind) → a ≡ true → by_close a m s ≡ closed m
 close_step true m s h = refl
 close_step false m s h = absurd cc
 

@@ -138,11 +138,3 @@ module _ (o : Outside) (a : Algorithm) where
   kept_of r y (inr e) = inr e
 
 -- ---- of an accepted algorithm
-
--- each macro's text, with its parameters in scope, binds nothing again, and no name of the translation; it begins with a statement, and jumps nowhere
-pub sound_macros : (o : Outside) (g : Algorithm) → IsAcceptedInFile o g → SoundMacros o.extended g.procedures (standing_inside g o) (reverse g.macros)
-sound_macros o g h = macros_sound o g h
-
--- what may be used in a routine's body is in scope there, or may never be bound
-pub all_in_scope : (o : Outside) (g : Algorithm) (u : Routine) → Sees (seeing_variables (declared (locals u)) (sight_inside g o)) (Kept o.extended g.procedures (record { base = naming (declared (locals u)) (standing_inside g o); others = [] }))
-all_in_scope o g u y n = kept_of o g (naming (declared (locals u)) (standing_inside g o)) y (seen_in_scope o g (declared (locals u)) y n)

@@ -157,10 +157,6 @@ extra_aside N (processes ps) h = (refl, (λ x n. by x n (bytes_eq (codes "ProcSe
     by x n true q = absurd (h x n (ap (λ b. b || false) q))
     by x n false q = refl
 
-extra_untitled : (x : Word) (m : Main) → is_own x ≡ false → Untitled x (process_set_defined (process_set_of m))
-extra_untitled x (alone ss) h = tt
-extra_untitled x (processes ps) h = (own_differs (codes "ProcSet") x refl h, tt)
-
 pub extra_untitled_by : (x : Word) (m : Main) → bytes_eq (codes "ProcSet") x ≡ false → Untitled x (process_set_defined (process_set_of m))
 extra_untitled_by x (alone ss) h = tt
 extra_untitled_by x (processes ps) h = (h, tt)

@@ -8,6 +8,7 @@ use Rattle.pcal_tree.specs.Expand.{placed_at, graft_left}
 use Rattle.pcal_tree.specs.Paths.{root_form, root, root_of_first}
 use Rattle.action_builder.specs.laws.Ready.{LeftIn, IsLeft, LeftFirst}
 use Rattle.translation.proofs.NamesFree.{tree_wider}
+use Rattle.pcal_tree.proofs.TargetLaws.{root_placed}
 
 -- ---- a fact of each node
 
@@ -173,9 +174,6 @@ module _ (g : Graft) (r : Word → Word) (put : (y : Word) (at : Place) → root
     first_root : (ts : Trees) (x : Word) → root_of_first ts ≡ Some x → root_of_first (grafts g ts) ≡ Some (r x)
     first_root no_trees x e = cc
     first_root (tree f us) x e = root_put f x e
-
-  root_placed : (at : Place) (t : Tree) → root (placed_at at t) ≡ root t
-  root_placed at (node m p ts) = refl
 
   pub side_root : (l : Tree) (x : Word) → root l ≡ Some x → root (graft_left g l) ≡ Some (r x)
   side_root (node m at ts) x e = root_placed at (graft g (node m at ts)) ∙ root_put (node m at ts) x e
