@@ -25,6 +25,7 @@ use Rattle.tla_value.specs.StandardModules.{is_member, is_last}
 use Rattle.std.specs.Prelude.{nat_eq, length}
 use Rattle.tla_token.specs.declared.rule.Rule.TheVariants.{Arity}
 use Rattle.pcal_tree.proofs.ClearLabels.{both_none}
+use Rattle.pcal_tree.proofs.GraftsRead.{tree_wider, also_weaker}
 
 -- ---- two facts throughout
 
@@ -77,27 +78,8 @@ module _ (F G : Form → Place → Type 0) (N M : Word → Type 0) where
 
 -- ---- free names weaker
 
-pub also_weaker : (N N' : Word → Type 0) → ((y : Word) → N y → N' y) → (xs : List Word) (y : Word) → Also xs N y → Also xs N' y
-also_weaker N N' h [] y k = h y k
-also_weaker N N' h (x ∷ xs) y k = also_weaker (Or x N) (Or x N') or_weaker xs y k
-  where
-    or_weaker : (z : Word) → Or x N z → Or x N' z
-    or_weaker z (inl e) = inl e
-    or_weaker z (inr n) = inr (h z n)
-
-reads_weaker : (N N' : Word → Type 0) → ((y : Word) → N y → N' y) → (m : Form) → FormReads N Any m → FormReads N' Any m
-reads_weaker N N' h (name x) k = h x k
-reads_weaker N N' h (operator_call f) k = tt
-reads_weaker N N' h m k = tt
-
-mutual
-  pub free_weaker : (N N' : Word → Type 0) → ((y : Word) → N y → N' y) → (t : Tree) → FreeNames N Any t → FreeNames N' Any t
-  free_weaker N N' h (node m at ts) k = (reads_weaker N N' h m k.0, parts_weaker N N' h (seen_names m) ts k.1)
-
-  parts_weaker : (N N' : Word → Type 0) → ((y : Word) → N y → N' y) → (names : List (List Word)) (ts : Trees) → FreeInParts N Any names ts → FreeInParts N' Any names ts
-  parts_weaker N N' h names no_trees k = tt
-  parts_weaker N N' h [] (tree t ts) k = (free_weaker N N' h t k.0, parts_weaker N N' h [] ts k.1)
-  parts_weaker N N' h (xs ∷ names) (tree t ts) k = (free_weaker (Also xs N) (Also xs N') (also_weaker N N' h xs) t k.0, parts_weaker N N' h names ts k.1)
+pub free_weaker : (N N' : Word → Type 0) → ((y : Word) → N y → N' y) → (t : Tree) → FreeNames N Any t → FreeNames N' Any t
+free_weaker N N' h t k = tree_wider N N' Any h t k
 
 -- ---- names that are used as they may be
 

@@ -28,9 +28,10 @@ use Rattle.translation.specs.laws.StepNames.{name_of, Unused, StepNames}
 use Rattle.translation.specs.laws.WritableAlgorithm.{is_variable, AreWritableAssignments}
 use Rattle.translation.proofs.AskedSteps.{roots_are}
 use Rattle.translation.proofs.NamedBodies.{head_root}
-use Rattle.translation.proofs.PutTrees.{IfEvery, every_put, each_put, IfFree, Puts, free_put, parts_put, root_left, IfLeft, side_put, root_of, side_root}
+use Rattle.translation.proofs.PutTrees.{IfEvery, every_put, each_put, root_left, IfLeft, side_put, root_of, side_root}
 use Rattle.translation.proofs.ReadiedSteps.{From, Became}
 use Rattle.translation.proofs.StepsOnce as steps
+use Rattle.pcal_tree.proofs.GraftsRead.{IfFree, Puts, free_put, parts_put}
 
 -- ---- what definitions read is global
 
