@@ -5,7 +5,7 @@ use Rattle.pcal_tree.specs.Algorithm.{Span, Statement, branch, either, with, whi
 use Rattle.pcal_tree.specs.Run.{arguments}
 use Rattle.pcal_tree.specs.StepStart.{begin}
 use Rattle.pcal_tree.specs.Expand.{graft_one, graft_all, graft_some, followed_by, Writing, expand_one, expand, expand_some, written_out, expanded, expand_begin}
-use Rattle.pcal_tree.proofs.ExpandRuns.{opens_joined, opens_graft}
+use Rattle.pcal_tree.proofs.ExpandRuns.{opens_graft}
 use Rattle.pcal_tree.proofs.BeginLaws.{WrittenBare, begin_expanded, opens_one}
 use Rattle.pcal_tree.specs.laws.Expansion.{Calls, CallsOne, CallsSome, Chosen, Throughout, FineCall, BeginsUnlabelled, Stays, BareOne, Bare, BareSome, BareBodies}
 use Rattle.tla_value.specs.laws.Grafting.{Apart, ApartForm}

@@ -2,8 +2,7 @@
 use Rattle.std.proofs.Common.{◌≡◌, ℕ, true, false, not, List, [], ◌∷◌, ◌++◌, length, map, nat_le, bytes_eq, refl, sym, ap, ◌∙◌, arith}
 use Rattle.std.specs.List.{list_all}
 use Rattle.std.proofs.lemmas.List.{map-append}
-use Rattle.std.proofs.lemmas.Slice.Eq.{bytes_eq-Decides}
-use Rattle.std.proofs.lemmas.Bool.{not-true, and_parts, and_from, or_parts, leb-true, le-leb, false_from_ne_true}
+use Rattle.std.proofs.lemmas.Bool.{not-true, and_parts, and_from, or_parts, leb-true, le-leb}
 use Rattle.tla_token.specs.declared.place.Place.{Place}
 use Rattle.tla_token.specs.Lexemes.{is_word}
 use Rattle.tla_token.specs.Words.{is_reserved, is_pluscal_word, is_tla_word}

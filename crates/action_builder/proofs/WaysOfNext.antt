@@ -7,7 +7,7 @@ use Rattle.tla_value.specs.Meaning.{Env, bind, eval}
 use Rattle.tla_value.specs.Definitions.{Valuation}
 use Rattle.module_tree.specs.Formulas.{self, named}
 use Rattle.module_tree.specs.Module.{call, call_with, Way, one_way, some_way, some_of}
-use Rattle.module_tree.specs.ActionTruth.{Verdict, Acts, acted, action_of, call_holds, way_holds, some_way_holds, some_member}
+use Rattle.module_tree.specs.ActionTruth.{Verdict, Acts, acted, action_of, way_holds, some_way_holds, some_member}
 use Rattle.module_tree.proofs.Tells.{tells_or, tells_of}
 use Rattle.pcal_tree.specs.Program.{Actor}
 use Rattle.pcal_tree.proofs.ProcessesInOrder.{id, ids}

@@ -1,9 +1,9 @@
 -- The name for the old stack meets what the laws ask of it, where a call that is one statement with a return is written.
-use Rattle.std.proofs.Common.{◌≡◌, List, [], ◌∷◌, Bool, true, false, ◌&&◌, codes, refl, Ok, Err}
+use Rattle.std.proofs.Common.{◌≡◌, List, [], ◌∷◌, Bool, true, false, ◌&&◌, codes, refl}
 use Rattle.std.proofs.lemmas.Bool.{and_parts}
 use Rattle.tla_token.specs.declared.place.Place.{Place}
 use Rattle.tla_tree.specs.Tree.{Word, Graft, Strict, strict, operator, tuple, fields, operator_call, Tree, node, Trees, tree, no_trees, Each, Every, EveryOf, binders}
-use Rattle.tla_value.specs.Value.{Outcome, ◌>>=◌, IsBad, and_then}
+use Rattle.tla_value.specs.Value.{IsBad}
 use Rattle.tla_value.specs.Stops.{plain}
 use Rattle.tla_value.specs.Meaning.{Env, eval, evals, part_values}
 use Rattle.tla_value.specs.Definitions.{Valuation}

@@ -1,40 +1,31 @@
 -- Initial values with written names: for each process they are what the routine's scope gives, so the conjunct of Init for a variable of many processes is true
 -- just where the walk allows the variable's value; and the CASE of pc gives each process its first label.
-use Rattle.std.proofs.Common.{◌≡◌, List, [], ◌∷◌, ◌++◌, Bool, true, false, cond, Some, map, refl, sym, ◌∙◌, ap, Ok, Err, ◌⊎◌, inl, inr}
-use Rattle.tla_token.specs.declared.place.Place.{Place}
+use Rattle.std.proofs.Common.{◌≡◌, List, [], ◌∷◌, ◌++◌, Bool, true, false, cond, refl, sym, ◌∙◌, ap, Ok, Err, ◌⊎◌, inl, inr}
 use Rattle.tla_token.specs.Places.{nowhere}
-use Rattle.tla_tree.specs.Tree.{Word, Tree, Every, root_place}
+use Rattle.tla_tree.specs.Tree.{Tree, Every, root_place}
 use Rattle.tla_tree.specs.TreeOf.{trees_from}
-use Rattle.tla_value.specs.Value.{Value, Values, truth, text, set, Outcome, ◌>>=◌, and_then, int, model, fun}
-use Rattle.tla_value.specs.Order.{same, IsAscending, IsCanonical}
-use Rattle.tla_value.specs.Stops.{plain, members_at, truth_at}
-use Rattle.tla_value.specs.Meaning.{Env, just, bind, eval, evals, test, first_arm}
+use Rattle.tla_value.specs.Value.{Outcome, ◌>>=◌, and_then}
+use Rattle.tla_value.specs.Stops.{plain, truth_at}
+use Rattle.tla_value.specs.Meaning.{Env, eval, evals, test, first_arm}
 use Rattle.tla_value.specs.Grafts.{owned, through as through_env}
-use Rattle.tla_value.specs.Definitions.{Valuation, Definition, no_state, scope_of}
+use Rattle.tla_value.specs.Definitions.{Definition}
 use Rattle.tla_value.specs.laws.Grafting.{BindsClear}
 use Rattle.tla_value.proofs.Graft.{grafted_law}
 use Rattle.tla_value.proofs.Graft.{free_law}
-use Rattle.module_tree.specs.Formulas.{self, unset_value, function_of_self}
+use Rattle.module_tree.specs.Formulas.{self}
 use Rattle.module_tree.specs.ActionTruth.{Verdict, truth_in}
 use Rattle.module_tree.specs.ModuleTruth.{all_hold}
-use Rattle.pcal_tree.specs.Algorithm.{Start, unset, equals, among, Routine, Naming, Algorithm}
-use Rattle.pcal_tree.specs.Scope.{State, value_of}
-use Rattle.pcal_tree.specs.Program.{Program, Actor, routine_scope, global_scope}
-use Rattle.pcal_tree.specs.Calls.{defaultInitValue}
-use Rattle.pcal_tree.specs.InitialStates.{function_on, has_members, spread_allowed, values_for}
+use Rattle.pcal_tree.specs.Algorithm.{Routine}
+use Rattle.pcal_tree.specs.Scope.{State}
+use Rattle.pcal_tree.specs.Program.{Program, Actor, routine_scope}
 use Rattle.pcal_tree.specs.Takers.{Taken, Takers, each_of, single, lone}
-use Rattle.pcal_tree.specs.Variables.{vars}
 use Rattle.action_builder.specs.WrittenNames.{renames, renamed}
 use Rattle.action_builder.specs.OwnVariables.{is_own_variable}
-use Rattle.action_builder.specs.InitialFormulas.{spread_start, written_in, is_taker, first_pc, arms, pc_value}
-use Rattle.action_builder.specs.laws.Ready.{values_of}
+use Rattle.action_builder.specs.InitialFormulas.{written_in, is_taker, first_pc, arms, pc_value}
 use Rattle.pcal_tree.specs.laws.ReadNames.{Reads}
-use Rattle.action_builder.specs.laws.WrittenScope.{Seen, Common, self_bound, written_scope, definitions_of, NamesApart}
-use Rattle.action_builder.proofs.WrittenScope.{routine_meets, common_agree}
-use Rattle.pcal_tree.proofs.ProcessesInOrder.{id, ids}
-use Rattle.action_builder.proofs.SpreadStarts.{at_each_self, function_is, equal_is, functions_are}
-use Rattle.tla_value.specs.laws.FreeNames.{FreeNames, Any}
-use Rattle.tla_value.proofs.FreeNames.{free_names}
+use Rattle.action_builder.specs.laws.WrittenScope.{Seen, written_scope, NamesApart}
+use Rattle.action_builder.proofs.WrittenScope.{routine_meets}
+use Rattle.tla_value.specs.laws.FreeNames.{Any}
 
 -- ---- an expression with written names
 
