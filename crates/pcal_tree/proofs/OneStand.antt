@@ -24,6 +24,7 @@ use Rattle.pcal_tree.proofs.FreeNames.{given_apart}
 use Rattle.pcal_tree.proofs.RoutineNames.{every_one, one_either, label_wanted, one_label}
 use Rattle.pcal_tree.specs.Processes.{identifiers_of, identifiers, identifier, actors_of, all_actors, has_identifier, apart, last_place, united, placed, sorted, actors_in, OneOf, IsActor}
 use Rattle.pcal_tree.specs.laws.Steps.{StandsOnce}
+use Rattle.std.proofs.lemmas.Option.{same_Some}
 
 -- ---- what a process runs
 
@@ -190,9 +191,6 @@ one_number a u w h k e =
 text_is : (x y : Word) → ◌≡◌ {A = Outcome Value} (Ok (text x)) (Ok (text y)) → x ≡ y
 text_is x y e = cc
 
-some_is : {X : Type 0} {x y : X} → Some x ≡ Some y → x ≡ y
-some_is e = cc
-
 -- a label that is neither Done nor Error has its written name
 label_written : (P : Program) (u : Routine) (l : Word) → is_among (codes "Done" ∷ codes "Error" ∷ []) l ≡ false
     → label_name P u l ≡ P.naming.label u.number l
@@ -206,7 +204,7 @@ label_written P u l e = by (bytes_eq (codes "Done") l) (bytes_eq (codes "Error")
 same_stand : (d e : Stand) → at_label d.routine d.label ≡ Some d.begins → at_label e.routine e.label ≡ Some e.begins → d.routine ≡ e.routine
     → d.label ≡ e.label → d ≡ e
 same_stand d e p q r l =
-    let b : d.begins ≡ e.begins = some_is (sym p ∙ (λ i. at_label (r i) (l i)) ∙ q) in
+    let b : d.begins ≡ e.begins = same_Some _ _ (sym p ∙ (λ i. at_label (r i) (l i)) ∙ q) in
     λ i. record { routine = r i; label = l i; begins = b i }
 
 pub stands_once : (P : Program) (o : Outside) → P.naming ≡ naming P.algorithm o → FewNames P.algorithm o → NoEndLabels P.algorithm

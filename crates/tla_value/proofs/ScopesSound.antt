@@ -15,7 +15,7 @@ use Rattle.tla_value.specs.laws.CanonicalNames.{Has, Proper, Keeping, Sound, Mea
 use Rattle.tla_value.proofs.OrderFuns.{seq_from_canonical, values_listed}
 use Rattle.tla_value.proofs.Canonical.{then_has, any_has, has_cond, IsSet, append_canonical, listed_canonical, integers_canonical}
 use Rattle.tla_value.proofs.CanonicalForms.{AreBoth, AreAll, one_proper, two_proper, set_proper, sequence_proper, applied_proper}
-use Rattle.tla_value.proofs.CanonicalEval.{sound_bind, eval_canonical}
+use Rattle.tla_value.proofs.CanonicalEval.{sound_bind, eval_canonical, proper_either}
 use Rattle.tla_value.proofs.CanonicalTests.{made_means}
 
 -- ---- what has a value is tested by it
@@ -87,12 +87,8 @@ or_proper : (o : Option Value) (s : Sense) → ((v : Value) → o ≡ Some v →
 or_proper (Some w) s h k = h w refl
 or_proper None s h k = k
 
-sense_proper : (b : Bool) (s t : Sense) → Proper s.value → Proper t.value → Proper (cond b s t).value
-sense_proper true s t h k = h
-sense_proper false s t h k = k
-
 name_proper : (x : Word) (at : Place) → Proper (standard_name x at).value
-name_proper x at = sense_proper (bytes_eq (codes "Nat") x) _ _ tt (sense_proper (bytes_eq (codes "Int") x) _ _ tt tt)
+name_proper x at = proper_either (bytes_eq (codes "Nat") x) _ _ tt (proper_either (bytes_eq (codes "Int") x) _ _ tt tt)
 
 head_proper : (at : Place) (vs : List Value) → AreAll vs → Proper (headed at vs)
 head_proper at [] h = tt
@@ -186,7 +182,7 @@ body_proper c l d None h at = tt
 
 defined_sound : (c : Check) → Keeping c → (d : Definition) (ps : List Word) (e : Env) → Sound e → Sound (defined c d ps e)
 defined_sound c l d [] e h = record {
-  now = λ x at. sense_proper (bytes_eq d.title x) (body_sense c d (Some e) at) (e.now x at) (body_proper c l d (Some e) h at) (h.now x at);
+  now = λ x at. proper_either (bytes_eq d.title x) (body_sense c d (Some e) at) (e.now x at) (body_proper c l d (Some e) h at) (h.now x at);
   primed = h.primed;
   defs = h.defs;
 }

@@ -45,6 +45,7 @@ use Rattle.translation.proofs.InitRows.{told, values, no_constants, values_canon
 use Rattle.translation.proofs.RowsProcesses as kinds
 use Rattle.translation.proofs.Trees.{integers}
 use Rattle.translation.proofs.RowsAccepted.{accepted_by}
+use Rattle.translation.proofs.RowsStands.{both_have}
 
 -- ---- the algorithm
 
@@ -95,13 +96,6 @@ both = algorithm_of both_text
 
 both_good : Good p_syntax both_text
 both_good = search
-
-both_outside : outside_read (walk kinds.file) ≡ integers
-unfolding readers
-both_outside = refl
-
-both_have : HasOutside (walk kinds.file) integers
-both_have = subst (λ (o : Outside). HasOutside (walk kinds.file) o) both_outside (has_outside (walk kinds.file))
 
 both_accepted : IsAcceptedInFile integers both
 both_accepted = accepted_by kinds.file both_text (algorithm_in kinds.file) integers refl both_good refl refl refl refl refl refl refl (omega arith) both_have

@@ -48,6 +48,7 @@ use Rattle.translation.proofs.UsedNames.{none_looked_at, reads_used}
 use Rattle.translation.proofs.WrittenIdentifiers.{looked, one_given}
 use Rattle.translation.proofs.NamedBodies.{among_one}
 use Rattle.translation.proofs.VariableNames.{one_is_among, each_from}
+pub use Rattle.pcal_tree.proofs.StepVariables.{named_one}
 
 -- ---- lists
 
@@ -126,14 +127,6 @@ module _ (o : Outside) (a : Algorithm) where
       let s5 = before o (flat_map names_of_procedure a.procedures) _ s4 in
       let d = procedures_declare (first_procedure a) a.procedures r4 s5 u k in
       subst (Each (λ x. declares a.globals x ≡ false)) (words_declared (locals u)) (no_globals (names_of (locals u)) d.0 d.1)
-
-pub named_one : (x : Word) (us : List Routine) (p : Routine) → routine_named x us ≡ Some p → OneOf p us
-named_one x [] p e = cc
-named_one x (u ∷ us) p e = by (named_one x us p) (bytes_eq u.name.word x) e
-  where
-    by : (routine_named x us ≡ Some p → OneOf p us) → (b : Bool) → cond b (Some u) (routine_named x us) ≡ Some p → OneOf p (u ∷ us)
-    by f true d = inl (sym (ap (λ o. elim o as (λ q. Routine) [ None ↦ u | (Some v) ↦ v ]) d))
-    by f false d = inr (f d)
 
 -- ---- initial values
 

@@ -71,12 +71,13 @@ use Rattle.translation.proofs.NamedBodies.{VariablesNamed, renames_put, among_on
 use Rattle.translation.proofs.NamesApart.{writable, kept_differs, own_differs, false_among, never, names_apart_law}
 use Rattle.translation.proofs.NamesGiven.{Bound, bound_all, bound_kept, bound_common, once, used, seen_all, bound_apart, routine_bound}
 use Rattle.translation.proofs.NamesOfRules.{not_own, turned, rules_of_names}
-use Rattle.translation.proofs.PairsApart.{pairs_law, named_one}
+use Rattle.translation.proofs.PairsApart.{pairs_law}
 use Rattle.translation.proofs.ProcedureStarts.{IsSingle, AllSingle, accepted_single}
 use Rattle.translation.proofs.RoutinesNamed.{among_before, variables_named}
 use Rattle.translation.proofs.TidySteps.{CallsFit, Called, all_fit, all_tidy, Ends, ends_pass, Written, written_pass, Placed, placed_pass, routine_placed, called_known, as_many_of, no_old, fit_all_lack, count_grafts}
 use Rattle.translation.proofs.VariableNames.{each_to, none_among, own_each, stack_each, local_among, each_two}
 use Rattle.pcal_tree.proofs.GraftsRead.{free_put}
+use Rattle.pcal_tree.proofs.StepVariables.{named_one}
 
 -- ---- small facts
 
