@@ -78,6 +78,7 @@ use Rattle.translation.proofs.TidySteps.{CallsFit, Called, all_fit, all_tidy, En
 use Rattle.translation.proofs.VariableNames.{each_to, none_among, own_each, stack_each, local_among, each_two}
 use Rattle.pcal_tree.proofs.GraftsRead.{free_put}
 use Rattle.pcal_tree.proofs.StepVariables.{named_one}
+use Rattle.tla_value.specs.laws.FreeNames.{Any}
 
 -- ---- small facts
 
