@@ -25,7 +25,7 @@ use Rattle.tla_value.specs.StandardModules.{is_member, is_last}
 use Rattle.std.specs.Prelude.{nat_eq, length}
 use Rattle.tla_token.specs.declared.rule.Rule.TheVariants.{Arity}
 use Rattle.pcal_tree.proofs.ClearLabels.{both_none}
-use Rattle.pcal_tree.proofs.GraftsRead.{tree_wider, also_weaker}
+use Rattle.pcal_tree.proofs.GraftsRead.{tree_wider}
 
 -- ---- two facts throughout
 

@@ -5,8 +5,8 @@ use Rattle.std.proofs.lemmas.Bool.{eqb-true}
 use Rattle.tla_token.specs.declared.place.Place.{Place}
 use Rattle.tla_token.specs.declared.rule.Rule.TheVariants.{Arity}
 use Rattle.tla_token.specs.Signs.{is_among}
-use Rattle.tla_tree.specs.Tree.{Word, Name, words, Form, name, operator_call, Tree, node, Trees, no_trees, tree, seen_names, root_place, Graft, grafted_name, grafted_node, graft, grafts}
-use Rattle.tla_value.specs.laws.FreeNames.{Or, Also, Any, FormReads, FreeNames, FreeInParts}
+use Rattle.tla_tree.specs.Tree.{Word, Name, words, Form, name, operator_call, Tree, node, Trees, no_trees, tree, seen_names, root_place, Graft, graft}
+use Rattle.tla_value.specs.laws.FreeNames.{Also, Any, FormReads, FreeInParts}
 use Rattle.pcal_tree.specs.Algorithm.{Span, Assignments, no_assignments, assignment, Binds, no_binds, one_of, is, Statement, assign, await, print, assert, skip, branch, either, with, while, goto, macro, call, return, Statements, done, then, mark, Branches, no_branches, or, Macro, Procedure}
 use Rattle.pcal_tree.specs.Offences.{offence_if}
 use Rattle.pcal_tree.specs.OffencesNames.{Use, takes, variable, argument, standard, unread, Sight, knowing, use_of, left_offences, root_offences, in_left_parts, parameter_use, count, in_whole, in_each, in_left, in_assignments, in_binds, after_binds, in_one, in_body, in_branches, call_offences, seeing_plain, seeing_parameters, macro_offences}

@@ -1,15 +1,14 @@
 -- In the module of an accepted algorithm ProcSet has just the identifiers of the processes, and the test of Termination is true of a sound state exactly where all are done.
-use Rattle.std.proofs.Common.{◌≡◌, ℕ, suc, List, [], ◌∷◌, ◌++◌, map, Bool, true, false, ◌||◌, cond, bytes_eq, codes, Option, Some, None, inl, refl, sym, ap, ◌∙◌, subst, Ok, Err}
+use Rattle.std.proofs.Common.{◌≡◌, List, ◌++◌, map, Bool, true, false, cond, bytes_eq, codes, Option, Some, None, inl, refl, sym, ap, ◌∙◌, subst, Ok, Err}
 use Rattle.std.proofs.lemmas.Slice.Eq.{bytes_eq-Decides}
 use Rattle.tla_token.specs.declared.place.Place.{Place}
 use Rattle.tla_token.specs.Places.{nowhere}
 use Rattle.tla_token.specs.Words.{is_own}
-use Rattle.tla_tree.specs.Tree.{Word, words, Tree, set_of}
-use Rattle.tla_value.specs.Value.{Value, Values, set, text, Outcome, TrueExactly, ◌>>=◌}
+use Rattle.tla_tree.specs.Tree.{Word, words, Tree}
+use Rattle.tla_value.specs.Value.{Value, set, text, Outcome, TrueExactly}
 use Rattle.tla_value.specs.Order.{holds, set_from}
 use Rattle.tla_value.specs.Outside.{Outside, ReadDefinition, found}
 use Rattle.tla_value.specs.Stops.{plain}
-use Rattle.tla_value.specs.Strict.{strict_value}
 use Rattle.tla_value.specs.Meaning.{Env, just, eval}
 use Rattle.tla_value.specs.Definitions.{Valuation, no_state, or_sense, base, in_states, scope_of}
 use Rattle.tla_value.specs.laws.Untitled.{Untitled}
@@ -21,27 +20,25 @@ use Rattle.module_tree.specs.ActionTruth.{value_in, truth_in}
 use Rattle.module_tree.specs.Module.{Module}
 use Rattle.module_tree.specs.ModuleTruth.{scope}
 use Rattle.module_tree.proofs.Tells.{tells_as}
-use Rattle.pcal_tree.specs.Algorithm.{Process, Main, alone, processes, first_process, alone_routine, process_routine, Algorithm}
+use Rattle.pcal_tree.specs.Algorithm.{Main, alone, processes, first_process, alone_routine, Algorithm}
 use Rattle.pcal_tree.specs.Faults.{Sound}
-use Rattle.pcal_tree.specs.Processes.{OneOf, identifier, identifiers, all_actors, actors_of, actors_in, sorted, actors, IsActor}
+use Rattle.pcal_tree.specs.Processes.{OneOf, identifier, identifiers, actors_in, sorted, actors, IsActor}
 use Rattle.pcal_tree.specs.Program.{Program, Actor, inner}
 use Rattle.pcal_tree.specs.Programs.{program_in}
 use Rattle.pcal_tree.specs.Scope.{State}
 use Rattle.pcal_tree.specs.Step.{pc_of}
-use Rattle.pcal_tree.specs.Takers.{each_of, single, takers_of}
 use Rattle.pcal_tree.specs.Variables.{pc, on_variables}
-use Rattle.pcal_tree.proofs.ProcessesInOrder.{id, ids, Distinct, ids_of_actors, sorted_ascending, all_parts, ids_both}
-use Rattle.action_builder.specs.ProcessSets.{set_of_takers, sets_of_processes, union, process_set_of}
+use Rattle.pcal_tree.proofs.ProcessesInOrder.{id, ids, Distinct, sorted_ascending}
+use Rattle.action_builder.specs.ProcessSets.{process_set_of}
 use Rattle.action_builder.specs.WrittenNames.{with_names}
 use Rattle.action_builder.specs.laws.WrittenScope.{definitions_of}
-use Rattle.action_builder.proofs.ProcSetIs.{AreSets, held_in, process_set_is}
 use Rattle.promise.specs.ConstantsAndStates.{AreConstants}
 use Rattle.translation.specs.Region.{region_of}
 use Rattle.translation.specs.laws.AcceptedAlgorithm.{IsAcceptedInFile}
 use Rattle.translation.specs.laws.AcceptedLaws.{extra_of}
 use Rattle.translation.proofs.FramesAccepted.{pc_among}
 use Rattle.translation.proofs.InitScopes.{grows, NoValue, scope_grows, scope_lacks, with_both, set_grows, Lacks}
-use Rattle.translation.proofs.InitSets.{G, Gives, identity_gives, identity_canonical, value_grows, running_all, process_set_gives, union_is}
+use Rattle.translation.proofs.InitSets.{G, running_all, process_set_gives, union_is}
 use Rattle.translation.proofs.NamesApart.{self_some, free, own_differs, extra_untitled_by, untitled_mapped, untitled_joined}
 use Rattle.translation.proofs.NamesOfRules.{Unreserved, not_own, turned}
 use Rattle.translation.proofs.NextEnds.{PcRead, AllDone, AllThere, all_done_true}

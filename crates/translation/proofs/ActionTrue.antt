@@ -7,7 +7,7 @@ use Rattle.tla_value.specs.Outside.{Outside}
 use Rattle.tla_value.specs.Stops.{plain}
 use Rattle.tla_value.specs.Meaning.{Env}
 use Rattle.tla_value.specs.Definitions.{Valuation, scope_of}
-use Rattle.module_tree.specs.Formulas.{self, process_set}
+use Rattle.module_tree.specs.Formulas.{process_set}
 use Rattle.module_tree.specs.Module.{Module}
 use Rattle.module_tree.specs.ModuleTruth.{terminating, action_holds}
 use Rattle.module_tree.specs.ActionTruth.{Acts, acted, acts_of, no_acts}

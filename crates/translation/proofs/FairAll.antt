@@ -1,5 +1,5 @@
 -- All formulas of fairness of the module of an accepted algorithm, with what each is to be true of, for each process that it speaks of.
-use Rattle.std.proofs.Common.{◌≡◌, ℕ, zero, suc, ◌+◌, ◌<◌, ◌≤◌, length, List, [], ◌∷◌, map, Bool, true, false, cond, Some, ◌⊎◌, inl, inr, refl, sym, ap, ◌∙◌, subst, arith}
+use Rattle.std.proofs.Common.{◌≡◌, ℕ, suc, ◌≤◌, length, List, [], ◌∷◌, map, Bool, true, false, cond, Some, ◌⊎◌, inl, inr, refl, sym, ap, ◌∙◌, subst, arith}
 use Rattle.std.specs.Prelude.{flat_map}
 use Rattle.std.specs.List.{AllByRecursion}
 use Rattle.tla_tree.specs.Tree.{Word}
@@ -13,7 +13,7 @@ use Rattle.module_tree.specs.ModuleTruth.{scope}
 use Rattle.module_tree.specs.ActionTruth.{acts_of, no_acts, call_holds}
 use Rattle.pcal_tree.specs.declared.mark.Fairness.{Fairness as Wanted}
 use Rattle.pcal_tree.specs.declared.mark.Fairness.TheVariants.{Unfair, Weak, Strong}
-use Rattle.pcal_tree.specs.Algorithm.{Procedure, Process, Main, alone, processes, Routine, procedure_routine, numbered, first_procedure, first_process, procedure_routines, Algorithm}
+use Rattle.pcal_tree.specs.Algorithm.{Process, Main, alone, processes, Routine, numbered, first_procedure, first_process, procedure_routines, Algorithm}
 use Rattle.pcal_tree.specs.Faults.{Sound}
 use Rattle.pcal_tree.specs.OffencesLabels.{label_words}
 use Rattle.pcal_tree.specs.Processes.{OneOf}
@@ -31,7 +31,7 @@ use Rattle.fairness.specs.Demands.{Demand, all_steps, routine_steps, label_steps
 use Rattle.fairness.specs.FairnessLines.{over_of, line_of}
 use Rattle.fairness.specs.MarkedLabels.{strong_labels}
 use Rattle.fairness.specs.Obligations.{obligation_of}
-use Rattle.fairness.specs.ReachedProcedures.{reached_within, reached}
+use Rattle.fairness.specs.ReachedProcedures.{reached}
 use Rattle.promise.specs.ConstantsAndStates.{AreConstants, IsState}
 use Rattle.translation.specs.Region.{region_of}
 use Rattle.translation.specs.laws.AcceptedAlgorithm.{IsAcceptedInFile}
@@ -42,7 +42,6 @@ use Rattle.translation.proofs.FairTrue.{routine_line, label_line}
 use Rattle.translation.proofs.NextOfRegion.{SingleClearLaw}
 use Rattle.translation.proofs.NextTitles.{all_actions}
 use Rattle.translation.proofs.NextTrue.{env_for}
-use Rattle.translation.proofs.RegionActions.{one_filtered}
 use Rattle.fairness.proofs.LinesByProcess.{numbered_below, reached_some}
 
 -- ---- routines

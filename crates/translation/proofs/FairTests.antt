@@ -1,23 +1,18 @@
 -- The test before an action of fairness at any value of pc, and labels that are shared out between those that count and those that are left out.
-use Rattle.std.proofs.Common.{◌≡◌, List, [], ◌∷◌, map, Bool, true, false, not, ◌⊎◌, inl, inr, Option, Some, None, refl, sym, ap, ◌∙◌, subst, Ok, Err}
-use Rattle.std.specs.Option.{ok_or}
+use Rattle.std.proofs.Common.{◌≡◌, List, [], ◌∷◌, map, Bool, true, false, not, ◌⊎◌, inl, inr, Some, refl, sym, ap, ◌∙◌, subst, Ok, Err}
 use Rattle.std.proofs.lemmas.Bool.{or_left, or_right, or_cases, both_ways, not-true}
 use Rattle.std.proofs.lemmas.Slice.Eq.{bytes_eq-Decides}
 use Rattle.std.specs.Prelude.{bytes_eq}
 use Rattle.tla_token.specs.declared.place.Place.{Place}
 use Rattle.tla_token.specs.Places.{nowhere}
-use Rattle.tla_tree.specs.Tree.{Word, Tree, set_of, apply}
-use Rattle.tla_tree.specs.TreeOf.{trees_from}
-use Rattle.tla_value.specs.declared.fault.FaultKind.TheVariants.{NotInDomain}
-use Rattle.tla_value.specs.Value.{Value, truth, int, text, model, set, fun, fault, values_in, Outcome, ◌>>=◌, TrueExactly}
-use Rattle.tla_value.specs.Order.{same, holds, found_at}
+use Rattle.tla_tree.specs.Tree.{Word, Tree, apply}
+use Rattle.tla_value.specs.Value.{Value, text, values_in, Outcome, ◌>>=◌, TrueExactly}
+use Rattle.tla_value.specs.Order.{same, holds}
 use Rattle.tla_value.specs.OrderLaws.{same_is, same_self}
 use Rattle.tla_value.specs.Stops.{plain, truth_at}
-use Rattle.tla_value.specs.Strict.{applied, strict_value, strict_test, same_truth}
-use Rattle.tla_value.specs.Meaning.{Env, just, eval, evals, part_values}
-use Rattle.tla_value.proofs.OrderSets.{holds_set_from}
-use Rattle.module_tree.specs.Formulas.{named, quoted, at, is_in}
-use Rattle.module_tree.specs.Formulas as formulas
+use Rattle.tla_value.specs.Strict.{applied, strict_value}
+use Rattle.tla_value.specs.Meaning.{Env, just, eval}
+use Rattle.module_tree.specs.Formulas.{named, at}
 use Rattle.pcal_tree.specs.Processes.{OneOf}
 use Rattle.pcal_tree.specs.Program.{Actor, index, read_at}
 use Rattle.pcal_tree.specs.Scope.{State}

@@ -37,7 +37,7 @@ use Rattle.pcal_tree.proofs.ProcessesInOrder.{id}
 use Rattle.action_builder.specs.LabelActions.{call_by, label_action, label_actions, routine_actions, taken_procedures, procedure_takers, main_actions, title_of}
 use Rattle.action_builder.specs.NextFormula.{ended}
 use Rattle.action_builder.specs.WrittenNames.{with_names}
-use Rattle.action_builder.specs.laws.Jumps.{Unlike, AllUnlike}
+use Rattle.action_builder.specs.laws.Jumps.{AllUnlike}
 use Rattle.action_builder.specs.laws.Ready.{Readable, values_of}
 use Rattle.action_builder.specs.laws.WrittenScope.{definitions_of}
 use Rattle.action_builder.proofs.WaysOfNext.{own_true, own_alone_true}

@@ -1,12 +1,11 @@
 -- In an accepted algorithm a `with` binds no variable of the translation and nothing that an initial value reads; pc and the stack are where each process has them.
-use Rattle.std.proofs.Common.{◌≡◌, List, [], ◌∷◌, ◌++◌, map, Bool, true, false, ◌||◌, ◌&&◌, not, cond, bytes_eq, codes, Option, Some, None, inl, inr, refl, sym, ap, subst, ◌∙◌, Ok}
-use Rattle.std.specs.List.{AllByRecursion}
+use Rattle.std.proofs.Common.{◌≡◌, List, [], ◌∷◌, ◌++◌, map, Bool, true, false, ◌||◌, ◌&&◌, not, cond, bytes_eq, codes, Option, Some, None, inl, inr, refl, sym, ap, ◌∙◌, Ok}
 use Rattle.std.proofs.lemmas.Bool.{or_right, both_ways}
 use Rattle.std.proofs.lemmas.Slice.Eq.{bytes_eq-Decides}
 use Rattle.tla_token.specs.declared.place.Place.{Place}
 use Rattle.tla_token.specs.Signs.{is_among}
 use Rattle.tla_token.specs.Words.{is_own, is_standard}
-use Rattle.tla_tree.specs.Tree.{Word, Each, Form, name, operator_call, Tree, node, Trees, no_trees, tree, seen_names, Graft, grafted_name, grafted_node, graft, grafts}
+use Rattle.tla_tree.specs.Tree.{Word, Each, Form, name, operator_call, Tree, node, Trees, no_trees, tree, seen_names}
 use Rattle.tla_tree.specs.laws.Writable.{IsIdentifier, IsWritable, AreWritable, names_in}
 use Rattle.tla_value.specs.Definitions.{Valuation, Definition, or_sense, base, with_arguments, body_sense, defined, with_definitions, scope_of, no_state}
 use Rattle.tla_value.specs.Grafts.{own_part, read_tree}
@@ -29,7 +28,6 @@ use Rattle.pcal_tree.specs.Programs.{program_in}
 use Rattle.pcal_tree.specs.Scope.{State, Scope, value_of}
 use Rattle.pcal_tree.specs.Variables.{declared, vars, pc, stack, stack_for, written_by_all}
 use Rattle.pcal_tree.proofs.CallsFine.{free_weaker}
-use Rattle.pcal_tree.proofs.NamesSeen.{HasFree, PutsIn}
 use Rattle.action_builder.specs.OwnVariables.{own_under, own_variables, is_own_variable}
 use Rattle.action_builder.specs.Written.{old_stack}
 use Rattle.action_builder.specs.laws.Ready.{values_of}
@@ -44,7 +42,6 @@ use Rattle.translation.proofs.NamesOfRules.{Unreserved, not_own, turned}
 use Rattle.translation.proofs.RoutinesNamed.{one_each_of, among_later, among_before, local_free, declared_each}
 use Rattle.translation.proofs.TidySteps.{no_old}
 use Rattle.translation.proofs.VariableNames.{each_from, none_among, vars_each, stack_each, own_each}
-use Rattle.translation.specs.laws.WritableAlgorithm.{IsWritableDeclaration}
 use Rattle.pcal_tree.proofs.GraftsRead.{also_weaker}
 
 -- ---- names that are read free, and identifiers

@@ -3,11 +3,10 @@ use Rattle.std.proofs.Common.{◌≡◌, ℕ, suc, List, [], ◌∷◌, ◌++◌
 use Rattle.std.proofs.Math.Bool.{or-false}
 use Rattle.std.proofs.lemmas.Bool.{or_left, or_right}
 use Rattle.std.specs.List.{AllByRecursion}
-use Rattle.std.specs.Ordering.{is_lt}
 use Rattle.tla_token.specs.Signs.{is_among}
 use Rattle.tla_tree.specs.Tree.{Word, Tree}
 use Rattle.tla_value.specs.Value.{Value, Values, no_values, and, set, and_then, Outcome, ◌>>=◌}
-use Rattle.tla_value.specs.Order.{order, same, holds, IsAscending, IsCanonical, AreCanonical}
+use Rattle.tla_value.specs.Order.{same, holds, IsAscending, IsCanonical, AreCanonical}
 use Rattle.tla_value.specs.OrderLaws.{same_is, same_self}
 use Rattle.tla_value.specs.Stops.{plain}
 use Rattle.tla_value.specs.Meaning.{Env, bind, eval}
@@ -21,7 +20,7 @@ use Rattle.module_tree.specs.ActionTruth.{truth_in}
 use Rattle.pcal_tree.specs.Algorithm.{Statements, Process, alone, processes, Routine, process_routine, alone_routine, numbered, first_process, procedure_routines, main_routines, Algorithm}
 use Rattle.pcal_tree.specs.Calls.{label_value, first_label}
 use Rattle.pcal_tree.specs.InitialStates.{function_on, own_allowed, empty_stack, stack_allowed, pc_allowed}
-use Rattle.pcal_tree.specs.Processes.{OneOf, identifier, actors_of, all_actors, placed, sorted}
+use Rattle.pcal_tree.specs.Processes.{OneOf, actors_of, all_actors}
 use Rattle.pcal_tree.specs.Program.{Program, Actor}
 use Rattle.pcal_tree.specs.Scope.{State}
 use Rattle.pcal_tree.specs.Takers.{each_of, single, lone, takers_of, Taken, taken_process, taken_main}

@@ -8,7 +8,7 @@ use Rattle.std.proofs.lemmas.Slice.Eq.{bytes_eq-Decides}
 use Rattle.tla_token.specs.Places.{nowhere}
 use Rattle.tla_token.specs.declared.place.Place.{Place}
 use Rattle.tla_token.specs.Signs.{is_among}
-use Rattle.tla_tree.specs.Tree.{Word, words, binders, name, Tree, node, no_trees, Graft, graft, Each, Every}
+use Rattle.tla_tree.specs.Tree.{Word, words, binders, name, Tree, node, no_trees, Graft, graft, Every}
 use Rattle.tla_value.specs.Stops.{plain}
 use Rattle.tla_value.specs.Definitions.{Valuation, Definition}
 use Rattle.tla_value.specs.Grafts.{owned, own_part}

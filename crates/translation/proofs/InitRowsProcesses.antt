@@ -1,42 +1,26 @@
 -- Init of an algorithm with a single process and a process set, which is accepted in its file, by the law: true of the state where each process's variables have their
 -- initial values and each is at its first label, false of another.
-use Rattle.std.proofs.Common.{◌≡◌, ◌<◌, length, ℕ, [], ◌∷◌, true, false, cond, bytes_eq, codes, Option, Some, None, refl, subst, arith, Ok}
+use Rattle.std.proofs.Common.{◌≡◌, ℕ, [], ◌∷◌, true, false, cond, bytes_eq, codes, Some, None, refl, arith, Ok}
 use Rattle.std.specs.Prelude.{pos}
-use Rattle.std.proofs.lemmas.Option.{same_Some}
-use Rattle.tla_token.specs.AlgorithmOffences as tokens
-use Rattle.tla_token.specs.Limits.{past_text}
 use Rattle.tla_token.specs.declared.place.Place.{Place}
 use Rattle.tla_tree.specs.declared.op.Op.TheVariants.{Plus}
-use Rattle.tla_tree.specs.Reader.{readers}
 use Rattle.tla_tree.specs.Spelling.{Phrase, last, more, set_of, infix_of}
 use Rattle.tla_tree.specs.Spelling as spelled
 use Rattle.tla_tree.specs.Tree.{Word, Name}
-use Rattle.tla_value.specs.Outside.{Outside}
 use Rattle.tla_value.specs.Stops.{plain}
 use Rattle.tla_value.specs.Value.{Value, text, int, fun, values_in}
 use Rattle.pcal_tree.specs.Algorithm.{Algorithm}
-use Rattle.pcal_tree.specs.AlgorithmTokens.{views}
-use Rattle.pcal_tree.specs.Grammar.{Text, algorithm, to_end, no_define, begin_end, processes, unfair, bare, spell, algorithm_of, Good, p_syntax}
+use Rattle.pcal_tree.specs.Grammar.{Text, algorithm, to_end, no_define, begin_end, processes, unfair, bare, algorithm_of, Good, p_syntax}
 use Rattle.pcal_tree.specs.GrammarP.{simple, last_statement}
 use Rattle.pcal_tree.specs.GrammarParts.{Labels, by_semicolon, equals, no_section, section, last_variable, colon, label, no_labels, assign, last_assignment}
-use Rattle.pcal_tree.specs.Labelled.{labelled}
-use Rattle.pcal_tree.specs.OffencesLabels.{label_offences}
-use Rattle.pcal_tree.specs.OffencesOfNames.{name_offences}
 use Rattle.pcal_tree.specs.Processes.{Proper}
 use Rattle.pcal_tree.specs.Program.{Program}
 use Rattle.pcal_tree.specs.Programs.{program_in}
 use Rattle.pcal_tree.specs.Scope.{State}
 use Rattle.pcal_tree.specs.Variables.{on_variables}
-use Rattle.module_tree.specs.AlgorithmText.{AlgorithmText, algorithm_in, algorithm_tokens}
-use Rattle.module_tree.specs.FileOffences.{offences_of, algorithm_offences}
+use Rattle.module_tree.specs.AlgorithmText.{algorithm_in}
 use Rattle.module_tree.specs.Module.{Module}
 use Rattle.module_tree.specs.ModuleTruth.{init_holds}
-use Rattle.module_tree.specs.TextFront as front
-use Rattle.module_tree.specs.Walk.{walk}
-use Rattle.module_tree.specs.laws.Kept.{only_large}
-use Rattle.module_tree.specs.laws.Outsides.{HasOutside}
-use Rattle.module_tree.proofs.AlgorithmIsCut.{algorithm_is_cut}
-use Rattle.module_tree.proofs.SomeOutside.{outside_read, has_outside}
 use Rattle.action_builder.specs.WrittenNames.{with_names}
 use Rattle.promise.specs.ConstantsAndStates.{AreConstants, IsState}
 use Rattle.translation.specs.Region.{region_of}

@@ -1,7 +1,6 @@
 -- The scope of Init in an accepted algorithm's module: names outside routines have in it the values that they have where identifiers and globals are looked at, and the
 -- sets of processes and ProcSet have the identifiers of the processes.
 use Rattle.std.proofs.Common.{◌≡◌, ℕ, suc, List, [], ◌∷◌, ◌++◌, Bool, true, false, ◌||◌, cond, bytes_eq, codes, map, Some, None, inl, inr, refl, sym, ◌∙◌, ap, subst, Ok, Err}
-use Rattle.std.proofs.Math.Bool.{or_assoc}
 use Rattle.std.proofs.lemmas.Slice.Eq.{bytes_eq-Decides}
 use Rattle.tla_token.specs.declared.place.Place.{Place}
 use Rattle.tla_token.specs.Places.{nowhere}
@@ -9,7 +8,7 @@ use Rattle.tla_token.specs.Signs.{is_among}
 use Rattle.tla_token.specs.Words.{is_own, standard_names}
 use Rattle.tla_tree.specs.Tree.{Word, words, Each, Tree, set_of, root_place}
 use Rattle.tla_value.specs.Value.{Value, Values, no_values, and, truth, int, text, model, fun, set, Outcome, ◌>>=◌}
-use Rattle.tla_value.specs.Order.{holds, same, IsAscending, IsCanonical, AreCanonical}
+use Rattle.tla_value.specs.Order.{holds, IsAscending, IsCanonical, AreCanonical}
 use Rattle.tla_value.specs.Strict.{strict_value}
 use Rattle.tla_value.specs.Stops.{plain, members_at}
 use Rattle.tla_value.specs.Standard.{standard_name}
@@ -29,13 +28,13 @@ use Rattle.module_tree.specs.Module.{Region}
 use Rattle.module_tree.specs.ModuleTruth.{process_set_defined}
 use Rattle.pcal_tree.specs.Algorithm.{declares, Process, Main, alone, processes, process_routine, first_process, procedure_routines, main_routines, Algorithm}
 use Rattle.pcal_tree.specs.Calls.{defaultInitValue}
-use Rattle.pcal_tree.specs.Processes.{OneOf, one_value, identifiers_of, actors_of, all_actors, apart, united, last_place, sorted, actors_in, actors}
+use Rattle.pcal_tree.specs.Processes.{one_value, identifiers_of, actors_of, all_actors, apart, united, last_place, sorted, actors_in, actors}
 use Rattle.pcal_tree.specs.Program.{Program, Actor, inner, globals_on, common_env, global_env, written}
 use Rattle.pcal_tree.specs.Programs.{program_in}
 use Rattle.pcal_tree.specs.Scope.{State}
 use Rattle.pcal_tree.specs.Takers.{takers_of, each_of, single}
 use Rattle.pcal_tree.specs.Variables.{declared, pc, stack_for, written_by_all, vars, on_variables}
-use Rattle.pcal_tree.proofs.ProcessesInOrder.{id, ids, Distinct, apart_gives, ids_of_actors, all_parts, ids_both}
+use Rattle.pcal_tree.proofs.ProcessesInOrder.{ids, Distinct, apart_gives, ids_of_actors, all_parts, ids_both}
 use Rattle.action_builder.specs.ProcessSets.{set_of_takers, sets_of_processes, union, process_set_of}
 use Rattle.action_builder.specs.laws.WrittenScope.{definitions_of}
 use Rattle.action_builder.proofs.ProcSetIs.{AreSets, held_in, process_set_is}

@@ -7,22 +7,19 @@ use Rattle.tla_token.specs.declared.place.Place.{Place}
 use Rattle.tla_token.specs.Places.{nowhere}
 use Rattle.tla_token.specs.Signs.{is_among}
 use Rattle.tla_tree.specs.Tree.{Word, words, Tree, Every, graft}
-use Rattle.tla_value.specs.Value.{Value, Values, truth, int, text, model, set, fun, Sense, ◌>>=◌}
+use Rattle.tla_value.specs.Value.{Value, truth, set, Sense, ◌>>=◌}
 use Rattle.tla_value.specs.Order.{same, IsAscending, IsCanonical}
 use Rattle.tla_value.specs.Stops.{plain, members_at, truth_at}
 use Rattle.tla_value.specs.Strict.{same_truth}
 use Rattle.tla_value.specs.Meaning.{Env, just, bind, eval}
 use Rattle.tla_value.specs.Definitions.{Valuation, Definition, no_state, or_sense, base}
-use Rattle.tla_value.specs.Grafts.{read_tree}
 use Rattle.tla_value.specs.Outside.{Outside, ReadDefinition, found}
-use Rattle.tla_value.specs.laws.CanonicalNames.{Proper, Sound, TestsByValue, MeansAlike}
-use Rattle.tla_value.specs.laws.FreeNames.{Any}
+use Rattle.tla_value.specs.laws.CanonicalNames.{Sound, TestsByValue, MeansAlike}
 use Rattle.tla_value.specs.laws.Grafting.{BindsClear}
 use Rattle.tla_value.specs.laws.Untitled.{Untitled}
-use Rattle.tla_value.proofs.CanonicalEval.{eval_canonical}
-use Rattle.tla_value.proofs.CanonicalTests.{EnvsMeanAlike, eval_steady, value_kept, means_its_value}
-use Rattle.tla_value.proofs.Graft.{GraftedOn, grafted_law}
-use Rattle.tla_value.proofs.Outcomes.{ok_is, bound_ok}
+use Rattle.tla_value.proofs.CanonicalTests.{eval_steady, value_kept, means_its_value}
+use Rattle.tla_value.proofs.Graft.{grafted_law}
+use Rattle.tla_value.proofs.Outcomes.{bound_ok}
 use Rattle.tla_value.proofs.ScopesSound.{scope_sound, scope_tests_by_value}
 use Rattle.tla_value.proofs.Untitled.{looked_through, untitled_append}
 use Rattle.tla_value.proofs.JoinedEval.{Senses}

@@ -1,5 +1,5 @@
 -- Definitions of an algorithm that may be read read nothing that a step assigns.
-use Rattle.std.proofs.Common.{◌≡◌, ℕ, suc, List, [], ◌∷◌, ◌++◌, length, Bool, true, false, not, ◌||◌, ◌&&◌, cond, bytes_eq, map, filter, nat_eq, Option, Some, None, inl, inr, refl, sym, ap, subst, ◌∙◌, arith}
+use Rattle.std.proofs.Common.{◌≡◌, ℕ, suc, List, [], ◌∷◌, ◌++◌, length, Bool, true, false, not, ◌||◌, ◌&&◌, cond, bytes_eq, map, filter, nat_eq, Some, inl, inr, refl, sym, ap, subst, ◌∙◌, arith}
 use mathlib.Core.List.{reverse_aux}
 use Rattle.std.specs.List.{flat_map, list_any, AllByRecursion}
 use Rattle.std.proofs.lemmas.Bool.{both_ways, or_left, or_right, or_parts, eqb-true, not-true}
@@ -23,7 +23,7 @@ use Rattle.tla_value.proofs.Facts.{each_weaker}
 use Rattle.tla_value.proofs.FreeNames.{also_any, other_of}
 use Rattle.pcal_tree.specs.Algorithm.{Definition, Algorithm}
 use Rattle.pcal_tree.specs.BoundNames.{lists_in, lists_in_declared}
-use Rattle.pcal_tree.specs.NameUses.{Use, takes, variable, argument, standard, unread, Sight, seeing_plain, seeing_variables, knowing, use_of, use_offences, applied_offences}
+use Rattle.pcal_tree.specs.NameUses.{takes, variable, Sight, seeing_plain, seeing_variables, knowing, use_of, use_offences, applied_offences}
 use Rattle.pcal_tree.specs.OffencesNames.{form_offences, count, in_tree, in_parts, in_whole, in_declared, in_definitions, defined_inside, names_of, kept_names, repeated, sight_outside, sight_inside}
 use Rattle.pcal_tree.specs.OffencesRebind.{any_name, starts_rebind, standing_outside, standing_inside, Standings, in_scope, may_rebind, naming, rebound, rebound_all, whole_rebinds, definitions_rebind}
 use Rattle.pcal_tree.specs.OffencesReserved.{reserved_outside, reserved_name, declared_names, names_of_definition}

@@ -7,7 +7,7 @@ use Rattle.tla_token.specs.Signs.{is_among}
 use Rattle.tla_token.specs.Words.{is_own, is_standard, standard_names}
 use Rattle.tla_tree.specs.Tree.{Word, words}
 use Rattle.tla_value.specs.Outside.{Outside, ReadDefinition}
-use Rattle.pcal_tree.specs.Algorithm.{Definition, Macro, Routine, locals, Algorithm}
+use Rattle.pcal_tree.specs.Algorithm.{Definition, Macro, Algorithm}
 use Rattle.pcal_tree.specs.BoundNames.{all_of, lists_in, lists_in_body, lists_in_declared, bound_lists}
 use Rattle.pcal_tree.specs.NameUses.{knowing, variable, seeing_variables}
 use Rattle.pcal_tree.specs.OffencesNames.{sight_inside}

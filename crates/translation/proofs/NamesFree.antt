@@ -12,7 +12,7 @@ use Rattle.pcal_tree.specs.Algorithm.{Name}
 use Rattle.pcal_tree.specs.Reads.{named, if_free, used_by_form, used, used_by_parts, used_by_all}
 use Rattle.pcal_tree.proofs.CallsFine.{in_also}
 use Rattle.translation.proofs.StepsOnce.{In}
-use Rattle.pcal_tree.proofs.GraftsRead.{tree_wider, also_weaker}
+use Rattle.pcal_tree.proofs.GraftsRead.{tree_wider}
 
 -- the word of each name is of N
 abbrev pub AllOf : (Word → Type 0) → List Name → Type 0

@@ -6,7 +6,7 @@ use Rattle.std.proofs.lemmas.Slice.Eq.{bytes_eq-Decides}
 use Rattle.tla_token.specs.declared.place.Place.{Place}
 use Rattle.tla_token.specs.Signs.{is_among}
 use Rattle.tla_token.specs.Words.{is_own}
-use Rattle.tla_tree.specs.Tree.{Word, words, binders, name, node, no_trees, Each}
+use Rattle.tla_tree.specs.Tree.{Word, words, binders, name, node, no_trees}
 use Rattle.tla_value.specs.Stops.{plain}
 use Rattle.tla_value.specs.Definitions.{Valuation}
 use Rattle.tla_value.specs.Outside.{Outside}

@@ -16,7 +16,7 @@ use Rattle.tla_value.specs.Definitions.{Valuation, or_sense}
 use Rattle.tla_value.specs.laws.FreeNames.{FreeNames, Any, AgreeOn}
 use Rattle.tla_value.proofs.FreeNames.{free_names, any_names}
 use Rattle.pcal_tree.specs.Algorithm.{Start, unset, equals, among, Declaration, declares, Procedure, Routine, locals, procedure_routine, numbered, first_procedure, procedure_routines, main_routines, routines, Algorithm}
-use Rattle.pcal_tree.specs.Calls.{initial_value, routine_named}
+use Rattle.pcal_tree.specs.Calls.{initial_value}
 use Rattle.pcal_tree.specs.Offences.{offence_if}
 use Rattle.pcal_tree.specs.Names.{taken_at_start, variable, wanted, given}
 use Rattle.pcal_tree.specs.OffencesNames.{names_of, repeated_names}

@@ -1,5 +1,5 @@
 -- A call that is one statement with a return is such that items can be written for it: the name for the old stack is written by the stack, which the first item needs.
-use Rattle.std.proofs.Common.{◌≡◌, List, [], ◌∷◌, ◌++◌, Bool, true, false, nat_eq, cond, bytes_eq, codes, Some, None, refl, sym, ap, subst, ◌∙◌, Ok, Err}
+use Rattle.std.proofs.Common.{◌≡◌, List, [], ◌∷◌, ◌++◌, Bool, true, false, nat_eq, cond, bytes_eq, codes, Some, None, refl, sym, ap, subst, ◌∙◌}
 use Rattle.std.proofs.lemmas.Bool.{both_ways, or_right, false_from_ne_true}
 use Rattle.std.proofs.lemmas.Slice.Eq.{bytes_eq-Decides}
 use Rattle.tla_token.specs.declared.place.Place.{Place}
@@ -7,7 +7,7 @@ use Rattle.tla_token.specs.Places.{nowhere}
 use Rattle.tla_token.specs.Signs.{is_among}
 use Rattle.tla_tree.specs.declared.op.Op.TheVariants.{Concat}
 use Rattle.tla_tree.specs.Tree.{Word, Form, name, next, Strict, operator, tuple, fields, apply, select, except, strict, operator_call, Tree, node, Trees, no_trees, tree, Each, Every, EveryOf, binders, Graft, grafted_name, graft, grafts, root_place}
-use Rattle.tla_value.specs.Value.{Outcome, ◌>>=◌, IsBad, and_then}
+use Rattle.tla_value.specs.Value.{IsBad}
 use Rattle.tla_value.specs.Stops.{plain}
 use Rattle.tla_value.specs.Meaning.{Env, eval, evals, part_values}
 use Rattle.tla_value.specs.Definitions.{Valuation}

@@ -1,6 +1,5 @@
 -- Where no rule on labels is broken, each loop is right after a label, no `return` is outside procedures, and no label is in a `with`, with macro calls written out.
-use Rattle.std.proofs.Common.{◌≡◌, ℕ, suc, List, [], ◌∷◌, ◌++◌, reverse, Bool, true, false, not, ◌||◌, cond, bytes_eq, codes, Some, None, inl, inr, refl, sym, subst, ◌∙◌}
-use Rattle.std.proofs.lemmas.Grind.{flat_map-append}
+use Rattle.std.proofs.Common.{◌≡◌, ℕ, suc, List, [], ◌∷◌, reverse, Bool, true, false, not, ◌||◌, cond, bytes_eq, codes, Some, None, inl, inr, refl, sym, subst}
 use Rattle.std.specs.List.{flat_map, AllByRecursion}
 use Rattle.tla_token.specs.declared.rule.Rule.TheVariants.{FirstLabel, LabelInside, ReturnOutside}
 use Rattle.tla_tree.specs.Tree.{Word, Trees, Graft}

@@ -4,9 +4,9 @@ use Rattle.std.specs.List.{list_any}
 use Rattle.std.specs.Option.{option_or}
 use Rattle.std.proofs.lemmas.List.{map-append}
 use Rattle.tla_tree.specs.declared.op.Op.TheVariants.{Cup}
-use Rattle.tla_tree.specs.Tree.{Word, Name, words, strict, operator, cases, Tree, node, no_trees, tree, graft}
+use Rattle.tla_tree.specs.Tree.{Word, strict, operator, cases, Tree, node, no_trees, tree, graft}
 use Rattle.tla_tree.specs.TreeOf.{trees_from}
-use Rattle.tla_tree.specs.laws.Placeless.{name_placeless, names_placeless, tree_placeless, trees_placeless}
+use Rattle.tla_tree.specs.laws.Placeless.{tree_placeless, trees_placeless}
 use Rattle.tla_value.specs.Definitions as outside_of
 use Rattle.module_tree.specs.Module.{test, Items, item, call, one_way, some_way, all_of, some_of}
 use Rattle.module_tree.specs.Formulas.{self, named, quoted, empty_tuple, equal, is_in, at, function_of_self}

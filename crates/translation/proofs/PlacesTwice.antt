@@ -1,7 +1,7 @@
 -- Forgetting the places of a translation twice is forgetting them once.
 use Rattle.std.proofs.Common.{◌≡◌, List, [], ◌∷◌, map, Option, Some, None, refl, ap}
-use Rattle.tla_tree.specs.Tree.{Word, Name, Slot, Strict, except, Form, strict, binding, local as local_form, Tree, node, Trees, no_trees, tree}
-use Rattle.tla_tree.specs.laws.Placeless.{name_placeless, names_placeless, slot_placeless, strict_placeless, form_placeless, tree_placeless, trees_placeless}
+use Rattle.tla_tree.specs.Tree.{Word, Tree}
+use Rattle.tla_tree.specs.laws.Placeless.{tree_placeless}
 use Rattle.tla_value.specs.Definitions.{Definition}
 use Rattle.module_tree.specs.Module.{Item, test, setting, unchanged, exists, local, if_then_else, either, Items, no_items, item, Branches, no_branches, branch, Call, call, call_with, Way, one_way, some_way, Body, all_of, some_of, Action, Fairness, Region}
 use Rattle.module_tree.specs.laws.PlacelessRegion.{item_placeless, items_placeless, branches_placeless, call_placeless, way_placeless, body_placeless, action_placeless, over_placeless, perhaps_placeless, fairness_placeless, definition_placeless, region_placeless}

@@ -1,9 +1,8 @@
 -- Facts of trees with other trees put in for names: of each node, and of left sides.
-use Rattle.std.proofs.Common.{◌≡◌, List, [], ◌∷◌, Bool, true, Option, Some, None, inl, inr, refl, ap, subst, ◌∙◌}
+use Rattle.std.proofs.Common.{◌≡◌, Bool, true, Option, Some, None, ap, ◌∙◌}
 use Rattle.std.proofs.lemmas.Option.{same_Some}
 use Rattle.tla_token.specs.declared.place.Place.{Place}
-use Rattle.tla_tree.specs.Tree.{Word, apply, select, Form, number, string, truth, booleans, strings, name, next, strict, operator_call, conjunction, disjunction, implication, member, if_then_else, cases, binding, local, Tree, node, Trees, no_trees, tree, Every, EveryOf, Graft, grafted_name, grafted_node, graft, grafts, seen_names}
-use Rattle.tla_value.specs.laws.FreeNames.{Or, Also, FormReads, FreeNames, FreeInParts}
+use Rattle.tla_tree.specs.Tree.{Word, apply, select, Form, number, string, truth, booleans, strings, name, next, strict, operator_call, conjunction, disjunction, implication, member, if_then_else, cases, binding, local, Tree, node, Trees, no_trees, tree, Every, EveryOf, Graft, grafted_name, grafted_node, graft, grafts}
 use Rattle.pcal_tree.specs.Expand.{placed_at, graft_left}
 use Rattle.pcal_tree.specs.Paths.{root_form, root, root_of_first}
 use Rattle.action_builder.specs.laws.Ready.{LeftIn, IsLeft, LeftFirst}

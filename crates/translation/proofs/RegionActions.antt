@@ -1,6 +1,6 @@
 -- The actions of the written module can be written.
 use Rattle.std.proofs.Common.{◌≡◌, List, [], ◌∷◌, ◌++◌, Bool, true, false, ◌||◌, not, cond, map, reverse, Option, Some, None, inl, inr, refl, ap, subst}
-use Rattle.std.specs.Prelude.{filter, flat_map}
+use Rattle.std.specs.Prelude.{filter}
 use Rattle.std.specs.List.{AllByRecursion}
 use Rattle.tla_tree.specs.Tree.{Word, Each, Tree}
 use Rattle.tla_tree.specs.laws.Writable.{IsIdentifier, IsString, IsWritable}

@@ -1,8 +1,7 @@
 -- The formulas of fairness of the written module can be written.
-use Rattle.std.proofs.Common.{ℕ, zero, suc, List, [], ◌∷◌, Bool, true, false, length, cond, map, nat_eq, inl, inr, refl, sym, subst}
+use Rattle.std.proofs.Common.{ℕ, suc, List, [], ◌∷◌, Bool, true, false, length, cond, map, nat_eq, inl, inr, refl, sym, subst}
 use Rattle.std.specs.Prelude.{flat_map}
 use Rattle.std.specs.List.{AllByRecursion}
-use Rattle.tla_token.specs.Signs.{is_among}
 use Rattle.tla_tree.specs.Tree.{Word, Each}
 use Rattle.tla_tree.specs.laws.Writable.{IsIdentifier, IsString, IsWritable}
 use Rattle.tla_tree.proofs.SpelledTrees.{each_left, each_right}
@@ -25,13 +24,13 @@ use Rattle.action_builder.specs.WrittenNames.{with_names}
 use Rattle.action_builder.proofs.FitJumps.{identifier_string}
 use Rattle.action_builder.specs.LabelActions.{call_by}
 use Rattle.fairness.specs.MarkedLabels.{Marked, marked_in, marked, marked_some, if_left_out, if_strong, left_out_labels, strong_labels}
-use Rattle.fairness.specs.ReachedProcedures.{called_by as calls_of, reached_within, reached}
+use Rattle.fairness.specs.ReachedProcedures.{reached}
 use Rattle.fairness.specs.Demands.{Demand, all_steps, routine_steps, label_steps, demands_in, demands_of, main_demands, demands}
 use Rattle.fairness.specs.Obligations.{written_labels}
 use Rattle.fairness.specs.FairnessLines.{identifier_of, over_of, action_call, guard_of, line_of, fairness_lines}
 use Rattle.translation.specs.laws.WritableAlgorithm.{IsWritableMain, IsWritableAlgorithm}
 use Rattle.translation.proofs.RoutinesNamed.{IsTitled, label_identifiers, title_free, label_name_string, label_name_identifier, all_flat}
-use Rattle.translation.proofs.RegionActions.{every_map, one_filtered, self_name, named_writable, quoted_writable, TakersFit, procedures_in, mains_in, call_writable}
+use Rattle.translation.proofs.RegionActions.{every_map, self_name, named_writable, quoted_writable, TakersFit, procedures_in, mains_in, call_writable}
 use Rattle.translation.proofs.RegionInit.{in_writable, listed_writable}
 use Rattle.translation.proofs.RegionNext.{at_writable}
 use Rattle.translation.proofs.RegionTakers.{takers_fit}

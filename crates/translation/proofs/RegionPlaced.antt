@@ -12,10 +12,10 @@ use Rattle.module_tree.specs.Formulas.{named, quoted, at, is_in}
 use Rattle.module_tree.specs.laws.PlacelessRegion.{call_placeless, over_placeless, perhaps_placeless, fairness_placeless, region_placeless}
 use Rattle.pcal_tree.specs.declared.mark.Fairness.{Fairness as Fair}
 use Rattle.pcal_tree.specs.declared.mark.Fairness.TheVariants.{Unfair, Weak, Strong}
-use Rattle.pcal_tree.specs.Algorithm.{nowhere, Statement, assign, await, print, assert, skip, branch, either, with, while, goto, macro, call, return, Statements, done, then, mark, Branches, no_branches, or, Procedure, Process, Main, alone, processes, Routine, numbered, first_process, procedure_routines, Naming, Algorithm}
+use Rattle.pcal_tree.specs.Algorithm.{nowhere, Statement, assign, await, print, assert, skip, branch, either, with, while, goto, macro, call, return, Statements, done, then, mark, Branches, no_branches, or, Process, Main, alone, processes, Routine, numbered, first_process, procedure_routines, Naming, Algorithm}
 use Rattle.pcal_tree.specs.Calls.{label_name}
 use Rattle.pcal_tree.specs.Names.{naming}
-use Rattle.pcal_tree.specs.Placeless.{statement_placeless, statements_placeless, branches_placeless, procedures_placeless, processes_placeless, main_placeless, placeless}
+use Rattle.pcal_tree.specs.Placeless.{statement_placeless, statements_placeless, branches_placeless, processes_placeless, main_placeless, placeless}
 use Rattle.pcal_tree.specs.Program.{Program}
 use Rattle.pcal_tree.specs.Takers.{Takers, each_of, single, lone, Taken, taken_process}
 use Rattle.pcal_tree.specs.Variables.{pc}

@@ -1,5 +1,5 @@
 -- A step of a routine is such that items can be written for it, where names are apart, no rule on labels and definitions is broken.
-use Rattle.std.proofs.Common.{◌≡◌, List, [], ◌∷◌, Bool, true, false, nat_eq, cond, bytes_eq, Option, Some, inl, inr, refl, sym, ap, subst, ◌∙◌}
+use Rattle.std.proofs.Common.{◌≡◌, List, [], ◌∷◌, Bool, true, false, nat_eq, cond, bytes_eq, Option, Some, refl, sym, ap, subst, ◌∙◌}
 use Rattle.std.proofs.lemmas.Bool.{both_ways}
 use Rattle.std.proofs.lemmas.Option.{same_Some}
 use Rattle.tla_tree.specs.Tree.{Word, Trees, Graft, grafts}

@@ -1,14 +1,13 @@
 -- The names that an expression reads free are those that it uses, which the rule on the order of initial values looks at.
-use Rattle.std.proofs.Common.{◌≡◌, List, [], ◌∷◌, ◌++◌, Bool, true, false, ◌||◌, cond, bytes_eq, ◌⊎◌, inl, inr, refl, sym, ap, ◌∙◌, arith}
+use Rattle.std.proofs.Common.{◌≡◌, List, [], ◌∷◌, ◌++◌, Bool, true, false, cond, ◌⊎◌, inl, inr, refl, arith}
 use Rattle.std.specs.List.{flat_map, list_any, AllByRecursion}
 use Rattle.std.proofs.lemmas.Bool.{or_parts}
-use Rattle.std.proofs.lemmas.Slice.Eq.{bytes_eq-Decides}
 use Rattle.tla_token.specs.declared.place.Place.{Place}
 use Rattle.tla_token.specs.Signs.{is_among}
 use Rattle.tla_tree.specs.Tree.{Word, Name, Form, name, operator_call, Tree, node, Trees, no_trees, tree, seen_names}
 use Rattle.tla_tree.specs.Shapes.{Shaped}
 use Rattle.tla_tree.specs.laws.Writable.{count, IsWritable, AreWritable}
-use Rattle.tla_value.specs.laws.FreeNames.{Or, Also, FormReads, FreeNames, FreeInParts, Any}
+use Rattle.tla_value.specs.laws.FreeNames.{Also, FormReads, FreeNames, FreeInParts, Any}
 use Rattle.pcal_tree.specs.Reads.{named, if_free, used_by_form, used, used_by_parts, Reading, looked_at}
 use Rattle.pcal_tree.proofs.CallsFine.{in_also, free_weaker, among_also}
 use Rattle.action_builder.proofs.Main.{append_cases}

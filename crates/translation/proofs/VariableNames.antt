@@ -1,10 +1,10 @@
 -- The variables of the translation, one by one: globals, pc, the stack and the written names of each routine's own; those of different routines are written apart.
-use Rattle.std.proofs.Common.{◌≡◌, ℕ, suc, ◌+◌, ◌<◌, ◌≤◌, length, List, [], ◌∷◌, ◌++◌, Bool, true, false, ◌||◌, cond, bytes_eq, map, filter, ◌⊎◌, inl, inr, refl, sym, ◌∙◌, ap, subst, arith}
+use Rattle.std.proofs.Common.{◌≡◌, ℕ, suc, List, [], ◌∷◌, ◌++◌, Bool, true, false, ◌||◌, cond, bytes_eq, map, filter, ◌⊎◌, inl, inr, refl, sym, ◌∙◌, ap, subst}
 use Rattle.std.proofs.lemmas.Bool.{or_left, or_right}
 use Rattle.std.proofs.lemmas.Slice.Eq.{bytes_eq-Decides}
 use Rattle.tla_token.specs.Signs.{is_among}
 use Rattle.tla_tree.specs.Tree.{Word, Each}
-use Rattle.pcal_tree.specs.Algorithm.{locals, Procedure, Process, Main, alone, processes, Algorithm, Routine, numbered, first_procedure, first_process, procedure_routine, process_routine, alone_routine, procedure_routines, main_routines, routines}
+use Rattle.pcal_tree.specs.Algorithm.{locals, Procedure, Process, Main, alone, processes, Routine, numbered, first_procedure, procedure_routine, procedure_routines, main_routines, routines}
 use Rattle.pcal_tree.specs.Names.{variable, Want, Given, give, written_for}
 use Rattle.pcal_tree.specs.Processes.{OneOf}
 use Rattle.pcal_tree.specs.Program.{Program, written}
