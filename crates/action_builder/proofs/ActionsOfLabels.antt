@@ -53,7 +53,7 @@ one_value : (x y : Value) → good x ≡ good y → x ≡ y
 one_value x y e = ap (λ (o : Outcome Value). elim o [ Ok z ↦ z | Err k ↦ x ]) e
 
 -- what is read at a path doesn't rest on the place
-applied_anywhere : (p q : Place) (f k v : Value) → applied p f k ≡ Ok v → applied q f k ≡ Ok v
+pub applied_anywhere : (p q : Place) (f k v : Value) → applied p f k ≡ Ok v → applied q f k ≡ Ok v
 applied_anywhere p q (fun ds rs) k v e = by (found_at ds rs k) e
   where
     by : (o : Option Value) → ok_or o (fault NotInDomain p) ≡ Ok v

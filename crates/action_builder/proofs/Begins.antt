@@ -5,8 +5,8 @@ use Rattle.pcal_tree.specs.Algorithm.{Span, Statement, branch, either, with, whi
 use Rattle.pcal_tree.specs.Run.{arguments}
 use Rattle.pcal_tree.specs.StepStart.{begin}
 use Rattle.pcal_tree.specs.Expand.{graft_one, graft_all, graft_some, followed_by, Writing, expand_one, expand, expand_some, written_out, expanded, expand_begin}
-use Rattle.pcal_tree.proofs.ExpandRuns.{opens_joined}
-use Rattle.pcal_tree.proofs.BeginLaws.{WrittenBare, begin_expanded}
+use Rattle.pcal_tree.proofs.ExpandRuns.{opens_graft}
+use Rattle.pcal_tree.proofs.BeginLaws.{WrittenBare, begin_expanded, opens_one}
 use Rattle.pcal_tree.specs.laws.Expansion.{Calls, CallsOne, CallsSome, Chosen, Throughout, FineCall, BeginsUnlabelled, Stays, BareOne, Bare, BareSome, BareBodies}
 use Rattle.tla_value.specs.laws.Grafting.{Apart, ApartForm}
 
@@ -50,19 +50,10 @@ mutual
   bare_expand_some X P w no_branches c h = tt
   bare_expand_some X P w (or b bs) c h = (bare_expand X P w b c.0 h.0, bare_expand_some X P w bs c.1 h.1)
 
-opens_one : (X : Writing) (P : Word → Trees → Type 0) → WrittenBare X P → (at : Span) (st : Statement) (rest : Statements) → CallsOne P st → BeginsUnlabelled (expand_one X at st rest)
-opens_one X P w at (macro m ts) rest h = opens_joined (X at m ts) rest (w at m ts h).0
-opens_one X P w at st rest h = tt
-
 opens_body : (X : Writing) (P : Word → Trees → Type 0) → WrittenBare X P → (ss : Statements) → Calls P ss → BeginsUnlabelled ss → BeginsUnlabelled (expand X ss)
 opens_body X P w done c h = absurd h
 opens_body X P w (then at st rest) c h = opens_one X P w at st (expand X rest) c.0
 opens_body X P w (mark m k rest) c h = absurd h
-
-opens_graft : (g : Graft) (ss : Statements) → BeginsUnlabelled ss → BeginsUnlabelled (graft_all g ss)
-opens_graft g done h = absurd h
-opens_graft g (then at st rest) h = tt
-opens_graft g (mark m k rest) h = absurd h
 
 written_bare : (ms : List Macro) → BareBodies ms → WrittenBare (written_out ms) (FineCall ms)
 written_bare [] b at m ts h = (tt, (tt, tt))

@@ -123,9 +123,6 @@ mutual
 abbrev fails : Trouble → Outcome Bool
 fails k = Err k
 
-bad_same : (j k : Trouble) → fails j ≡ fails k → j ≡ k
-bad_same j k e = cc
-
 both_bad : (v w : Outcome Bool) (k : Trouble) → and_then v w ≡ Err k → (v ≡ Err k) ⊎ ((v ≡ Ok true) × (w ≡ Err k))
 both_bad (Ok true) w k e = inr (refl, e)
 both_bad (Ok false) w k e = not_bad false k e

@@ -1,7 +1,7 @@
 -- What the laws ask of statements, where no expression has a primed name or binds a name of B.
 use Rattle.std.proofs.Common.{◌≡◌, List, [], ◌∷◌, Bool, true, false, ◌&&◌, not, refl}
 use Rattle.std.specs.List.{list_all}
-use Rattle.std.proofs.lemmas.Bool.{and_parts}
+use Rattle.std.proofs.lemmas.Bool.{and_parts, not-true}
 use Rattle.tla_token.specs.Signs.{is_among}
 use Rattle.tla_token.specs.declared.place.Place.{Place}
 use Rattle.tla_tree.specs.Tree.{Word, Form, next, Tree, node, Trees, no_trees, tree, Each, Every, EveryOf, binders, Graft}
@@ -20,10 +20,6 @@ use Rattle.action_builder.proofs.Truth.{within_more}
 
 none_in : {P : Type 0} → false ≡ true → P
 none_in e = cc
-
-not_true : (b : Bool) → not b ≡ true → b ≡ false
-not_true true h = cc
-not_true false h = refl
 
 -- ---- bare expressions
 
@@ -82,7 +78,7 @@ module _ (B : Avoided) where
 
   none_of : (xs : List Word) → list_all (λ x. not (B x)) xs ≡ true → Each (λ x. B x ≡ false) xs
   none_of [] h = tt
-  none_of (x ∷ xs) h = let k = and_parts (not (B x)) (list_all (λ y. not (B y)) xs) h in (not_true (B x) k.0, none_of xs k.1)
+  none_of (x ∷ xs) h = let k = and_parts (not (B x)) (list_all (λ y. not (B y)) xs) h in (not-true (B x) k.0, none_of xs k.1)
 
   binds_none : BareHas (BindsNone B)
   binds_none (next x) at h = none_in h

@@ -18,6 +18,7 @@ use Rattle.action_builder.proofs.Parts.{moved_bad, bad_assigned, not_bad}
 use Rattle.action_builder.proofs.Main.{hold_ended, in_front, behind, apart_one, Within}
 use Rattle.action_builder.proofs.Converse.{fits_one}
 use Rattle.action_builder.specs.laws.Ready.{Apart}
+use Rattle.action_builder.proofs.SetAgain.{bad_first}
 
 pub mid_agree : (s t u : State) (A : Names) → SameOn A t u → mid s t A ≡ mid s u A
 mid_agree s t u A h = is_mid s u (mid s t A) A (λ x e. mid_in s t A x e ∙ h x e) (λ x e. mid_out s t A x e)
@@ -87,10 +88,6 @@ mutual
 
 -- ---- a fault of a run is a fault of the action, for some later state
 
-and_bad_left : (v w : Outcome Bool) → IsBad v → IsBad (and_then v w)
-and_bad_left (Ok b) w h = absurd h
-and_bad_left (Err k) w h = tt
-
 and_bad_right : (v w : Outcome Bool) → NotFalse v → IsBad w → IsBad (and_then v w)
 and_bad_right (Ok true) w n h = h
 and_bad_right (Ok false) w n h = absurd n
@@ -102,7 +99,7 @@ or_bad (Ok a) (Err k) h = tt
 or_bad (Err k) w h = tt
 
 ended_is_bad : (is : Items) (j : Item) (c : Scope) (s t : State) → IsBad (hold is c s t) → IsBad (hold (ended is j) c s t)
-ended_is_bad is j c s t h = subst IsBad (sym (hold_ended is j c s t)) (and_bad_left (hold is c s t) _ h)
+ended_is_bad is j c s t h = subst IsBad (sym (hold_ended is j c s t)) (bad_first (hold is c s t) _ h)
 
 abbrev or_else : Outcome Value → Value → Value
 or_else (Ok v) w = v
@@ -111,7 +108,7 @@ or_else (Err k) w = w
 sets_is_bad : (A : Names) (ps : Parts) (c : Scope) (s u : State) (ys : List Word) → ((x : Word) (v : Value) → is_among ys x ≡ true → value_for x ps c (mid s u A) ≡ Ok v → u x ≡ v) → (y : Word) → is_among ys y ≡ true → IsBad (value_for y ps c (mid s u A)) → IsBad (hold_sets (settings_of A ps ys) c s u)
 sets_is_bad A ps c s u [] h y m b = absurd (both_ways false refl m)
 sets_is_bad A ps c s u (z ∷ ys) h y m b = ⊎_elim
-    (λ a. and_bad_left ((value_for z ps c (mid s u A)) >>= (λ v. Ok (same (u z) v))) _ (here (value_for z ps c (mid s u A)) (subst (λ x. IsBad (value_for x ps c (mid s u A))) (sym (same_bytes z y a)) b)))
+    (λ a. bad_first ((value_for z ps c (mid s u A)) >>= (λ v. Ok (same (u z) v))) _ (here (value_for z ps c (mid s u A)) (subst (λ x. IsBad (value_for x ps c (mid s u A))) (sym (same_bytes z y a)) b)))
     (λ k. by (value_for z ps c (mid s u A)) refl (sets_is_bad A ps c s u ys (λ x v n p. h x v (or_right (bytes_eq z x) (is_among ys x) n) p) y k b))
     (or_cases (bytes_eq z y) (is_among ys y) m)
   where
@@ -194,7 +191,7 @@ mutual
   fault_all A (then st rest) c s t k o r =
       let B = more A (effect_names st) in
       parted (Run rest c) r.0 k _ r.2
-      (λ j q. let x = fault_one A st c s t j o.0 (subst (RunOne st c (mid s t A)) q r.1) in (x.0, x.1, and_bad_left (holds (build_one A st) c s x.0) _ x.2))
+      (λ j q. let x = fault_one A st c s t j o.0 (subst (RunOne st c (mid s t A)) q r.1) in (x.0, x.1, bad_first (holds (build_one A st) c s x.0) _ x.2))
       (λ v q n.
       let one : RunOne st c (mid s t A) (Ok v) = subst (RunOne st c (mid s t A)) q r.1 in
       let off : (y : Word) → is_among (effect_names st) y ≡ false → v y ≡ mid s t A y = λ y f. frame_one st c (mid s t A) v y one f in

@@ -15,8 +15,9 @@ use Rattle.action_builder.specs.Written.{old_stack}
 use Rattle.action_builder.specs.laws.Jumps.{Unlike, AllUnlike}
 use Rattle.action_builder.proofs.FitTrees.{Fits, AllFit, HasIdentifiers, writable_fits, all_fit_more}
 use Rattle.action_builder.proofs.FitStatements.{AssignmentsFit, Beside, InParts, OrOld, StatementsFit, IsPlain}
-use Rattle.action_builder.proofs.FitSettled.{PartnerFits}
-use Rattle.action_builder.proofs.FitJumps.{identifier_field, NamesFit, unlike_first, parameters_first, flipped, differ, pc_name, stack_name, named_fits, text_fits, field_fits, rest_fits, names_fit, kept_fit, pushed_fits, one_fits, restored_fit, arguments_fit, fields_fit, jump_fits}
+use Rattle.action_builder.proofs.FitSettled.{PartnerFits, identifiers_or}
+use Rattle.action_builder.proofs.FitJumps.{identifier_field, NamesFit, unlike_first, parameters_first, differ, pc_name, stack_name, named_fits, text_fits, field_fits, rest_fits, names_fit, kept_fit, pushed_fits, one_fits, restored_fit, arguments_fit, fields_fit, jump_fits}
+use Rattle.action_builder.proofs.Equal.{other-name}
 
 -- ---- each variable once
 
@@ -29,7 +30,7 @@ beside_restored at x (y ∷ ys) ms h b = (differ x y h.0, beside_restored at x y
 parts_restored : (at : Place) (y : Word) (e : Tree) (xs : List Word) → AllUnlike xs → Unlike y xs → InParts (fields_restored at xs (assignment (name_at at y) e no_assignments))
 parts_restored at y e [] h k = (tt, tt)
 parts_restored at y e (x ∷ xs) h k =
-    (beside_restored at x xs (assignment (name_at at y) e no_assignments) h.0 (differ x y (flipped y x k.0), tt), parts_restored at y e xs h.1 k.1)
+    (beside_restored at x xs (assignment (name_at at y) e no_assignments) h.0 (differ x y (other-name y x k.0), tt), parts_restored at y e xs h.1 k.1)
 
 beside_arguments : (at : Place) (x : Word) (xs : List Word) (ts : Trees) → Unlike x xs → Beside (name_at at x) (arguments_assigned xs ts)
 beside_arguments at x (y ∷ ys) (tree t ts) h = (differ x y h.0, beside_arguments at x ys ts h.1)
@@ -142,9 +143,6 @@ module _ (N : Word → Type 0) (j : HasIdentifiers N) (P : Program) (I : Initial
         entered_fits at (stack_replaced P u p at end) ts _
         (pushed_fits N j P p at (kept_field end pc) (values_kept P u p at end) (stack_rest end) h.names (field_fits N j end stack pc (j stack stack_name) (identifier_field pc pc_name)) values.0 values.1 (rest_fits N j end))
         k (variables_fit p.variables h.initials variable_names _ (others.0, others.1, jump_fits N j at (label_name P p (first_label p)) h.label))
-
-identifiers_or : (N : Word → Type 0) → HasIdentifiers N → HasIdentifiers (OrOld N)
-identifiers_or N j x h = inl (j x h)
 
 -- within it the old stack has a name
 pub pair_fits : (N : Word → Type 0) → HasIdentifiers N → (P : Program) (I : InitialValues) (p : Routine) → CalledFits P I p → (u : Routine) → NamesFit P u → (nat_eq u.number p.number ≡ true → u ≡ p)

@@ -2,8 +2,7 @@
 use Rattle.std.proofs.Common.{◌≡◌, ℕ, true, false, not, List, [], ◌∷◌, ◌++◌, length, map, nat_le, bytes_eq, refl, sym, ap, ◌∙◌, arith}
 use Rattle.std.specs.List.{list_all}
 use Rattle.std.proofs.lemmas.List.{map-append}
-use Rattle.std.proofs.lemmas.Slice.Eq.{bytes_eq-Decides}
-use Rattle.std.proofs.lemmas.Bool.{not-true, and_parts, and_from, or_parts, leb-true, le-leb, false_from_ne_true}
+use Rattle.std.proofs.lemmas.Bool.{not-true, and_parts, and_from, or_parts, leb-true, le-leb}
 use Rattle.tla_token.specs.declared.place.Place.{Place}
 use Rattle.tla_token.specs.Lexemes.{is_word}
 use Rattle.tla_token.specs.Words.{is_reserved, is_pluscal_word, is_tla_word}
@@ -60,12 +59,6 @@ unlike_first (x ∷ xs) ys h = (each_left (λ y. bytes_eq x y ≡ false) xs ys h
 -- the parameters come first
 pub parameters_first : (P : Program) (p : Routine) → written_all P p (locals p) ≡ written_all P p p.params ++ written_all P p p.variables
 parameters_first P p = ap (map (written P p)) (map-append (λ (d : Declaration). d.name.word) p.params p.variables) ∙ map-append (written P p) (map (λ (d : Declaration). d.name.word) p.params) (map (λ (d : Declaration). d.name.word) p.variables)
-
-pub flipped : (x y : Word) → bytes_eq x y ≡ false → bytes_eq y x ≡ false
-flipped x y e = false_from_ne_true (bytes_eq y x) (λ d. clash (sym ((bytes_eq-Decides x y).1 (sym ((bytes_eq-Decides y x).0 d))) ∙ e))
-  where
-    clash : true ≡ false → ⊥
-    clash q = cc
 
 pub differ : {A : Type 0} (x y : Word) → bytes_eq x y ≡ false → bytes_eq x y ≡ true → A
 differ x y e d = absurd (clash (sym d ∙ e))

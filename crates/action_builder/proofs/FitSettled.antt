@@ -22,7 +22,7 @@ abbrev pub PartnerFits : Partner → Type 0
 PartnerFits (goto_partner m) = IsString m
 PartnerFits _ = Unit {0}
 
-identifiers_or : (N : Word → Type 0) → HasIdentifiers N → HasIdentifiers (OrOld N)
+pub identifiers_or : (N : Word → Type 0) → HasIdentifiers N → HasIdentifiers (OrOld N)
 identifiers_or N j x h = inl (j x h)
 
 module _ (C : Word → Type 0) where

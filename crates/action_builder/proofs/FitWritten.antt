@@ -17,6 +17,7 @@ use Rattle.action_builder.proofs.FitTrees.{Fits, HasIdentifiers, graft_fits, pri
 use Rattle.action_builder.proofs.FitItems.{ItemsFit, SomeFit, BranchesFit, graft_items_fit, in_place_put, onto_fits, filled_fits}
 use Rattle.action_builder.proofs.FitStatements.{AssignmentsFit, BindsFit, OrOld, StatementFits, StatementsFit, OrsFit, InParts, IsPlain}
 use Rattle.action_builder.proofs.FitSides.{each_of, side_fits}
+use Rattle.action_builder.proofs.Names.{each_name}
 
 -- ---- names that are assigned
 
@@ -26,20 +27,12 @@ AreIdentifiers xs = Each IsIdentifier xs
 abbrev HoldsIdentifiers : Names → Type 0
 HoldsIdentifiers A = (x : Word) → A x ≡ true → IsIdentifier x
 
-pub among_each : (P : Word → Type 0) (xs : List Word) → Each P xs → (x : Word) → is_among xs x ≡ true → P x
-among_each P [] h x e = cc
-among_each P (y ∷ ys) h x e = by (among_each P ys h.1 x) (bytes_eq y x) refl e
-  where
-    by : (is_among ys x ≡ true → P x) → (b : Bool) → bytes_eq y x ≡ b → (b || is_among ys x) ≡ true → P x
-    by later true q d = subst P ((bytes_eq-Decides y x).0 q) h.0
-    by later false q d = later d
-
 more_identifiers : (A : Names) (xs : List Word) → HoldsIdentifiers A → AreIdentifiers xs → HoldsIdentifiers (more A xs)
 more_identifiers A xs h k x e = by (A x) (h x) e
   where
     by : (b : Bool) → (b ≡ true → IsIdentifier x) → (b || is_among xs x) ≡ true → IsIdentifier x
     by true f d = f refl
-    by false f d = among_each IsIdentifier xs k x d
+    by false f d = each_name IsIdentifier xs k x d
 
 without_each : (P : Word → Type 0) (x : Word) (ys : List Word) → Each P ys → Each P (without x ys)
 without_each P x [] h = tt

@@ -23,8 +23,9 @@ use Rattle.pcal_tree.proofs.SameVariables.{of_each, each_of}
 use Rattle.action_builder.specs.laws.Jumps.{Unlike, PairStands}
 use Rattle.action_builder.proofs.AnyPlace.{stack_same}
 use Rattle.action_builder.proofs.Call.{each_parts}
-use Rattle.action_builder.proofs.SetAgain.{Like, like_refl, like_sym, like_trans, bad_then, like_then, like_ends, read_changed, put_here, put_else, unlike, then_do, Others, one_all, all_all, Commute, commute_all, Absorbs, absorbs_past, absorbs_all, set_put, all_else, all_both}
+use Rattle.action_builder.proofs.SetAgain.{Like, like_refl, like_sym, like_trans, bad_then, like_then, like_ends, read_changed, put_here, put_else, then_do, Others, one_all, all_all, Commute, commute_all, Absorbs, absorbs_past, absorbs_all, set_put, all_else, all_both}
 use Rattle.action_builder.proofs.Pairs.{loose, then_known, arguments_others, parts_others, parts_all_others, one_part, all_read_else, Long, tail, entering, other_and_started, pc_in_entering, stack_in_entering, own_in_entering}
+use Rattle.action_builder.proofs.Equal.{other-name}
 
 -- ---- results
 
@@ -142,7 +143,7 @@ module _ (P0 : Program) (v : Actor) (u p : Routine) (at end : Place) (h : PairSt
           let c = set_put (to_stack fr) t w r in
           ap (λ (f : State). f x) c.2 ∙ put_else stack x c.0 t (of_each (λ y. bytes_eq stack y ≡ false) of_p h.stack_of_p x k)
           ∙ all_else (to_pc back ∷ restores us) x
-          (unlike pc x (of_each (λ y. bytes_eq pc y ≡ false) of_p h.pc_of_p x k), parts_others x end (local_index v u) of_u us (each_weaker (λ y. Unlike y of_p) (λ y. bytes_eq x y ≡ false) (λ y m. unlike y x (of_each (λ z. bytes_eq y z ≡ false) of_p m x k)) of_u (h.apart n))) s t q
+          (other-name pc x (of_each (λ y. bytes_eq pc y ≡ false) of_p h.pc_of_p x k), parts_others x end (local_index v u) of_u us (each_weaker (λ y. Unlike y of_p) (λ y. bytes_eq x y ≡ false) (λ y m. other-name y x (of_each (λ z. bytes_eq y z ≡ false) of_p m x k)) of_u (h.apart n))) s t q
 
   -- ---- against the assignments
 
@@ -183,7 +184,7 @@ module _ (P0 : Program) (v : Actor) (u p : Routine) (at end : Place) (h : PairSt
 
       apart : Rattle.action_builder.proofs.SetAgain.AllOthers (restores us) sets
       apart = parts_all_others end (local_index v u) of_u us sets (each_of (λ x. Others x sets) of_u (λ x k.
-          (unlike stack x (of_each (λ y. bytes_eq stack y ≡ false) of_u h.stack_of_u x k), arguments_others x (local_index v p) params ats vs (each_parts (λ y. bytes_eq x y ≡ false) P p p.params p.variables (of_each (λ y. Unlike y of_p) of_u (h.apart n) x k)).0)))
+          (other-name stack x (of_each (λ y. bytes_eq stack y ≡ false) of_u h.stack_of_u x k), arguments_others x (local_index v p) params ats vs (each_parts (λ y. bytes_eq x y ≡ false) P p p.params p.variables (of_each (λ y. Unlike y of_p) of_u (h.apart n) x k)).0)))
 
   -- and what the return restores may be set behind the variables
   pub other_procedure : (back : Value) (us olds fr : List Value) (front : Value) (frames : List Value) (ats : List Place) (vs : List Value) (s : State) → nat_eq u.number p.number ≡ false → all_read at (local_index v p) of_p s ≡ Ok olds → on_stack v end s ≡ Ok (front ∷ frames)

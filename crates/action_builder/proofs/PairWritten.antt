@@ -1,6 +1,6 @@
 -- What is written for a call that is one statement with a return has the ends of it, and trouble where it has trouble.
 use Rattle.std.proofs.Common.{◌≡◌, List, [], ◌∷◌, ◌++◌, Bool, true, false, cond, not, bytes_eq, codes, nat_eq, refl, sym, ◌∙◌, subst, inl, inr, Ok, Err}
-use Rattle.std.proofs.lemmas.Bool.{and_parts}
+use Rattle.std.proofs.lemmas.Bool.{and_parts, not-true}
 use Rattle.std.specs.Option.{ok_or}
 use Rattle.tla_token.specs.declared.place.Place.{Place}
 use Rattle.tla_tree.specs.declared.op.Op.TheVariants.{Concat}
@@ -48,12 +48,8 @@ also_but : (x : Word) (N : Word → Type 0) → ButOne x N → (xs : List Word) 
 also_but x N h [] y e = h y e
 also_but x N h (z ∷ xs) y e = also_but x (Or z N) (λ w f. inr (h w f)) xs y e
 
-not_is : (b : Bool) → not b ≡ true → b ≡ false
-not_is true e = cc
-not_is false e = refl
-
 form_reads : (x : Word) (N : Word → Type 0) → ButOne x N → (m : Form) → not (is_name x m) ≡ true → FormReads N Any m
-form_reads x N h (name y) e = h y (not_is (bytes_eq x y) e)
+form_reads x N h (name y) e = h y (not-true (bytes_eq x y) e)
 form_reads x N h (operator_call f) e = tt
 form_reads x N h m e = tt
 

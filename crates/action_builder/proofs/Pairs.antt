@@ -16,7 +16,8 @@ use Rattle.pcal_tree.specs.Calls.{setting, initial_value, initial_place, all_rea
 use Rattle.pcal_tree.proofs.SameVariables.{of_each}
 use Rattle.action_builder.specs.laws.Jumps.{Unlike, AllUnlike, RestOnEarlier, Unread}
 use Rattle.action_builder.proofs.Call.{each_parts}
-use Rattle.action_builder.proofs.SetAgain.{Like, like_ends, unlike, set_twice, Commute, set_swap, commute_read, commute_then, then_do, Others, one_all, AllOthers, Absorbs, absorbs_again, absorbs_past, absorbs_read, set_put}
+use Rattle.action_builder.proofs.SetAgain.{Like, like_ends, set_twice, Commute, set_swap, commute_read, commute_then, then_do, Others, one_all, AllOthers, Absorbs, absorbs_again, absorbs_past, absorbs_read, set_put}
+use Rattle.action_builder.proofs.Equal.{other-name}
 
 -- without limits
 abbrev pub loose : Program → Program
@@ -116,7 +117,7 @@ module _ (P0 : Program) (v : Actor) (p : Routine) (at : Place) where
           (absorbs_again b (initial_place at d.start) (written P p d.name.word) path z w (tail ds))
       by w (inr j) ih =
           absorbs_past (set_one plain (setting b x path z)) (starts d w) (tail ds)
-          (set_swap (setting b x path z) (setting (initial_place at d.start) (written P p d.name.word) path w) (unlike (written P p d.name.word) x (of_each (λ y. bytes_eq (written P p d.name.word) y ≡ false) (written_all P p ds) n.0 x j))) (ih j)
+          (set_swap (setting b x path z) (setting (initial_place at d.start) (written P p d.name.word) path w) (other-name (written P p d.name.word) x (of_each (λ y. bytes_eq (written P p d.name.word) y ≡ false) (written_all P p ds) n.0 x j))) (ih j)
 
   -- a change of another variable, which no initial value rests on, may come before the variables or after them
   pub other_and_started : (b : Place) (x : Word) (to : List Value) (z : Value) (ds : List Declaration) → Unlike x (written_all P p ds) → (xs : List Word) → OneOf x xs → Unread P v p at xs ds → Commute (set_one plain (setting b x to z)) (variables_started P v p at ds)
@@ -147,7 +148,7 @@ module _ (P0 : Program) (v : Actor) (p : Routine) (at : Place) where
           (absorbs_again b a y path z w (then_do (set_all plain (argument_settings path xs ats vs)) go))
       by (inr j) ih =
           absorbs_past (set_one plain (setting b x path z)) (set_one plain (setting a y path w)) (then_do (set_all plain (argument_settings path xs ats vs)) go)
-          (set_swap (setting b x path z) (setting a y path w) (unlike y x (of_each (λ c. bytes_eq y c ≡ false) xs n.0 x j))) (ih j)
+          (set_swap (setting b x path z) (setting a y path w) (other-name y x (of_each (λ c. bytes_eq y c ≡ false) xs n.0 x j))) (ih j)
 
   -- ---- the call after the return
 
@@ -167,9 +168,6 @@ module _ (P0 : Program) (v : Actor) (p : Routine) (at : Place) where
 
     pc_variables : Unlike pc (written_all P p p.variables)
     pc_variables = (each_parts (λ y. bytes_eq pc y ≡ false) P p p.params p.variables pc_p).1
-
-    stack_params : Unlike stack params
-    stack_params = (each_parts (λ y. bytes_eq stack y ≡ false) P p p.params p.variables stack_p).0
 
     unlike_parts : (ds es : List Declaration) → AllUnlike (written_all P p (ds ++ es)) → AllUnlike (written_all P p ds) × AllUnlike (written_all P p es) × Each (λ x. Unlike x (written_all P p es)) (written_all P p ds)
     unlike_parts [] es h = (tt, h, tt)
@@ -202,7 +200,7 @@ module _ (P0 : Program) (v : Actor) (p : Routine) (at : Place) where
     own_in_entering b x z new ats vs l k =
         list_step (setting at stack idx new) (argument_settings path params ats vs) (set_one plain (setting b x path z)) (tail p.variables)
         (absorbs_past (set_one plain (setting b x path z)) (set_one plain (setting at stack idx new)) (then_do (set_all plain (argument_settings path params ats vs)) (tail p.variables))
-        (set_swap (setting b x path z) (setting at stack idx new) (unlike stack x (of_each (λ y. bytes_eq stack y ≡ false) of_p stack_p x k)))
+        (set_swap (setting b x path z) (setting at stack idx new) (other-name stack x (of_each (λ y. bytes_eq stack y ≡ false) of_p stack_p x k)))
         (by (either_list x p.params p.variables k)))
       where
         lists : AllUnlike params × AllUnlike (written_all P p p.variables) × Each (λ y. Unlike y (written_all P p p.variables)) params
@@ -212,5 +210,5 @@ module _ (P0 : Program) (v : Actor) (p : Routine) (at : Place) where
         by (inl j) = in_arguments b x z (tail p.variables) params ats vs l j lists.0
         by (inr j) =
             absorbs_past (set_one plain (setting b x path z)) (set_all plain (argument_settings path params ats vs)) (tail p.variables)
-            (one_all (setting b x path z) (argument_settings path params ats vs) (arguments_others x path params ats vs (each_weaker (λ y. Unlike y (written_all P p p.variables)) (λ y. bytes_eq x y ≡ false) (λ y n. unlike y x (of_each (λ c. bytes_eq y c ≡ false) (written_all P p p.variables) n x j)) params lists.2)))
+            (one_all (setting b x path z) (argument_settings path params ats vs) (arguments_others x path params ats vs (each_weaker (λ y. Unlike y (written_all P p p.variables)) (λ y. bytes_eq x y ≡ false) (λ y n. other-name y x (of_each (λ c. bytes_eq y c ≡ false) (written_all P p p.variables) n x j)) params lists.2)))
             (local_in_tail b x z p.variables j lists.1 rests)

@@ -4,7 +4,7 @@ use Rattle.std.specs.Option.{ok_or}
 use Rattle.tla_token.specs.declared.place.Place.{Place}
 use Rattle.tla_tree.specs.Tree.{Word}
 use Rattle.tla_value.specs.declared.fault.FaultKind.TheVariants.{NotInDomain}
-use Rattle.tla_value.specs.Value.{Value, truth, int, text, model, set, fun, Values, no_values, and, fault, Trouble, Outcome, ◌>>=◌, IsBad}
+use Rattle.tla_value.specs.Value.{Value, truth, int, text, model, set, fun, Values, no_values, and, fault, Trouble, Outcome, ◌>>=◌, and_then, IsBad}
 use Rattle.tla_value.specs.Order.{same, found_at}
 use Rattle.tla_value.specs.Stops.{plain}
 use Rattle.tla_value.specs.Strict.{changed, changed_at}
@@ -16,7 +16,7 @@ use Rattle.pcal_tree.specs.Assign.{Setting, set_one, set_all}
 use Rattle.pcal_tree.specs.Program.{read_at}
 use Rattle.pcal_tree.specs.Calls.{setting}
 use Rattle.pcal_tree.specs.Processes.{OneOf}
-use Rattle.action_builder.proofs.Equal.{eq-name}
+use Rattle.action_builder.proofs.Equal.{eq-name, other-name}
 
 -- ---- the same result, or neither has one
 
@@ -38,6 +38,14 @@ like_trans a b c (inr h) (inr k) = inr (h.0, k.1)
 pub bad_then : {X Y : Type 0} (a : Outcome X) (f : X → Outcome Y) → IsBad a → IsBad (a >>= f)
 bad_then (Ok x) f h = absurd h
 bad_then (Err k) f h = tt
+
+pub bad_in : {X Y : Type 0} (o : Outcome X) (f : X → Outcome Y) → ((x : X) → IsBad (f x)) → IsBad (o >>= f)
+bad_in (Ok x) f h = h x
+bad_in (Err k) f h = tt
+
+pub bad_first : (p q : Outcome Bool) → IsBad p → IsBad (and_then p q)
+bad_first (Ok b) q h = absurd h
+bad_first (Err k) q h = tt
 
 pub like_then : {X Y : Type 0} (a b : Outcome X) (f g : X → Outcome Y) → Like a b → ((x : X) → Like (f x) (g x)) → Like (a >>= f) (b >>= g)
 like_then {X = X} a b f g (inl e) h = subst (λ z. Like (a >>= f) (z >>= g)) e (by a)
@@ -162,13 +170,6 @@ put_swap x y u v s e = λ i z. by z (bytes_eq x z) refl (bytes_eq y z) refl i
     by z false p true q = refl
     by z false p false q = refl
 
-pub unlike : (x y : Word) → bytes_eq x y ≡ false → bytes_eq y x ≡ false
-unlike x y e = by (bytes_eq y x) refl
-  where
-    by : (b : Bool) → bytes_eq y x ≡ b → b ≡ false
-    by true p = absurd (both_ways (bytes_eq x y) e (eq-name x y (sym (same_bytes y x p))))
-    by false p = refl
-
 -- ---- settings, without limits
 
 pub set_twice : (a b : Place) (x : Word) (path : List Value) (w z : Value) (s : State) → Like (set_one plain (setting a x path w) s >>= set_one plain (setting b x path z)) (set_one plain (setting b x path z) s)
@@ -199,7 +200,7 @@ set_swap m n e s =
     like_ends _ (o >>= (λ u. p >>= (λ v. Ok (put y v (put x u s))))) _ _
     (then_then o (λ u. Ok (put x u s)) (set_one plain n) ∙ (λ i. o >>= (λ u. changed_at n.place n.part.path n.value (put_else x y u s e i) >>= (λ v. Ok (put y v (put x u s))))))
     (in_any_order o p (λ u v. put y v (put x u s)) (λ u v. put x u (put y v s)) (λ u v. put_swap x y u v s e))
-    (sym (then_then p (λ v. Ok (put y v s)) (set_one plain m) ∙ (λ i. p >>= (λ v. changed_at m.place m.part.path m.value (put_else y x v s (unlike x y e) i) >>= (λ u. Ok (put x u (put y v s)))))))
+    (sym (then_then p (λ v. Ok (put y v s)) (set_one plain m) ∙ (λ i. p >>= (λ v. changed_at m.place m.part.path m.value (put_else y x v s (other-name x y e) i) >>= (λ u. Ok (put x u (put y v s)))))))
 
 pub commute_sym : (f g : State → Outcome State) → Commute f g → Commute g f
 commute_sym f g h s = like_sym _ _ (h s)
@@ -301,7 +302,7 @@ all_else [] x h s t e = ap (λ (f : State). f x) (sym (same_ok s t e))
 all_else (m ∷ ms) x h s t e = by (λ u. all_else ms x h.1 u t) (set_one plain m s) refl e
   where
     by : ((u : State) → set_all plain ms u ≡ Ok t → t x ≡ u x) → (o : Outcome State) → set_one plain m s ≡ o → o >>= set_all plain ms ≡ Ok t → t x ≡ s x
-    by ih (Ok u) p e = let q = set_put m s u p in ih u e ∙ ap (λ (f : State). f x) q.2 ∙ put_else m.part.variable x q.0 s (unlike x m.part.variable h.0)
+    by ih (Ok u) p e = let q = set_put m s u p in ih u e ∙ ap (λ (f : State). f x) q.2 ∙ put_else m.part.variable x q.0 s (other-name x m.part.variable h.0)
     by ih (Err k) p e = no_ok k t e
 
 pub all_both : (ms ns : List Setting) (s : State) → set_all plain (ms ++ ns) s ≡ set_all plain ms s >>= set_all plain ns

@@ -1,14 +1,13 @@
 -- Sets of names, and the state between two states.
 use Rattle.std.proofs.Common.{◌≡◌, List, [], ◌∷◌, ◌++◌, Bool, true, false, cond, ◌||◌, ◌&&◌, bytes_eq, ◌⊎◌, refl, sym, ◌∙◌, ap, subst, ⊎_elim}
-use Rattle.std.proofs.lemmas.Bool.{cases_Bool, or_cases, both_ways, and_parts, or_from, or_left, or_right, or_parts}
+use Rattle.std.proofs.lemmas.Bool.{cases_Bool, or_cases, both_ways, and_parts, or_left, or_right}
 use Rattle.tla_token.specs.Signs.{is_among}
 use Rattle.tla_token.proofs.Spelled.{same_bytes}
 use Rattle.tla_tree.specs.Tree.{Word}
-use Rattle.tla_value.specs.Value.{Value}
 use Rattle.tla_value.specs.Order.{same}
 use Rattle.tla_value.specs.OrderLaws.{same_is}
 use Rattle.action_builder.proofs.Equal.{eq-name, eq-value}
-use Rattle.pcal_tree.specs.Scope.{State, put}
+use Rattle.pcal_tree.specs.Scope.{State}
 use Rattle.action_builder.specs.Assigned.{Names, more}
 use Rattle.action_builder.specs.laws.States.{mid}
 use Rattle.action_builder.proofs.Actions.{minus, all_same}
@@ -53,27 +52,6 @@ mid_grow s t A B h k = is_mid s t (mid s t A) B (λ x e. in_b x e (cases_Bool (A
 
     out_b : (x : Word) → B x ≡ false → (A x ≡ true) ⊎ (A x ≡ false) → mid s t A x ≡ s x
     out_b x e c = ⊎_elim (λ a. absurd (both_ways (B x) e (h x a))) (λ a. mid_out s t A x a) c
-
--- one assignment
-pub put_mid : (s t : State) (A : Names) (x : Word) (v : Value) → v ≡ t x → put x v (mid s t A) ≡ mid s t (more A (x ∷ []))
-put_mid s t A x v e = is_mid s t (put x v (mid s t A)) (more A (x ∷ [])) inside outside
-  where
-    put_other : (y : Word) → bytes_eq x y ≡ false → put x v (mid s t A) y ≡ mid s t A y
-    put_other y f = ap (λ b. cond b v (mid s t A y)) f
-
-    put_here : (y : Word) → bytes_eq x y ≡ true → put x v (mid s t A) y ≡ t y
-    put_here y f = ap (λ b. cond b v (mid s t A y)) f ∙ e ∙ ap t (same_bytes x y f)
-
-    inside : (y : Word) → (A y || (bytes_eq x y || false)) ≡ true → put x v (mid s t A) y ≡ t y
-    inside y h = ⊎_elim
-        (λ f. put_here y f)
-        (λ f. put_other y f ∙ mid_in s t A y (⊎_elim (λ a. a) (λ b. absurd (both_ways (bytes_eq x y || false) (or_from (bytes_eq x y) false f refl) b)) (or_cases (A y) (bytes_eq x y || false) h)))
-        (cases_Bool (bytes_eq x y))
-
-    outside : (y : Word) → (A y || (bytes_eq x y || false)) ≡ false → put x v (mid s t A) y ≡ s y
-    outside y h =
-        let p = or_parts (A y) (bytes_eq x y || false) h in
-        put_other y (or_parts (bytes_eq x y) false p.1).0 ∙ mid_out s t A y p.0
 
 -- all names of a list that are not in another are the same
 pub minus_same : (xs ys : List Word) (s t : State) → all_same (minus xs ys) s t ≡ true → (x : Word) → is_among xs x ≡ true → is_among ys x ≡ false → t x ≡ s x

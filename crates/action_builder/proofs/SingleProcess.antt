@@ -102,17 +102,17 @@ means_value c (node m at ts) h env v q = ap sense_of q
 -- ---- where names give canonical values, and the expression a value
 
 -- self stands for what the expression means
-abbrev put_env : Check → Word → Tree → Env → Env
+abbrev pub put_env : Check → Word → Tree → Env → Env
 put_env c self e env = record env { now = λ x at. cond (bytes_eq self x) (eval c e env) (env.now x at) }
 
-put_there : (c : Check) (self : Word) (e : Tree) (env : Env) → GraftedOn c (in_place_of self e) Any Any env (put_env c self e env)
+pub put_there : (c : Check) (self : Word) (e : Tree) (env : Env) → GraftedOn c (in_place_of self e) Any Any env (put_env c self e env)
 put_there c self e env = record { now = λ x u at. by x at (bytes_eq self x); primed = λ x at. refl; defs = λ x u. refl }
   where
     by : (x : Word) (at : Place) (b : Bool) → cond b (eval c e env) (env.now x at) ≡ read_tree c (cond b (Some e) None) x at env
     by x at true = refl
     by x at false = refl
 
-put_means : (c : Check) → Keeping c → (self : Word) (e : Tree) (v : Value) (env : Env) → Sound env → MeansAlike (eval c e env) (just v) → EnvsMeanAlike (put_env c self e env) (bind self v env)
+pub put_means : (c : Check) → Keeping c → (self : Word) (e : Tree) (v : Value) (env : Env) → Sound env → MeansAlike (eval c e env) (just v) → EnvsMeanAlike (put_env c self e env) (bind self v env)
 put_means c l self e v env r h = record {
   now = λ x at. by x at (bytes_eq self x);
   primed = λ x at. record { value = refl; test = λ p w k. refl };

@@ -90,10 +90,6 @@ all_chosen_is (and u us) (and d ds) ws e = by (holds u ws) (all_chosen_is us ds 
     by true h = h
     by false h = refl
 
-cond_and : (a b : Bool) → cond a b false ≡ (a && b)
-cond_and true b = refl
-cond_and false b = refl
-
 -- of a value in canonical order
 members_by : (is ws ds us : Values) (b : Bool) → is_eq (orders ds is) ≡ b → count ds ≡ count us → cond b (all_hold us ws) false ≡ (b && all_chosen us (repeated is (set ws)))
 members_by is ws ds us true q e = sym (all_chosen_is us is ws (sym (ap count (orders_equal ds is (is_equal (orders ds is) q))) ∙ e))

@@ -7,7 +7,7 @@ use Rattle.tla_value.specs.Meaning.{Env, bind, eval}
 use Rattle.tla_value.specs.Definitions.{Valuation}
 use Rattle.module_tree.specs.Formulas.{self, named}
 use Rattle.module_tree.specs.Module.{call, call_with, Way, one_way, some_way, some_of}
-use Rattle.module_tree.specs.ActionTruth.{Verdict, Acts, acted, action_of, call_holds, way_holds, some_way_holds, some_member}
+use Rattle.module_tree.specs.ActionTruth.{Verdict, Acts, acted, action_of, way_holds, some_way_holds, some_member}
 use Rattle.module_tree.proofs.Tells.{tells_or, tells_of}
 use Rattle.pcal_tree.specs.Program.{Actor}
 use Rattle.pcal_tree.proofs.ProcessesInOrder.{id, ids}
@@ -48,10 +48,6 @@ pub ways_both : (env : Env) (acts : Acts) (xs ys : List Way) (P Q : Type 0) → 
 ways_both env acts xs ys P Q h k =
     tells_of (some_way_holds plain env acts (xs ++ ys)) (or_all (some_way_holds plain env acts xs) (some_way_holds plain env acts ys)) (P ⊎ Q) (ways_joined env acts xs ys)
     (tells_or (some_way_holds plain env acts xs) (some_way_holds plain env acts ys) P Q h k)
-
--- a call with self, where self stands for v
-self_called : (env : Env) (acts : Acts) (a : Word) (v : Value) → call_holds plain (bind self v env) acts (call_with a (named self)) ≡ acted (acts a) (Some v)
-self_called env acts a v = refl
 
 -- A(self): one of its labels' actions
 pub own_true : (s t : Valuation) (env : Env) (acts : Acts) (title : Word) (label : Word → Word) (labels : List Word) (v : Value) (P : Word → Type 0)

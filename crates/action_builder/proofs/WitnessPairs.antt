@@ -1,9 +1,9 @@
 -- The name for the old stack meets what the laws ask of it, where a call that is one statement with a return is written.
-use Rattle.std.proofs.Common.{◌≡◌, List, [], ◌∷◌, Bool, true, false, ◌&&◌, codes, refl, Ok, Err}
+use Rattle.std.proofs.Common.{◌≡◌, List, [], ◌∷◌, Bool, true, false, ◌&&◌, codes, refl}
 use Rattle.std.proofs.lemmas.Bool.{and_parts}
 use Rattle.tla_token.specs.declared.place.Place.{Place}
 use Rattle.tla_tree.specs.Tree.{Word, Graft, Strict, strict, operator, tuple, fields, operator_call, Tree, node, Trees, tree, no_trees, Each, Every, EveryOf, binders}
-use Rattle.tla_value.specs.Value.{Outcome, ◌>>=◌, IsBad, and_then}
+use Rattle.tla_value.specs.Value.{IsBad}
 use Rattle.tla_value.specs.Stops.{plain}
 use Rattle.tla_value.specs.Meaning.{Env, eval, evals, part_values}
 use Rattle.tla_value.specs.Definitions.{Valuation}
@@ -20,16 +20,8 @@ use Rattle.action_builder.specs.laws.Ready.{Kept}
 use Rattle.action_builder.specs.laws.Grafts.{ClearItems}
 use Rattle.pcal_tree.specs.Tests.{is_empty}
 use Rattle.tla_value.specs.laws.Grafting.{Clear, BindsClear}
-use Rattle.action_builder.proofs.SetAgain.{bad_then}
+use Rattle.action_builder.proofs.SetAgain.{bad_then, bad_in, bad_first}
 use Rattle.action_builder.proofs.RowsPairs.{program, initials, places, caller, calls, var, later, num, word, over, one, head_of, and_next, nothing}
-
-bad_in : {X Y : Type 0} (o : Outcome X) (f : X → Outcome Y) → ((x : X) → IsBad (f x)) → IsBad (o >>= f)
-bad_in (Ok x) f h = h x
-bad_in (Err k) f h = tt
-
-bad_first : (p q : Outcome Bool) → IsBad p → IsBad (and_then p q)
-bad_first (Ok b) q h = absurd h
-bad_first (Err k) q h = tt
 
 -- ---- no name is bound
 

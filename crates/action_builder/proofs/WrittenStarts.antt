@@ -1,40 +1,31 @@
 -- Initial values with written names: for each process they are what the routine's scope gives, so the conjunct of Init for a variable of many processes is true
 -- just where the walk allows the variable's value; and the CASE of pc gives each process its first label.
-use Rattle.std.proofs.Common.{◌≡◌, List, [], ◌∷◌, ◌++◌, Bool, true, false, cond, Some, map, refl, sym, ◌∙◌, ap, Ok, Err, ◌⊎◌, inl, inr}
-use Rattle.tla_token.specs.declared.place.Place.{Place}
+use Rattle.std.proofs.Common.{◌≡◌, List, [], ◌∷◌, ◌++◌, Bool, true, false, cond, refl, sym, ◌∙◌, ap, Ok, Err, ◌⊎◌, inl, inr}
 use Rattle.tla_token.specs.Places.{nowhere}
-use Rattle.tla_tree.specs.Tree.{Word, Tree, Every, root_place}
+use Rattle.tla_tree.specs.Tree.{Tree, Every, root_place}
 use Rattle.tla_tree.specs.TreeOf.{trees_from}
-use Rattle.tla_value.specs.Value.{Value, Values, truth, text, set, Outcome, ◌>>=◌, and_then, int, model, fun}
-use Rattle.tla_value.specs.Order.{same, IsAscending, IsCanonical}
-use Rattle.tla_value.specs.Stops.{plain, members_at, truth_at}
-use Rattle.tla_value.specs.Meaning.{Env, just, bind, eval, evals, test, first_arm}
+use Rattle.tla_value.specs.Value.{Outcome, ◌>>=◌, and_then}
+use Rattle.tla_value.specs.Stops.{plain, truth_at}
+use Rattle.tla_value.specs.Meaning.{Env, eval, evals, test, first_arm}
 use Rattle.tla_value.specs.Grafts.{owned, through as through_env}
-use Rattle.tla_value.specs.Definitions.{Valuation, Definition, no_state, scope_of}
+use Rattle.tla_value.specs.Definitions.{Definition}
 use Rattle.tla_value.specs.laws.Grafting.{BindsClear}
 use Rattle.tla_value.proofs.Graft.{grafted_law}
 use Rattle.tla_value.proofs.Graft.{free_law}
-use Rattle.module_tree.specs.Formulas.{self, unset_value, function_of_self}
+use Rattle.module_tree.specs.Formulas.{self}
 use Rattle.module_tree.specs.ActionTruth.{Verdict, truth_in}
 use Rattle.module_tree.specs.ModuleTruth.{all_hold}
-use Rattle.pcal_tree.specs.Algorithm.{Start, unset, equals, among, Routine, Naming, Algorithm}
-use Rattle.pcal_tree.specs.Scope.{State, value_of}
-use Rattle.pcal_tree.specs.Program.{Program, Actor, routine_scope, global_scope}
-use Rattle.pcal_tree.specs.Calls.{defaultInitValue}
-use Rattle.pcal_tree.specs.InitialStates.{function_on, has_members, spread_allowed, values_for}
+use Rattle.pcal_tree.specs.Algorithm.{Routine}
+use Rattle.pcal_tree.specs.Scope.{State}
+use Rattle.pcal_tree.specs.Program.{Program, Actor, routine_scope}
 use Rattle.pcal_tree.specs.Takers.{Taken, Takers, each_of, single, lone}
-use Rattle.pcal_tree.specs.Variables.{vars}
 use Rattle.action_builder.specs.WrittenNames.{renames, renamed}
 use Rattle.action_builder.specs.OwnVariables.{is_own_variable}
-use Rattle.action_builder.specs.InitialFormulas.{spread_start, written_in, is_taker, first_pc, arms, pc_value}
-use Rattle.action_builder.specs.laws.Ready.{values_of}
+use Rattle.action_builder.specs.InitialFormulas.{written_in, is_taker, first_pc, arms, pc_value}
 use Rattle.pcal_tree.specs.laws.ReadNames.{Reads}
-use Rattle.action_builder.specs.laws.WrittenScope.{Seen, Common, self_bound, written_scope, definitions_of, NamesApart}
-use Rattle.action_builder.proofs.WrittenScope.{routine_meets, common_agree}
-use Rattle.pcal_tree.proofs.ProcessesInOrder.{id, ids}
-use Rattle.action_builder.proofs.SpreadStarts.{at_each_self, function_is, equal_is, functions_are}
-use Rattle.tla_value.specs.laws.FreeNames.{FreeNames, Any}
-use Rattle.tla_value.proofs.FreeNames.{free_names}
+use Rattle.action_builder.specs.laws.WrittenScope.{Seen, written_scope, NamesApart}
+use Rattle.action_builder.proofs.WrittenScope.{routine_meets}
+use Rattle.tla_value.specs.laws.FreeNames.{Any}
 
 -- ---- an expression with written names
 
@@ -50,66 +41,6 @@ written_expression P extra v u k e n s =
     let W = (written_scope P extra v).env s in
     grafted_law P.check (owned self (is_own_variable P)) (renamed P u e) n.own W (through_env P.check (owned self (is_own_variable P)) W) (record { now = λ x a at. refl; primed = λ x at. refl; defs = λ x a. refl })
     ∙ free_law P.check (renames P u) (Seen P extra u) Any e n.names n.reads _ _ ((routine_meets P extra v u k).env s)
-
--- ---- a variable of many processes, without limits
-
-module _ (constants : Valuation) (outside : List Definition) (a : Algorithm) (names : Naming) (extra : List Definition) (u : Routine) where
-  abbrev P : Program
-  P = record { check = plain; constants = constants; outside = outside; algorithm = a; naming = names }
-
-  abbrev E : State → Env
-  E s = scope_of plain constants (definitions_of P ++ extra) (values_of (vars P) s) no_state
-
-  -- each has an identifier
-  abbrev AllNamed : List Actor → Type 0
-  AllNamed [] = Unit {0}
-  AllNamed (v ∷ vs) = (v.self ≡ Some (id v)) × NamesApart P extra v u × AllNamed vs
-
-  pub each_value : (e : Tree) → IsNamed P extra u e → (s : State) (vs : List Actor) → AllNamed vs → at_each_self (written_in P u e) (E s) vs ≡ values_for P u e s vs
-  each_value e n s [] h = refl
-  each_value e n s (v ∷ vs) h =
-      λ i. ((λ j. (eval plain (written_in P u e) (self_bound (sym h.0 j) (E s))).value) ∙ (λ j. (written_expression P extra v u h.1 e n s j).value)) i
-      >>= (λ w. each_value e n s vs h.2 i >>= (λ ws. Ok (w ∷ ws)))
-
-  same_always : (e : Tree) (w : Value) (s : State) (vs : List Actor) → ((v : Actor) → (eval plain e (bind self (id v) (E s))).value ≡ Ok w) → at_each_self e (E s) vs ≡ Ok (map (λ v. w) vs)
-  same_always e w s [] h = refl
-  same_always e w s (v ∷ vs) h = λ i. h v i >>= (λ y. same_always e w s vs h i >>= (λ ys. Ok (y ∷ ys)))
-
-  then_parts : {X Y : Type 0} (o : Outcome X) (go : X → Outcome Y) (y : Y) → (o >>= go) ≡ Ok y → (x : X) × (o ≡ Ok x) × (go x ≡ Ok y)
-  then_parts (Ok x) go y e = (x, refl, e)
-  then_parts (Err k) go y e = cc
-
-  -- what is asked of a variable's initial value: its names; and a set for all processes is an expression of none of them
-  abbrev pub StartNamed : State → Start → Type 0
-  StartNamed s unset = (v : Actor) → (eval plain unset_value (bind self (id v) (E s))).value ≡ Ok defaultInitValue
-  StartNamed s (equals e) = IsNamed P extra u e
-  StartNamed s (among e) = FreeNames (Common P extra) Any e
-
-  -- S has just these processes' identifiers, of which there is one at least where a set for all of them is asked for
-  pub spread_is : (w : Actor) → NamesApart P extra w u → (S : Tree) (s : State) (vs : List Actor) → AllNamed vs → (eval plain S (E s)).value ≡ Ok (set (ids vs)) → IsAscending (ids vs)
-      → (x : Word) (f : Value) → IsCanonical f → (E s).now x nowhere ≡ just f → (d : Start) → StartNamed s d → (at : Place) (b : Bool)
-      → spread_allowed P u vs at d s f ≡ Ok b → truth_in plain (E s) (spread_start (written_in P u) S x d) ≡ Ok b
-  spread_is w0 k0 S s vs h q up x f c r unset n at b e =
-      equal_is x (function_of_self S unset_value) (E s) f (function_on vs (map (λ v. defaultInitValue) vs)) r
-      (function_is S unset_value (E s) vs (map (λ v. defaultInitValue) vs) q up (same_always unset_value defaultInitValue s vs n)) ∙ e
-  spread_is w0 k0 S s vs h q up x f c r (equals t) n at b e =
-      let (ws, d, g) = then_parts (values_for P u t s vs) (λ ws. Ok (same f (function_on vs ws))) b e in
-      equal_is x (function_of_self S (written_in P u t)) (E s) f (function_on vs ws) r (function_is S (written_in P u t) (E s) vs ws q up (each_value t n s vs h ∙ d)) ∙ g
-  spread_is w0 k0 S s vs h q up x f c r (among t) n at b e =
-      let (w, d, g) = then_parts (value_of plain t (global_scope P) s) (λ w. members_at at w >>= (λ ws. Ok (has_members (ids vs) ws f))) b e in
-      let (ws, j, k) = then_parts (members_at at w) (λ ws. Ok (has_members (ids vs) ws f)) b g in
-      functions_are x S t (E s) f f (ids vs) ws c r q (sym (global_value s t n) ∙ d ∙ ap (λ z. Ok z) (is_set at w ws j)) ∙ k
-    where
-      global_value : (s : State) (t : Tree) → FreeNames (Common P extra) Any t → value_of plain t (global_scope P) s ≡ (eval plain t (E s)).value
-      global_value s t n = λ i. (free_names plain (Common P extra) Any t n _ _ (common_agree P extra w0 u k0 s) i).value
-
-      is_set : (at : Place) (w : Value) (ws : Values) → members_at at w ≡ Ok ws → w ≡ set ws
-      is_set at (set vs) ws e = ap (λ (o : Outcome Values). elim o [ Ok x ↦ set x | Err k ↦ set ws ]) e
-      is_set at (truth b) ws e = cc
-      is_set at (int z) ws e = cc
-      is_set at (text w) ws e = cc
-      is_set at (model w) ws e = cc
-      is_set at (fun ds us) ws e = cc
 
 -- ---- pc
 

@@ -27,7 +27,7 @@ use Rattle.fairness.proofs.TestsOfLabels.{guard_leaves_out}
 
 -- ---- what is reached has another number
 
-numbered_below : (n : ℕ) (ps : List Procedure) (u : Routine) → OneOf u (numbered procedure_routine n ps) → u.number < n + length ps
+pub numbered_below : (n : ℕ) (ps : List Procedure) (u : Routine) → OneOf u (numbered procedure_routine n ps) → u.number < n + length ps
 numbered_below n [] u h = absurd h
 numbered_below n (p ∷ ps) u (inl e) = subst (λ k. k < n + suc (length ps)) (sym (ap (λ v. v.number) e)) (omega arith)
 numbered_below n (p ∷ ps) u (inr h) = let b = numbered_below (suc n) ps u h in omega arith
@@ -41,7 +41,7 @@ filtered f x (y ∷ ys) h = by (f y) (filtered f x ys) h
     by true ih (inr k) = inr (ih k)
     by false ih k = inr (ih k)
 
-reached_some : (n : ℕ) (a : Algorithm) (u v : Routine) → OneOf v (reached_within n a u) → OneOf v (procedure_routines a)
+pub reached_some : (n : ℕ) (a : Algorithm) (u v : Routine) → OneOf v (reached_within n a u) → OneOf v (procedure_routines a)
 reached_some zero a u v h = absurd h
 reached_some (suc n) a u v h = filtered _ v (procedure_routines a) h
 

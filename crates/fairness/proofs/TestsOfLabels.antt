@@ -5,7 +5,7 @@ use Rattle.std.proofs.lemmas.Map.Text.{is_eq-slice_cmp}
 use Rattle.tla_token.specs.Places.{nowhere}
 use Rattle.tla_token.specs.Signs.{is_among}
 use Rattle.tla_tree.specs.Tree.{Word, Tree, set_of}
-use Rattle.tla_value.specs.Value.{truth, text, values_in, ◌>>=◌}
+use Rattle.tla_value.specs.Value.{Value, truth, text, values_in, ◌>>=◌}
 use Rattle.tla_value.specs.Order.{same, holds}
 use Rattle.tla_value.specs.OrderLaws.{same_equivalence}
 use Rattle.tla_value.specs.Stops.{plain}
@@ -30,15 +30,15 @@ quoted_values : (xs : List Word) (env : Env) → part_values (evals plain (trees
 quoted_values [] env = refl
 quoted_values (x ∷ xs) env = ap (λ o. o >>= (λ vs. Ok (text x ∷ vs))) (quoted_values xs env)
 
--- the members of a set of strings are tested by their bytes
-quoted_test : (xs : List Word) (env : Env) (l : Word) → (eval plain (set (map quoted xs)) env).test nowhere (text l) ≡ Ok (is_among xs l)
-quoted_test xs env l = (λ i. quoted_values xs env i >>= strict_test plain set_of nowhere nowhere (text l)) ∙ ap Ok (holds_set_from (text l) (map text xs) ∙ held xs l)
+-- a value is tested by the members of a set of strings
+quoted_test : (xs : List Word) (env : Env) (w : Value) → (eval plain (set (map quoted xs)) env).test nowhere w ≡ Ok (holds w (values_in (map text xs)))
+quoted_test xs env w = (λ i. quoted_values xs env i >>= strict_test plain set_of nowhere nowhere w) ∙ ap Ok (holds_set_from w (map text xs))
 
-tested_among : (e : Tree) (xs : List Word) (env : Env) (l : Word) → (eval plain e env).value ≡ Ok (text l) → (eval plain (is_in false e (set (map quoted xs))) env).value ≡ Ok (truth (not (is_among xs l)))
-tested_among e xs env l at_l =
-    (λ i. at_l i >>= (λ v. (eval plain (set (map quoted xs)) env).test nowhere v >>= (λ b. Ok (truth (same_truth false b)))))
-    ∙ (λ i. quoted_test xs env l i >>= (λ b. Ok (truth (same_truth false b))))
+pub tested : (e : Tree) (xs : List Word) (env : Env) (w : Value) → (eval plain e env).value ≡ Ok w → (eval plain (is_in false e (set (map quoted xs))) env).value ≡ Ok (truth (not (holds w (values_in (map text xs)))))
+tested e xs env w is =
+    (λ i. is i >>= (λ v. (eval plain (set (map quoted xs)) env).test nowhere v >>= (λ b. Ok (truth (same_truth false b)))))
+    ∙ (λ i. quoted_test xs env w i >>= (λ b. Ok (truth (same_truth false b))))
 
 pub guard_leaves_out : (t : Takers) (xs : List Word) → LeavesOut (identifier_of t) xs (guard_of t xs)
 guard_leaves_out t [] env l at_l = refl
-guard_leaves_out t (x ∷ xs) env l at_l = tested_among (at (named pc) (identifier_of t)) (x ∷ xs) env l at_l
+guard_leaves_out t (x ∷ xs) env l at_l = tested (at (named pc) (identifier_of t)) (x ∷ xs) env (text l) at_l ∙ ap (λ b. Ok (truth (not b))) (held (x ∷ xs) l)

@@ -10,10 +10,10 @@ use Rattle.tla_token.specs.Offences.{Offence, or_earlier, least}
 use Rattle.tla_tree.proofs.StopLaws.{longer}
 use Rattle.pcal_tree.specs.Offences.{is_before, is_sooner, sooner, first}
 use Rattle.pcal_tree.proofs.FirstLaws.{same_first}
-use Rattle.pcal_tree.proofs.RebindNames.{or_turned}
 use Rattle.module_tree.specs.TextFront.{Text}
 use Rattle.module_tree.proofs.WalkPlace.{after_both}
 use Rattle.algorithm_answer.specs.TokensRefused.{placed}
+use Rattle.tla_value.proofs.OrderSets.{either_swap}
 
 -- ---- places go up
 
@@ -116,7 +116,7 @@ first_of_least x ((r, at) ∷ os) = ap (λ (q : Option Refusal). Some (sooner t 
     of_two : (q : Rule) (n : ℕ) (k : Bool) → Before (rule_number q) (rule_number r) (nat_lt n at) ≡ k → Some (sooner t (Some (told x (q, n)))) ≡ Some (told x (cond k (q, n) (r, at)))
     of_two q n true e =
         let u = told x (q, n) in
-        same_first (t ∷ u ∷ []) (u ∷ t ∷ []) (λ f. or_turned (f t) (f u) false) ∙ ap (λ (b : Bool). Some (cond b t u)) (later_than x (q, n) (r, at) e)
+        same_first (t ∷ u ∷ []) (u ∷ t ∷ []) (λ f. either_swap (f t) (f u) false) ∙ ap (λ (b : Bool). Some (cond b t u)) (later_than x (q, n) (r, at) e)
     of_two q n false e = ap (λ (b : Bool). Some (cond b (told x (q, n)) t)) (no_sooner x (q, n) (r, at) e)
 
     by : (m : Option Offence) → Some (sooner t (told_of x m)) ≡ told_of x (or_earlier (r, at) m)

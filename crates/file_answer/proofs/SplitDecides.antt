@@ -21,7 +21,6 @@ use Rattle.tla_token.specs.AlgorithmOffences.{left_out, number_offences, too_man
 use Rattle.pcal_tree.specs.Offences.{first}
 use Rattle.pcal_tree.proofs.FirstLaws.{Below, same_first, lesser_first}
 use Rattle.pcal_tree.proofs.SetLaws.{Same}
-use Rattle.pcal_tree.proofs.RebindNames.{or_turned}
 use Rattle.module_tree.specs.TextFront.{Text}
 use Rattle.module_tree.specs.AlgorithmText.{IndexedPart, AlgorithmText, algorithm_in, algorithm_tokens}
 use Rattle.module_tree.specs.Walk.{walk}
@@ -37,6 +36,7 @@ use Rattle.file_answer.proofs.OneAnswer.{asked, asked_alone, some_answer}
 use Rattle.file_answer.proofs.Unrefused.{if_all, left_all, many_all, rules_asked, positive}
 use Rattle.file_answer.proofs.Decided.{is_asked_of, all_up, in_text_asked, read_all}
 use Rattle.file_answer.proofs.PlaceOrder.{told, first_told}
+use Rattle.tla_value.proofs.OrderSets.{either_swap}
 
 -- ---- the rules 1 to 10 are 1 to 4 and 5 to 10
 
@@ -85,7 +85,7 @@ in_halves x (o ∷ os) f = by (nat_le n 4) refl (nat_le n 10) refl (in_halves x 
         let above : 4 < n = leb-false n 4 i in
         whole true false true j (and_right (nat_le 1 n) (nat_le n 4) i) (and_from (nat_le 5 n) (nat_le n 10) (le-leb 5 n (omega (arith, above))) j) (
         ap (λ (b : Bool). f t || b) (h ∙ list_any-append f (placed x low) (placed x high))
-        ∙ or_turned (f t) (list_any f (placed x low)) (list_any f (placed x high))
+        ∙ either_swap (f t) (list_any f (placed x low)) (list_any f (placed x high))
         ∙ sym (list_any-append f (placed x low) (t ∷ placed x high))
         )
     by false i false j h = whole false false false j (and_right (nat_le 1 n) (nat_le n 4) i) (and_right (nat_le 5 n) (nat_le n 10) j) h

@@ -17,6 +17,7 @@ use Rattle.module_tree.proofs.AlgorithmTokens.{Ends, are_plain, large_parts, pla
 use Rattle.module_tree.proofs.AlgorithmFound.{opened, made_there}
 use Rattle.module_tree.proofs.AlgorithmIsCut.{Placed}
 use Rattle.module_tree.proofs.AlgorithmSame.{opened_at, at_comment}
+use Rattle.std.specs.Cmp.{both_ways}
 
 -- each from where the one before it ends, up to an end
 abbrev pub InRow : ℕ → ℕ → List IndexedPart → Type 0
@@ -125,21 +126,15 @@ row_ends n e (p ∷ ps) (q ∷ qs) h s =
     sum : (a b c d : ℕ) → a ≡ b → d ≡ b + c → n + a + c ≡ n + d
     sum a b c d e f = omega arith
 
-same_test : (x y : Bool) → (x ≡ true → y ≡ true) → (y ≡ true → x ≡ true) → x ≡ y
-same_test true true f g = refl
-same_test true false f g = sym (f refl)
-same_test false true f g = g refl
-same_test false false f g = refl
-
 same_le : (a b k l n m : ℕ) → a + m ≡ b + n → k + m ≡ l + n → nat_le a k ≡ nat_le b l
 same_le a b k l n m e f =
-    same_test (nat_le a k) (nat_le b l)
+    both_ways (nat_le a k) (nat_le b l)
     (λ h. (let g = leb-true a k h in le-leb b l (omega (arith, e, f, g))))
     (λ h. (let g = leb-true b l h in le-leb a k (omega (arith, e, f, g))))
 
 same_lt : (a b k l n m : ℕ) → a + m ≡ b + n → k + m ≡ l + n → nat_lt k a ≡ nat_lt l b
 same_lt a b k l n m e f =
-    same_test (nat_lt k a) (nat_lt l b)
+    both_ways (nat_lt k a) (nat_lt l b)
     (λ h. (let g = ltb-true k a h in lt-ltb l b (omega (arith, e, f, g))))
     (λ h. (let g = ltb-true l b h in lt-ltb k a (omega (arith, e, f, g))))
 

@@ -36,14 +36,11 @@ in_front_some None p w e = absurd cc
 more_mark : (b : ℕ) (v : Text) → holds_mark v ≡ true → holds_mark (b ∷ v) ≡ true
 more_mark b v h = or_right (starts_with nat_eq (b ∷ v) (codes "(*") || starts_with nat_eq (b ∷ v) (codes "*)")) (holds_mark v) h
 
-some_is : {A : Type 0} {x y : A} → Some x ≡ Some y → x ≡ y
-some_is e = cc
-
 mark_first : (v w : Text) (o : Option Text) → unquoted v ≡ o → unquoted (42 ∷ 41 ∷ v) ≡ Some w → holds_mark w ≡ true
 mark_first v w None o e = (let f : None ≡ Some w = rw o at e in absurd (none-some w f))
 mark_first v w (Some z) o e =
     let f : Some (42 ∷ 41 ∷ z) ≡ Some w = rw o at e in
-    subst (λ (w : Text). holds_mark w ≡ true) (some_is f) refl
+    subst (λ (w : Text). holds_mark w ≡ true) (same_Some _ _ f) refl
 
 mutual
   marked : (u v w : Text) → unquoted (u ++ 42 ∷ 41 ∷ v) ≡ Some w → holds_mark w ≡ true

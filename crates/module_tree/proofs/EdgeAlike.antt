@@ -2,7 +2,7 @@
 use Rattle.std.proofs.Common.{◌≡◌, ℕ, ◌&&◌, Bool, true, false, not, nat_eq, List, [], ◌∷◌, ◌++◌, length, drop, Option, Some, None, refl, sym, ap, ◌∙◌, codes, find}
 use Rattle.std.specs.Prelude.{if◌then◌else◌, is_some}
 use Rattle.std.specs.List.{starts_with, list_all, list_any}
-use Rattle.std.proofs.lemmas.Bool.{and_parts}
+use Rattle.std.proofs.lemmas.Bool.{and_parts, not-true}
 use Rattle.tla_token.specs.declared.sign.Sign.{Sign}
 use Rattle.tla_token.specs.declared.sign.Sign.TheVariants as sign
 use Rattle.tla_token.specs.Signs.{spellings, all_signs}
@@ -53,10 +53,6 @@ Both c p q _ _ = ⊥
 pub never_some : {A : Type 0} (x : A) → None ≡ Some x → ⊥
 never_some x e = cc
 
-pub not_true : (k : Bool) → not k ≡ true → k ≡ false
-not_true true e = cc
-not_true false e = refl
-
 abbrev title_by : Text → Text → Option Text
 title_by n r = if ends_line (past_all is_space r) then Some (run is_word n) else None
 
@@ -71,13 +67,13 @@ module _ (c : ℕ) where
 
   pub begins_alike : (p q l w : Text) → lacks c w ≡ true → begins (l ++ c ∷ p) w ≡ begins (l ++ c ∷ q) w
   begins_alike p q l [] h = refl
-  begins_alike p q [] (d ∷ w) h = rw (not_true (nat_eq d c) (and_parts (not (nat_eq d c)) (lacks c w) h).0) refl
+  begins_alike p q [] (d ∷ w) h = rw (not-true (nat_eq d c) (and_parts (not (nat_eq d c)) (lacks c w) h).0) refl
   begins_alike p q (b ∷ l) (d ∷ w) h = rw (begins_alike p q l w (and_parts (not (nat_eq d c)) (lacks c w) h).1) refl
 
   pub drop_alike : (p q l w : Text) → lacks c w ≡ true → begins (l ++ c ∷ p) w ≡ true → Alike c p q (drop (length w) (l ++ c ∷ p)) (drop (length w) (l ++ c ∷ q))
   drop_alike p q l [] h e = (l, refl, refl)
   drop_alike p q [] (d ∷ w) h e =
-      let no = not_true (nat_eq d c) (and_parts (not (nat_eq d c)) (lacks c w) h).0 in
+      let no = not-true (nat_eq d c) (and_parts (not (nat_eq d c)) (lacks c w) h).0 in
       let yes = (and_parts (nat_eq d c) (begins p w) e).0 in
       let x : true ≡ false = sym yes ∙ no in absurd cc
   drop_alike p q (b ∷ l) (d ∷ w) h e = drop_alike p q l w (and_parts (not (nat_eq d c)) (lacks c w) h).1 (and_parts (nat_eq d b) (begins (l ++ c ∷ p) w) e).1
@@ -225,7 +221,7 @@ module _ (c : ℕ) (edge : Edge c) where
   pub begins_last : (p q l w : Text) → only_last c w ≡ true → begins (l ++ c ∷ p) w ≡ begins (l ++ c ∷ q) w
   begins_last p q l [] h = refl
   begins_last p q [] (d ∷ []) h = refl
-  begins_last p q [] (d ∷ f ∷ w) h = rw (not_true (nat_eq d c) (and_parts (not (nat_eq d c)) (only_last c (f ∷ w)) h).0) refl
+  begins_last p q [] (d ∷ f ∷ w) h = rw (not-true (nat_eq d c) (and_parts (not (nat_eq d c)) (only_last c (f ∷ w)) h).0) refl
   begins_last p q (b ∷ l) (d ∷ []) h = refl
   begins_last p q (b ∷ l) (d ∷ f ∷ w) h = rw (begins_last p q l (f ∷ w) (and_parts (not (nat_eq d c)) (only_last c (f ∷ w)) h).1) refl
 

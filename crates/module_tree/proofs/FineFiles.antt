@@ -233,7 +233,3 @@ fine x a e is small =
 -- where there is no algorithm there are no numbers of it
 pub fine_without : (x : Text) → splitting_offences x ≡ [] → algorithm_in x ≡ None → file_offences x ≡ []
 fine_without x e is = fine_by x e (λ s. ap algorithm_offences is)
-
--- none of those by which it is refused is left where there are none at all
-pub spared : (x : Text) → file_offences x ≡ [] → splitting_offences x ≡ []
-spared x e = ap (λ (os : List Offence). filter is_splitting os) e

@@ -82,9 +82,6 @@ module _ (b : ℕ) (f p q : Text) where
   opening_both : Both 45 (45 ∷ p) (45 ∷ q) (past_opening x) (past_opening y)
   opening_both = by (is_fair x) refl
     where
-      rest_after : Text → Option Text
-      rest_after r = past_word (codes "algorithm") (past_all is_blank r)
-
       by : (k : Bool) → is_fair x ≡ k → Both 45 (45 ∷ p) (45 ∷ q) (past_opening x) (past_opening y)
       by true k =
           let there : is_fair y ≡ true = sym fair_same ∙ k in

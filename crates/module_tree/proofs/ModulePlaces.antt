@@ -44,7 +44,7 @@ form_twice (local_form xs) = ap local_form (names_twice xs)
 form_twice m = refl
 
 mutual
-  tree_twice : (t : Tree) → tree_placeless (tree_placeless t) ≡ tree_placeless t
+  pub tree_twice : (t : Tree) → tree_placeless (tree_placeless t) ≡ tree_placeless t
   tree_twice (node m at ts) = λ i. node (form_twice m i) nowhere (trees_twice ts i)
 
   trees_twice : (ts : Trees) → trees_placeless (trees_placeless ts) ≡ trees_placeless ts

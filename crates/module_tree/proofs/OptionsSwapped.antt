@@ -207,10 +207,6 @@ some_is : {A : Type 0} (o : Option A) → is_some o ≡ true → (a : A) × (o �
 some_is (Some a) e = (a, refl)
 some_is None e = absurd cc
 
-neither_some : {A : Type 0} (o : Option A) → is_some o ≡ false → o ≡ None
-neither_some (Some a) e = absurd cc
-neither_some None e = refl
-
 region_is : (g : Segment) → is_region g ≡ true → (v : Text) × (w : Text) × (g ≡ region v w)
 region_is (region v w) h = (v, w, refl)
 region_is g h = absurd cc

@@ -2,7 +2,7 @@
 use Rattle.std.proofs.Common.{◌≡◌, ℕ, ◌+◌, Bool, true, false, not, ◌||◌, List, [], ◌∷◌, ◌++◌, length, take, drop, Option, Some, refl, sym, ap, ◌∙◌, arith, find, codes, append_assoc, length-append}
 use Rattle.std.specs.Prelude.{if◌then◌else◌, is_some}
 use Rattle.std.specs.List.{list_all}
-use Rattle.std.proofs.lemmas.Bool.{and_parts, and_from}
+use Rattle.std.proofs.lemmas.Bool.{and_parts, and_from, not-true}
 use Rattle.std.proofs.Math.Seq.{take-append_seam, drop-append_seam}
 use Rattle.module_tree.specs.TextFront.{Text}
 use Rattle.module_tree.specs.Walk.{bytes, is_region, State, after_segment, Located, walk, at_start}
@@ -31,11 +31,7 @@ pub found_after : (ds es : List Located) (d : Located) → no_regions ds ≡ tru
 found_after [] es d n h = rw h refl
 found_after (c ∷ ds) es d n h =
     let p = and_parts (not (is_region c.is)) (no_regions ds) n in
-    rw (not_true (is_region c.is) p.0, found_after ds es d p.1 h) refl
-  where
-    not_true : (k : Bool) → not k ≡ true → k ≡ false
-    not_true true e = cc
-    not_true false e = refl
+    rw (not-true (is_region c.is) p.0, found_after ds es d p.1 h) refl
 
 pub at_after : (st : State) (ds : List Located) → (after_all st ds).at ≡ st.at + length (text_of ds)
 at_after st [] = omega arith

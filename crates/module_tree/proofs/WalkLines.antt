@@ -8,7 +8,7 @@ use Rattle.tla_token.specs.Cut.{string_part}
 use Rattle.module_tree.specs.ModuleParts.{barred}
 use Rattle.module_tree.proofs.EdgeAlike.{lacks, at_newline}
 use Rattle.module_tree.proofs.EdgeAlike as edge
-pub use Rattle.module_tree.proofs.EdgeAlike.{never_some, not_true}
+pub use Rattle.module_tree.proofs.EdgeAlike.{never_some}
 
 -- two texts that are one up to a newline, after which p stands in the one and q in the other
 abbrev pub Alike : Text → Text → Text → Text → Type 0

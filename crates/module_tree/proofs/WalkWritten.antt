@@ -9,7 +9,8 @@ use Rattle.module_tree.specs.HeaderAndRegion.{is_end}
 use Rattle.module_tree.specs.Walk.{Segment, region, bytes, State, at_end_line, segment_at, after_segment, Located, walk_from, walk, at_start}
 use Rattle.module_tree.specs.WithTranslation.{begin_line, end_line}
 use Rattle.module_tree.specs.laws.Walks.{is_lined, are_calm, IsOpen, IsInside, made, after_text, located}
-use Rattle.module_tree.proofs.WalkLines.{unlined, end_alike, never_some, not_true}
+use Rattle.module_tree.proofs.WalkLines.{unlined, end_alike, never_some}
+use Rattle.std.proofs.lemmas.Bool.{not-true}
 use Rattle.module_tree.proofs.WalkWhole.{walk_over}
 use Rattle.module_tree.proofs.WalkResumed.{newline, keep, resumed}
 
@@ -52,7 +53,7 @@ end_after_line : (m s v w : Text) → unlined m ≡ true → at_end_line true s 
 end_after_line [] s v w h e = rw e refl
 end_after_line (b ∷ m) s v w h e =
     let c = and_parts (not (nat_eq b 10)) (unlined m) h in
-    rw (not_true (nat_eq b 10) c.0, end_after_line m s v w c.1 e) refl
+    rw (not-true (nat_eq b 10) c.0, end_after_line m s v w c.1 e) refl
 
 abbrev begin_word : Text
 begin_word = codes "\\* BEGIN TRANSLATION"

@@ -61,8 +61,5 @@ kept = record {
   before_phrase = λ t ts f so. after t.kind t.place ts (begins_on ts f) so;
 }
 
-pub starts_one : (x : Phrase) (ts : List Token) → first_ends (spell x ts) ≡ false
-starts_one x ts = begins_on (spell x ts) (phrase_begins x ts)
-
 pub keeps_one : (x : Phrase) (ts : List Token) → Sound ts → Sound (spell x ts)
 keeps_one x ts h = (keep kept x).keeps ts h

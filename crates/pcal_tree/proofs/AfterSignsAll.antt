@@ -77,9 +77,6 @@ mutual
   starts_c_statement (csyntax.while p q e r a) ts = refl
   starts_c_statement (csyntax.compound p ss q) ts = refl
 
-  starts_c_labelled_tokens : (x : csyntax.Labelled) (ts : List Token) → first_ends (csyntax.labelled_tokens x ts) ≡ false
-  starts_c_labelled_tokens (csyntax.labelled ls st) ts = starts_labels ls (csyntax.statement st ts) (starts_c_statement st ts)
-
 mutual
   keeps_c_statement : (x : csyntax.Statement) (ts : List Token) → Sound ts → Sound (csyntax.statement x ts)
   keeps_c_statement (csyntax.simple s) ts so = (keep_simple_tokens kept s).keeps ts so

@@ -53,7 +53,7 @@ expand_or X None p = refl
 abbrev pub WrittenBare : Writing → (Word → Trees → Type 0) → Type 0
 WrittenBare X P = (at : Span) (m : Word) (ts : Trees) → P m ts → BeginsUnlabelled (X at m ts) × Bare (X at m ts)
 
-opens_one : (X : Writing) (P : Word → Trees → Type 0) → WrittenBare X P → (at : Span) (st : Statement) (rest : Statements) → CallsOne P st → BeginsUnlabelled (expand_one X at st rest)
+pub opens_one : (X : Writing) (P : Word → Trees → Type 0) → WrittenBare X P → (at : Span) (st : Statement) (rest : Statements) → CallsOne P st → BeginsUnlabelled (expand_one X at st rest)
 opens_one X P w at (macro m ts) rest h = opens_joined (X at m ts) rest (w at m ts h).0
 opens_one X P w at st rest h = tt
 

@@ -25,6 +25,7 @@ use Rattle.tla_value.specs.StandardModules.{is_member, is_last}
 use Rattle.std.specs.Prelude.{nat_eq, length}
 use Rattle.tla_token.specs.declared.rule.Rule.TheVariants.{Arity}
 use Rattle.pcal_tree.proofs.ClearLabels.{both_none}
+use Rattle.pcal_tree.proofs.GraftsRead.{tree_wider}
 
 -- ---- two facts throughout
 
@@ -77,27 +78,8 @@ module _ (F G : Form → Place → Type 0) (N M : Word → Type 0) where
 
 -- ---- free names weaker
 
-pub also_weaker : (N N' : Word → Type 0) → ((y : Word) → N y → N' y) → (xs : List Word) (y : Word) → Also xs N y → Also xs N' y
-also_weaker N N' h [] y k = h y k
-also_weaker N N' h (x ∷ xs) y k = also_weaker (Or x N) (Or x N') or_weaker xs y k
-  where
-    or_weaker : (z : Word) → Or x N z → Or x N' z
-    or_weaker z (inl e) = inl e
-    or_weaker z (inr n) = inr (h z n)
-
-reads_weaker : (N N' : Word → Type 0) → ((y : Word) → N y → N' y) → (m : Form) → FormReads N Any m → FormReads N' Any m
-reads_weaker N N' h (name x) k = h x k
-reads_weaker N N' h (operator_call f) k = tt
-reads_weaker N N' h m k = tt
-
-mutual
-  pub free_weaker : (N N' : Word → Type 0) → ((y : Word) → N y → N' y) → (t : Tree) → FreeNames N Any t → FreeNames N' Any t
-  free_weaker N N' h (node m at ts) k = (reads_weaker N N' h m k.0, parts_weaker N N' h (seen_names m) ts k.1)
-
-  parts_weaker : (N N' : Word → Type 0) → ((y : Word) → N y → N' y) → (names : List (List Word)) (ts : Trees) → FreeInParts N Any names ts → FreeInParts N' Any names ts
-  parts_weaker N N' h names no_trees k = tt
-  parts_weaker N N' h [] (tree t ts) k = (free_weaker N N' h t k.0, parts_weaker N N' h [] ts k.1)
-  parts_weaker N N' h (xs ∷ names) (tree t ts) k = (free_weaker (Also xs N) (Also xs N') (also_weaker N N' h xs) t k.0, parts_weaker N N' h names ts k.1)
+pub free_weaker : (N N' : Word → Type 0) → ((y : Word) → N y → N' y) → (t : Tree) → FreeNames N Any t → FreeNames N' Any t
+free_weaker N N' h t k = tree_wider N N' Any h t k
 
 -- ---- names that are used as they may be
 
@@ -112,7 +94,7 @@ not_if : (b : Bool) (r : Rule) (at : Place) → offence_if (not b) r at ≡ [] �
 not_if true r at e = refl
 not_if false r at e = cc
 
-usable_is : (u : Option Use) (n : ℕ) (right : Bool) (at : Place) → applied_offences u n right at ≡ [] → Usable u
+pub usable_is : (u : Option Use) (n : ℕ) (right : Bool) (at : Place) → applied_offences u n right at ≡ [] → Usable u
 usable_is None n right at e = cc
 usable_is (Some unread) n right at e = cc
 usable_is (Some (standard d extended)) n right at e =
@@ -131,7 +113,7 @@ pub in_also : (N : Word → Type 0) (xs : List Word) (y : Word) → N y → Also
 in_also N [] y h = h
 in_also N (x ∷ xs) y h = in_also (Or x N) xs y (inr h)
 
-among_also : (N : Word → Type 0) (xs : List Word) (y : Word) → is_among xs y ≡ true → Also xs N y
+pub among_also : (N : Word → Type 0) (xs : List Word) (y : Word) → is_among xs y ≡ true → Also xs N y
 among_also N [] y e = cc
 among_also N (x ∷ xs) y e = by (bytes_eq x y) refl (among_also (Or x N) xs y)
   where
@@ -237,14 +219,6 @@ module _ (ext : List Word) (ps : List Procedure) where
   kept_named : (xs : List Word) (a : Around) (y : Word) → Kept a y → Kept (around_all (naming xs) a) y
   kept_named xs a y (inl e) = inl (some_named xs a y e)
   kept_named xs a y (inr e) = inr e
-
-  -- with more names bound
-  sees_named : (xs : List Word) (s : Sight) (a : Around) → Sees s (Kept a) → Sees (seeing_plain xs s) (Kept (around_all (naming xs) a))
-  sees_named xs s a h y u = by (is_among xs y) refl (subst Usable (seen_besides xs s y) u)
-    where
-      by : (b : Bool) → is_among xs y ≡ b → Usable (cond b (Some (takes 0)) (use_of s y)) → Kept (around_all (naming xs) a) y
-      by true q k = inl (named_some xs a y q)
-      by false q k = kept_named xs a y (h y k)
 
   -- ---- what a body binds
 

@@ -50,9 +50,8 @@ variables_of us = length (flat_map (λ (u : Routine). names_of (locals u)) us)
 abbrev labels_of : List Routine → ℕ
 labels_of us = length (flat_map (λ (u : Routine). labels false u.body) us)
 
-wants_count : (n : ℕ) (r : Role) (ws : List Word) → length (wants n r ws) ≡ length ws
-wants_count n r [] = refl
-wants_count n r (w ∷ ws) = ap suc (wants_count n r ws)
+pub wants_count : (n : ℕ) (r : Role) (ws : List Word) → length (wants n r ws) ≡ length ws
+wants_count n r ws = length-map ws (λ (w : Word). record { unit = n; role = r; word = w })
 
 within_count : (u : Routine) → length (wanted_within u) ≡ length (names_of (locals u)) + length (labels false u.body)
 within_count u =

@@ -14,7 +14,7 @@ use Rattle.pcal_tree.specs.OpenForms.{opens}
 use Rattle.pcal_tree.specs.OffencesSyntax.{algorithms}
 use Rattle.pcal_tree.specs.laws.DeepForms.{bracket, assigned, head_word, Head, is_inner, is_last, FineHead, heads, is_before}
 use Rattle.pcal_tree.proofs.HeadWalks.{Behind, other, naming, head, closed, is_head, is_close, is_end, by_word, by_close, next, Deeper, Nests}
-use Rattle.pcal_tree.proofs.OpenWalks.{expressions_of, statements_of}
+use Rattle.pcal_tree.proofs.OpenWalks.{expressions_of, statements_of, close_step}
 use Rattle.pcal_tree.proofs.OpenWalksAll.{walks}
 use Rattle.pcal_tree.proofs.OpensLaws.{as_many_opens}
 
@@ -152,10 +152,6 @@ inner_step (tk.number i) n m h = refl
 inner_step (tk.sign o) n m h = refl
 inner_step (tk.mark tk.open_bracket) n m h = refl
 inner_step k n m h = absurd cc
-
-close_step : (a : Bool) (n : ℕ) (s : Behind) → a ≡ true → by_close a n s ≡ closed n
-close_step true n s h = refl
-close_step false n s h = absurd cc
 
 last_step : (k : TokenView) (n m : ℕ) → is_last k ≡ true → next (head n) k m ≡ closed n
 last_step (tk.reserved w) n m h = close_step (is_close w) n (by_word (is_head w) (is_end w) m) h

@@ -187,7 +187,7 @@ mutual
 
 -- ---- the macros
 
-opens_graft : (g : Graft) (ss : Statements) → BeginsUnlabelled ss → BeginsUnlabelled (graft_all g ss)
+pub opens_graft : (g : Graft) (ss : Statements) → BeginsUnlabelled ss → BeginsUnlabelled (graft_all g ss)
 opens_graft g done h = absurd h
 opens_graft g (then at st rest) h = tt
 opens_graft g (mark l k rest) h = absurd h

@@ -150,7 +150,7 @@ graft_partner_one : (g : Graft) (at : Span) (st : Statement) (r s : Statements) 
 graft_partner_one g at return r s = refl
 graft_partner_one g at st r s = refl
 
-graft_partner : (g : Graft) (ss : Statements) → partner_of (graft_all g ss) ≡ partner_of ss
+pub graft_partner : (g : Graft) (ss : Statements) → partner_of (graft_all g ss) ≡ partner_of ss
 graft_partner g done = refl
 graft_partner g (then at st rest) = graft_partner_one g at st (graft_all g rest) rest
 graft_partner g (mark l m rest) = refl

@@ -7,6 +7,7 @@ use Rattle.tla_tree.specs.Lexical as tk
 use Rattle.tla_tree.specs.FirstStop.{Look, looks}
 use Rattle.pcal_tree.proofs.ExpressionTokens.{is_first, begins_phrase}
 use Rattle.pcal_tree.proofs.FieldWords.{introduces, fits, Named}
+use Rattle.std.proofs.lemmas.Bool.{both_ways}
 
 -- what is known where a token comes
 pub data Behind : Type 0 where
@@ -79,10 +80,6 @@ Stands h b (closed m) = (b ≡ false) × (h ≡ Some m)
 stands_if : (h : Option ℕ) (b : Bool) → Stands h b (naming_if b)
 stands_if h true = refl
 stands_if h false = refl
-
-both_ways : (b : Bool) → b ≡ false → b ≡ true → ⊥
-both_ways true e f = cc
-both_ways false e f = cc
 
 step : (h : Option ℕ) (b : Bool) (s : Behind) (k : TokenView) (n : ℕ) → Stands h b s → fits k b ≡ true → Deeper s k n × Stands h (introduces k) (next s k n)
 step h b other (tk.reserved w) n p f = absurd (both_ways b p f)

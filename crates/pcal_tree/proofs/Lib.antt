@@ -91,6 +91,7 @@ pub mod InMemoryEach
 mod RowsInMemory
 pub mod StatementHeights
 pub mod NothingCaptured
+pub mod GraftsRead
 pub mod CallsFine
 pub mod NamesSeen
 pub mod ProcessesInOrder

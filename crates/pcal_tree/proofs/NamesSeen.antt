@@ -5,8 +5,8 @@ use Rattle.std.proofs.lemmas.Bool.{eqb-true}
 use Rattle.tla_token.specs.declared.place.Place.{Place}
 use Rattle.tla_token.specs.declared.rule.Rule.TheVariants.{Arity}
 use Rattle.tla_token.specs.Signs.{is_among}
-use Rattle.tla_tree.specs.Tree.{Word, Name, words, Form, name, operator_call, Tree, node, Trees, no_trees, tree, seen_names, root_place, Graft, grafted_name, grafted_node, graft, grafts}
-use Rattle.tla_value.specs.laws.FreeNames.{Or, Also, Any, FormReads, FreeNames, FreeInParts}
+use Rattle.tla_tree.specs.Tree.{Word, Name, words, Form, name, operator_call, Tree, node, Trees, no_trees, tree, seen_names, root_place, Graft, graft}
+use Rattle.tla_value.specs.laws.FreeNames.{Also, Any, FormReads, FreeInParts}
 use Rattle.pcal_tree.specs.Algorithm.{Span, Assignments, no_assignments, assignment, Binds, no_binds, one_of, is, Statement, assign, await, print, assert, skip, branch, either, with, while, goto, macro, call, return, Statements, done, then, mark, Branches, no_branches, or, Macro, Procedure}
 use Rattle.pcal_tree.specs.Offences.{offence_if}
 use Rattle.pcal_tree.specs.OffencesNames.{Use, takes, variable, argument, standard, unread, Sight, knowing, use_of, left_offences, root_offences, in_left_parts, parameter_use, count, in_whole, in_each, in_left, in_assignments, in_binds, after_binds, in_one, in_body, in_branches, call_offences, seeing_plain, seeing_parameters, macro_offences}
@@ -18,85 +18,47 @@ use Rattle.pcal_tree.specs.Paths.{root}
 use Rattle.std.proofs.lemmas.Slice.Eq.{bytes_eq-Decides}
 use Rattle.pcal_tree.proofs.CallsFine.{Usable, Sees, free_weaker, in_also, tree_seen, parts_seen}
 use Rattle.pcal_tree.proofs.ClearLabels.{both_none}
+use Rattle.pcal_tree.proofs.GraftsRead.{IfFree, Puts, free_put, parts_put}
 
 -- ---- trees put in
 
 abbrev pub HasFree : Names → Option Tree → Type 0
-HasFree N (Some t) = FreeNames N Any t
-HasFree N None = Unit {0}
+HasFree N o = IfFree N Any o
 
 -- of N' where nothing is put in, N is what is left; and what is put in reads N
-pub record PutsIn (g : Graft) (N' N : Names) : Type 0 where
-  pub left : (y : Word) (at : Place) → N' y → g y at ≡ None → N y
-  pub put : (y : Word) (at : Place) → HasFree N (g y at)
-
-has_weaker : (N M : Names) → ((y : Word) → N y → M y) → (o : Option Tree) → HasFree N o → HasFree M o
-has_weaker N M h (Some t) k = free_weaker N M h t k
-has_weaker N M h None k = tt
-
--- under names that are bound
-puts_one : (g : Graft) (N' N : Names) (x : Word) → PutsIn g N' N → PutsIn g (Or x N') (Or x N)
-puts_one g N' N x k = record {
-  left = λ y at n e. by y at n e;
-  put = λ y at. has_weaker N (Or x N) (λ z n. inr n) (g y at) (k.put y at);
-}
-  where
-    by : (y : Word) (at : Place) → Or x N' y → g y at ≡ None → Or x N y
-    by y at (inl e) q = inl e
-    by y at (inr n) q = inr (k.left y at n q)
-
-puts_also : (g : Graft) (xs : List Word) (N' N : Names) → PutsIn g N' N → PutsIn g (Also xs N') (Also xs N)
-puts_also g [] N' N k = k
-puts_also g (x ∷ xs) N' N k = puts_also g xs (Or x N') (Or x N) (puts_one g N' N x k)
-
-name_free : (g : Graft) (N' N : Names) → PutsIn g N' N → (x : Word) (at : Place) (us : Trees) → N' x → FreeInParts N Any [] us → (o : Option Tree) → g x at ≡ o → FreeNames N Any (grafted_name o (name x) at us)
-name_free g N' N k x at us n f (Some t) q = subst (HasFree N) q (k.put x at)
-name_free g N' N k x at us n f None q = (k.left x at n q, f)
-
-node_free : (g : Graft) (N' N : Names) → PutsIn g N' N → (m : Form) (at : Place) (us : Trees) → FormReads N' Any m → FreeInParts N Any (seen_names m) us → FreeNames N Any (grafted_node g m at us)
-node_free g N' N k (name x) at us n f = name_free g N' N k x at us n f (g x at) refl
-node_free g N' N k (operator_call o) at us n f = (tt, f)
-node_free g N' N k m at us n f = (tt, f)
-
-mutual
-  tree_free : (g : Graft) (N' N : Names) → PutsIn g N' N → (t : Tree) → FreeNames N' Any t → FreeNames N Any (graft g t)
-  tree_free g N' N k (node m at ts) h = node_free g N' N k m at (grafts g ts) h.0 (parts_free g N' N k (seen_names m) ts h.1)
-
-  parts_free : (g : Graft) (N' N : Names) → PutsIn g N' N → (names : List (List Word)) (ts : Trees) → FreeInParts N' Any names ts → FreeInParts N Any names (grafts g ts)
-  parts_free g N' N k names no_trees h = tt
-  parts_free g N' N k [] (tree t ts) h = (tree_free g N' N k t h.0, parts_free g N' N k [] ts h.1)
-  parts_free g N' N k (xs ∷ names) (tree t ts) h = (tree_free g (Also xs N') (Also xs N) (puts_also g xs N' N k) t h.0, parts_free g N' N k names ts h.1)
+abbrev pub PutsIn : Graft → Names → Names → Type 0
+PutsIn g N' N = Puts g N' Any N Any
 
 module _ (g : Graft) (N' N : Names) (k : PutsIn g N' N) where
   placed_free : (at : Place) (t : Tree) → Reads N t → Reads N (placed_at at t)
   placed_free at (node m p ts) h = h
 
   left_free : (l : Tree) → Reads N' l → Reads N (graft_left g l)
-  left_free (node m at ts) h = placed_free at (graft g (node m at ts)) (tree_free g N' N k (node m at ts) h)
+  left_free (node m at ts) h = placed_free at (graft g (node m at ts)) (free_put g N' Any N Any k (node m at ts) h)
 
   assignments_free : (ms : Assignments) → ReadsAssignments N' ms → ReadsAssignments N (graft_assignments g ms)
   assignments_free no_assignments h = tt
-  assignments_free (assignment l e ms) h = (left_free l h.0, tree_free g N' N k e h.1, assignments_free ms h.2)
+  assignments_free (assignment l e ms) h = (left_free l h.0, free_put g N' Any N Any k e h.1, assignments_free ms h.2)
 
   binds_free : (bs : Binds) → ReadsBinds N' bs → ReadsBinds N (graft_binds g bs)
   binds_free no_binds h = tt
-  binds_free (one_of x e bs) h = (tree_free g N' N k e h.0, binds_free bs h.1)
-  binds_free (is x e bs) h = (tree_free g N' N k e h.0, binds_free bs h.1)
+  binds_free (one_of x e bs) h = (free_put g N' Any N Any k e h.0, binds_free bs h.1)
+  binds_free (is x e bs) h = (free_put g N' Any N Any k e h.0, binds_free bs h.1)
 
   mutual
     one_free : (st : Statement) → ReadsOneAlways N' st → ReadsOneAlways N (graft_one g st)
     one_free (assign ms) h = assignments_free ms h
-    one_free (await e) h = tree_free g N' N k e h
-    one_free (print e) h = tree_free g N' N k e h
-    one_free (assert e) h = tree_free g N' N k e h
+    one_free (await e) h = free_put g N' Any N Any k e h
+    one_free (print e) h = free_put g N' Any N Any k e h
+    one_free (assert e) h = free_put g N' Any N Any k e h
     one_free skip h = tt
-    one_free (branch e a b) h = (tree_free g N' N k e h.0, body_free a h.1, body_free b h.2)
+    one_free (branch e a b) h = (free_put g N' Any N Any k e h.0, body_free a h.1, body_free b h.2)
     one_free (either bs) h = some_free bs h
     one_free (with bs b) h = (binds_free bs h.0, body_free b h.1)
-    one_free (while e b) h = (tree_free g N' N k e h.0, body_free b h.1)
+    one_free (while e b) h = (free_put g N' Any N Any k e h.0, body_free b h.1)
     one_free (goto l) h = tt
-    one_free (macro m ts) h = parts_free g N' N k [] ts h
-    one_free (call p ts) h = parts_free g N' N k [] ts h
+    one_free (macro m ts) h = parts_put g N' Any N Any k [] ts h
+    one_free (call p ts) h = parts_put g N' Any N Any k [] ts h
     one_free return h = tt
 
     body_free : (b : Statements) → ReadsAlways N' b → ReadsAlways N (graft_all g b)
@@ -213,6 +175,7 @@ puts_arguments : (N : Names) (qs : List Name) (ts : Trees) → length qs ≡ cou
 puts_arguments N qs ts e h = record {
   left = λ y at n q. by y at n q;
   put = λ y at. arguments_free N qs ts h y at;
+  operators = λ y u. u;
 }
   where
     by : (y : Word) (at : Place) → OneOf (words qs) N y → arguments qs ts y at ≡ None → N y

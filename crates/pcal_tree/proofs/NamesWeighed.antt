@@ -3,15 +3,16 @@ use Rattle.std.proofs.Common.{◌≡◌, ℕ, suc, ◌+◌, ◌≤◌, List, [],
 use Rattle.std.specs.List.{flat_map}
 use Rattle.std.proofs.lemmas.List.{length-map}
 use Rattle.std.proofs.lemmas.Grind.{flat_map-append}
-use Rattle.tla_tree.specs.Tree.{Word, Name, words, Tree, node, Trees, no_trees, tree}
+use Rattle.tla_tree.specs.Tree.{Name, words, Tree, node, Trees, no_trees, tree}
 use Rattle.pcal_tree.specs.Algorithm.{Assignments, no_assignments, assignment, Binds, no_binds, one_of, is, Statement, assign, await, print, assert, skip, branch, either, with, while, goto, macro, call, return, Statements, done, then, mark, Branches, no_branches, or, Start, unset, equals, among, Declaration, Definition, Macro, Procedure, Process, Main, alone, processes, Routine, locals, procedure_routine, process_routine, alone_routine, numbered, first_procedure, first_process, procedure_routines, Algorithm}
 use Rattle.pcal_tree.specs.BoundNames.{Lists, all_of, lists_of, lists_in, lists_in_all, lists_in_assignments, names_of_binds, lists_in_binds, lists_in_one, lists_in_body, lists_in_branches, lists_in_start, lists_in_declared, lists_in_procedure, lists_in_process, lists_in_main, bound_lists}
 use Rattle.pcal_tree.specs.Grammar.{Text, spell, algorithm_of}
-use Rattle.pcal_tree.specs.Names.{Role, variable, label, wants, kept, wanted_within, wanted_by, wanted_by_main, wanted}
+use Rattle.pcal_tree.specs.Names.{variable, label, wants, kept, wanted_within, wanted_by, wanted_by_main, wanted}
 use Rattle.pcal_tree.specs.OffencesLabels.{Label, labels_of_one, labels, labels_of_some, label_words}
 use Rattle.pcal_tree.specs.Variables.{declared}
 use Rattle.pcal_tree.proofs.BoundTokens.{count_in, count_in_all}
 use Rattle.pcal_tree.proofs.TokenWeights.{assignments_weight, binds_weight, inner_weight, body_weight, branches_weight, start_weight, declared_weight, definitions_weight, macros_weight, procedures_weight, processes_weight, main_weight, weight, weight_of_text}
+use Rattle.pcal_tree.proofs.CountLimits.{wants_count}
 
 -- ---- names of lists
 
@@ -150,9 +151,6 @@ in_macros (d ∷ ds) =
     omega arith
 
 -- ---- what wants a name
-
-wants_count : (n : ℕ) (r : Role) (ws : List Word) → length (wants n r ws) ≡ length ws
-wants_count n r ws = length-map ws (λ (w : Word). record { unit = n; role = r; word = w })
 
 within : (u : Routine) → length (wanted_within u) ≡ length (locals u) + length (labels false u.body)
 within u =

@@ -24,6 +24,7 @@ use Rattle.pcal_tree.proofs.FreeNames.{given_apart}
 use Rattle.pcal_tree.proofs.RoutineNames.{every_one, one_either, label_wanted, one_label}
 use Rattle.pcal_tree.specs.Processes.{identifiers_of, identifiers, identifier, actors_of, all_actors, has_identifier, apart, last_place, united, placed, sorted, actors_in, OneOf, IsActor}
 use Rattle.pcal_tree.specs.laws.Steps.{StandsOnce}
+use Rattle.std.proofs.lemmas.Option.{same_Some}
 
 -- ---- what a process runs
 
@@ -81,7 +82,7 @@ own_sorted : (us : List Routine) (vs : List Actor) → AllByRecursion (Own us) v
 own_sorted us [] h = tt
 own_sorted us (v ∷ vs) h = own_placed us v (sorted vs) h.0 (own_sorted us vs h.1)
 
-united_same : (P : Program) (at : Place) (vs ws : List Actor) → united P at vs ≡ Ok ws → vs ≡ ws
+pub united_same : (P : Program) (at : Place) (vs ws : List Actor) → united P at vs ≡ Ok ws → vs ≡ ws
 united_same P at vs ws e = by (P.check at (set (set_from (identifiers vs)))) e
   where
     by : (o : Outcome Value) → o >>= (λ w. Ok vs) ≡ Ok ws → vs ≡ ws
@@ -172,7 +173,7 @@ spread_alone a (alone ss) = (
     equal u w (inr h) k = absurd h
 spread_alone a (processes ps) = (first_process a + length ps, spread_numbered process_routine (λ n x. refl) (first_process a) ps)
 
-one_number : (a : Algorithm) (u w : Routine) → OneOf u (routines a) → OneOf w (routines a) → u.number ≡ w.number → u ≡ w
+pub one_number : (a : Algorithm) (u w : Routine) → OneOf u (routines a) → OneOf w (routines a) → u.number ≡ w.number → u ≡ w
 one_number a u w h k e =
     by (spread_numbered procedure_routine (λ n x. refl) (first_procedure a) a.procedures) (spread_alone a a.main)
     (one_either u (procedure_routines a) (main_routines a a.main) h) (one_either w (procedure_routines a) (main_routines a a.main) k)
@@ -190,9 +191,6 @@ one_number a u w h k e =
 text_is : (x y : Word) → ◌≡◌ {A = Outcome Value} (Ok (text x)) (Ok (text y)) → x ≡ y
 text_is x y e = cc
 
-some_is : {X : Type 0} {x y : X} → Some x ≡ Some y → x ≡ y
-some_is e = cc
-
 -- a label that is neither Done nor Error has its written name
 label_written : (P : Program) (u : Routine) (l : Word) → is_among (codes "Done" ∷ codes "Error" ∷ []) l ≡ false
     → label_name P u l ≡ P.naming.label u.number l
@@ -206,7 +204,7 @@ label_written P u l e = by (bytes_eq (codes "Done") l) (bytes_eq (codes "Error")
 same_stand : (d e : Stand) → at_label d.routine d.label ≡ Some d.begins → at_label e.routine e.label ≡ Some e.begins → d.routine ≡ e.routine
     → d.label ≡ e.label → d ≡ e
 same_stand d e p q r l =
-    let b : d.begins ≡ e.begins = some_is (sym p ∙ (λ i. at_label (r i) (l i)) ∙ q) in
+    let b : d.begins ≡ e.begins = same_Some _ _ (sym p ∙ (λ i. at_label (r i) (l i)) ∙ q) in
     λ i. record { routine = r i; label = l i; begins = b i }
 
 pub stands_once : (P : Program) (o : Outside) → P.naming ≡ naming P.algorithm o → FewNames P.algorithm o → NoEndLabels P.algorithm

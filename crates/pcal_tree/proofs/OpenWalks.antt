@@ -18,6 +18,8 @@ use Rattle.pcal_tree.proofs.CountsAhead.{ahead, ahead_all}
 use Rattle.pcal_tree.proofs.FieldWords.{introduces, Named, named_one, named_all}
 use Rattle.pcal_tree.proofs.HeadWalks.{Behind, other, naming, head, closed, is_head, is_close, is_end, by_word, by_close, When, Nests, Stands, pass_named, calm, Outside, calm_step, introducing_step, like_other}
 use Rattle.pcal_tree.proofs.ExpressionTokens.{begins_phrase}
+use Rattle.std.proofs.lemmas.Option.{same_Some}
+use Rattle.std.proofs.lemmas.Bool.{both_ways}
 
 abbrev pub expressions_of : List Open → List ℕ
 expressions_of os = map (λ (o : Open). o.expressions) os
@@ -108,18 +110,14 @@ abbrev pub first_open : List Token → Bool
 first_open [] = false
 first_open (t ∷ ts) = is_open t.kind
 
-closes_none : (b : Bool) → b ≡ false → b ≡ true → ⊥
-closes_none true e f = cc
-closes_none false e f = cc
-
 after_lead : (j : ℕ) (ts : List Token) (ns : List ℕ) → first_open ts ≡ false → ((k : ℕ) → Climbs false k (looks ts) ns) → Climbs true j (looks ts) ns
 after_lead j [] ns f h = tt
 after_lead j (t ∷ ts) [] f h = tt
-after_lead j (t ∷ ts) (n ∷ ns) f h = (λ e o. absurd (closes_none (is_open t.kind) f o), (h j).1)
+after_lead j (t ∷ ts) (n ∷ ns) f h = (λ e o. absurd (both_ways (is_open t.kind) f o), (h j).1)
 
 pub put_bracket : {w : Where} {p : Place} {o : Open} {ts : List Token} {os : List Open} → first_open ts ≡ false → Walks plainly ts os → Walks w (part.mark p tk.open_bracket ts) (o ∷ os)
 put_bracket {w} {p} {o} {ts} {os} f h = record {
-  brackets = λ k. ((λ e q. absurd (closes_none false refl e)), after_lead o.expressions ts (expressions_of os) f h.brackets);
+  brackets = λ k. ((λ e q. absurd (both_ways false refl e)), after_lead o.expressions ts (expressions_of os) f h.brackets);
   heads = by;
 }
   where
@@ -190,13 +188,13 @@ no_head m e = absurd cc
 
 not_in_head : (ts : List Token) (ns : List ℕ) → Nests other (looks ts) ns → (s : Behind) → Stands None false s → Nests s (looks ts) ns
 not_in_head ts ns h other p = h
-not_in_head ts ns h naming p = absurd (closes_none false refl p)
+not_in_head ts ns h naming p = absurd (both_ways false refl p)
 not_in_head ts ns h (head m) p = no_head m p.1
 not_in_head ts ns h (closed m) p = no_head m p.1
 
 -- the forms open in the expression, before further counts in the same one
 pub through : {n : ℕ} {x : List Token → List Token} {c : List ℕ → List ℕ} {ts : List Token} → Counted n x c → (d : ℕ) (r : List ℕ) (os : List Open) → Walks plainly ts (within d r ++ os) → Walks anywhere (x ts) (within d (c r) ++ os)
-through {x} {c} {ts} q d r os h = record { brackets = λ k. climbs_through q d r ts os h.brackets false k (λ e. absurd (closes_none false refl e)); heads = by }
+through {x} {c} {ts} q d r os h = record { brackets = λ k. climbs_through q d r ts os h.brackets false k (λ e. absurd (both_ways false refl e)); heads = by }
   where
     by : (s : Behind) → Enters anywhere s → Nests s (looks (x ts)) (statements_of (within d (c r) ++ os))
     by other e = nests_through q None d r ts os (not_in_head ts (statements_of (within d r ++ os)) (h.heads other tt)) false other refl
@@ -208,7 +206,7 @@ through {x} {c} {ts} q d r os h = record { brackets = λ k. climbs_through q d r
 pub led : {w : Where} {n : ℕ} {x : List Token → List Token} {c : List ℕ → List ℕ} {t : Token} {ts : List Token} {os : List Open} → Counted n x c → (i d : ℕ) → i ≡ n → leads t.kind ≡ true → calm t.kind ≡ true → Walks plainly ts os
     → Walks w (t ∷ x ts) (record { expressions = i; statements = d } ∷ (within d (c []) ++ os))
 led {w} {n} {x} {c} {t} {ts} {os} q i d same_forms l k h = record {
-  brackets = λ j. ((λ e o. absurd (closes_none false refl e)), subst (λ (b : Bool). Climbs b i (looks (x ts)) (expressions_of (within d (c []) ++ os))) (sym l) (climbs_through q d [] ts os h.brackets true i (λ e. same_forms)));
+  brackets = λ j. ((λ e o. absurd (both_ways false refl e)), subst (λ (b : Bool). Climbs b i (looks (x ts)) (expressions_of (within d (c []) ++ os))) (sym l) (climbs_through q d [] ts os h.brackets true i (λ e. same_forms)));
   heads = by;
 }
   where
@@ -242,16 +240,13 @@ calm_word_step true b n h k = absurd cc
 calm_word_step false true n h k = absurd cc
 calm_word_step false false n h k = refl
 
-close_step : (a : Bool) (m : ℕ) (s : Behind) → a ≡ true → by_close a m s ≡ closed m
+pub close_step : (a : Bool) (m : ℕ) (s : Behind) → a ≡ true → by_close a m s ≡ closed m
 close_step true m s h = refl
 close_step false m s h = absurd cc
 
 none_asked : (a : Bool) (A : Type 0) → a ≡ false → When a A
 none_asked true A h = absurd cc
 none_asked false A h = tt
-
-some_is : (a b : ℕ) → Some a ≡ Some b → a ≡ b
-some_is a b h = cc
 
 -- the word that opens a head, with d + 1 forms open
 open_head : (d : ℕ) (w : Word) (ls : List Look) (ns : List ℕ) → is_head w ≡ true → Nests other ls ns → Nests (head (d + 1)) ls ns → (c : ℕ) → (s : Behind) → Enters (below d) s → Nests s ((tk.reserved w, c) ∷ ls) ((d + 1) ∷ ns)
@@ -268,14 +263,14 @@ pub record Closes (v : Word) : Type 0 where
 
 close_by_word : (d : ℕ) (v : Word) (c : ℕ) (ls : List Look) (ns : List ℕ) → Closes v → ((s : Behind) → Enters (below d) s → Nests s ls ns) → (s : Behind) → Stands (Some d) false s → Nests s ((tk.reserved v, c) ∷ ls) (d ∷ ns)
 close_by_word d v c ls ns k h other p = (none_asked (is_head v) (1 ≤ d) k.no_head, subst (λ (b : Behind). Nests b ls ns) (sym (calm_word_step (is_head v) (is_end v) d k.no_head k.no_end)) (h other tt))
-close_by_word d v c ls ns k h naming p = absurd (closes_none false refl p)
-close_by_word d v c ls ns k h (head m) p = (none_asked (is_head v) (1 ≤ d) k.no_head, subst (λ (b : Behind). Nests b ls ns) (sym (close_step (is_close v) m (by_word (is_head v) (is_end v) d) k.closes)) (h (closed m) (some_is d m p.1)))
+close_by_word d v c ls ns k h naming p = absurd (both_ways false refl p)
+close_by_word d v c ls ns k h (head m) p = (none_asked (is_head v) (1 ≤ d) k.no_head, subst (λ (b : Behind). Nests b ls ns) (sym (close_step (is_close v) m (by_word (is_head v) (is_end v) d) k.closes)) (h (closed m) (same_Some d m p.1)))
 close_by_word d v c ls ns k h (closed m) p = (none_asked (is_head v) (d ≡ m + 1) k.no_head, subst (λ (b : Behind). Nests b ls ns) (sym (calm_word_step (is_head v) (is_end v) d k.no_head k.no_end)) (h other tt))
 
 close_by_bracket : (d c : ℕ) (ls : List Look) (ns : List ℕ) → ((s : Behind) → Enters (below d) s → Nests s ls ns) → (s : Behind) → Stands (Some d) false s → Nests s ((tk.mark tk.close_bracket, c) ∷ ls) (d ∷ ns)
 close_by_bracket d c ls ns h other p = (tt, h other tt)
-close_by_bracket d c ls ns h naming p = absurd (closes_none false refl p)
-close_by_bracket d c ls ns h (head m) p = (tt, h (closed m) (some_is d m p.1))
+close_by_bracket d c ls ns h naming p = absurd (both_ways false refl p)
+close_by_bracket d c ls ns h (head m) p = (tt, h (closed m) (same_Some d m p.1))
 close_by_bracket d c ls ns h (closed m) p = (tt, h other tt)
 
 -- if e then .., while e do ..
@@ -288,7 +283,7 @@ word_head {d} {p} {w} {v} {ts} {os} q e i k h =
     let inner = close_by_word (d + 1) v q.col (looks ts) (statements_of os) k h.heads in
     let below_it : Walks plainly us rest = record { brackets = λ j. pass (token q (tk.reserved v)) false j 0 ts (expressions_of os) refl (h.brackets 0); heads = by inner } in
     record {
-      brackets = λ j. pass (token p (tk.reserved w)) false j 0 (part.expression e us) (expressions_of (expression_opens (d + 1) e ++ rest)) refl (climbs_through c (d + 1) [] us rest below_it.brackets false 0 (λ x. absurd (closes_none false refl x)));
+      brackets = λ j. pass (token p (tk.reserved w)) false j 0 (part.expression e us) (expressions_of (expression_opens (d + 1) e ++ rest)) refl (climbs_through c (d + 1) [] us rest below_it.brackets false 0 (λ x. absurd (both_ways false refl x)));
       heads = open_head d w (looks (part.expression e us)) (statements_of (expression_opens (d + 1) e ++ rest)) i ((through c (d + 1) [] rest below_it).heads other tt) (nests_through c (Some (d + 1)) (d + 1) [] us rest inner false (head (d + 1)) (refl, refl)) p.col;
     }
   where

@@ -8,9 +8,9 @@ use Rattle.std.specs.declared.cmp.Ordering.{Ordering}
 use Rattle.std.specs.declared.cmp.Ordering.TheVariants.{Less, Equal, Greater}
 use Rattle.tla_value.specs.declared.fault.FaultKind.TheVariants.{SameIdentifier}
 use Rattle.tla_value.specs.Value.{Value, Values, no_values, and, values_in, Outcome, fault, ◌>>=◌}
-use Rattle.tla_value.specs.Order.{order, same, holds, set_from, IsBefore, IsAscending}
+use Rattle.tla_value.specs.Order.{order, same, holds, IsBefore, IsAscending}
 use Rattle.tla_value.specs.OrderLaws.{same_is, same_self, after_before}
-use Rattle.tla_value.proofs.OrderSets.{either_swap, before_next, same_members, set_from_ascending, holds_set_from}
+use Rattle.tla_value.proofs.OrderSets.{either_swap, before_next, same_members}
 use Rattle.pcal_tree.specs.Algorithm.{Routine, Process, process_routine}
 use Rattle.pcal_tree.specs.Program.{Program, Actor}
 use Rattle.pcal_tree.specs.Processes.{identifier, identifiers, identifiers_of, actors_of, all_actors, has_identifier, apart, placed, sorted}
@@ -70,12 +70,6 @@ pub sorted_ascending : (vs : List Actor) → Distinct vs → IsAscending (ids (s
 sorted_ascending [] d = tt
 sorted_ascending (v ∷ vs) d = placed_ascending v (sorted vs) (sorted_ascending vs d.1) (holds_sorted (id v) vs ∙ d.0)
 
--- so they are the members of the set of all identifiers, in its order
-pub sorted_members : (vs : List Actor) → Distinct vs → ids (sorted vs) ≡ set_from (identifiers vs)
-sorted_members vs d =
-    same_members (ids (sorted vs)) (set_from (identifiers vs)) (sorted_ascending vs d) (set_from_ascending (identifiers vs))
-    (λ x. holds_sorted x vs ∙ sym (holds_set_from x (identifiers vs)))
-
 -- ---- identifiers that are apart
 
 abbrev NoneIn : List Actor → List Actor → Type 0
@@ -128,9 +122,6 @@ apart_gives es (v ∷ vs) ws e = by (has_identifier (id v) es) refl (apart_gives
 runs : Routine → Actor → Bool
 runs u v = v.own.number == u.number
 
-both_or : (p a b : Bool) (vs ws : List Actor) → Bool
-both_or p a b vs ws = (p && a) || b
-
 holds_cons : (x : Value) (u : Routine) (v : Actor) (vs : List Actor) → holds x (ids (running u (v ∷ vs))) ≡ ((runs u v && same x (id v)) || holds x (ids (running u vs)))
 unfolding runs
 holds_cons x u v vs = by (v.own.number == u.number)
@@ -177,7 +168,7 @@ running_ascending u (v ∷ vs) a = by (v.own.number == u.number) (running_ascend
 
 -- ---- all processes, process by process
 
-ids_both : (vs ws : List Actor) (x : Value) → holds x (ids (vs ++ ws)) ≡ (holds x (ids vs) || holds x (ids ws))
+pub ids_both : (vs ws : List Actor) (x : Value) → holds x (ids (vs ++ ws)) ≡ (holds x (ids vs) || holds x (ids ws))
 ids_both [] ws x = refl
 ids_both (v ∷ vs) ws x = ap (λ b. same x (id v) || b) (ids_both vs ws x) ∙ sym (or_assoc (same x (id v)) (holds x (ids vs)) (holds x (ids ws)))
 
@@ -202,7 +193,7 @@ running_other u w no_values e = refl
 running_other u w (and v vs) e = (λ i. cond (e i) (record { self = Some v; own = w } ∷ running u (actors_of w vs)) (running u (actors_of w vs))) ∙ running_other u w vs e
 
 -- what all_actors gives is put together from what each process gives
-all_parts : (P : Program) (n : ℕ) (p : Process) (ps : List Process) (vs : List Actor) → all_actors P n (p ∷ ps) ≡ Ok vs
+pub all_parts : (P : Program) (n : ℕ) (p : Process) (ps : List Process) (vs : List Actor) → all_actors P n (p ∷ ps) ≡ Ok vs
     → (is : Values) × (more : List Actor) × (identifiers_of P p ≡ Ok is) × (all_actors P (suc n) ps ≡ Ok more) × (vs ≡ actors_of (process_routine n p) is ++ more)
 all_parts P n p ps vs e = by (identifiers_of P p) refl (all_actors P (suc n) ps) refl e
   where
@@ -273,10 +264,6 @@ placed_owned u v (w ∷ ws) h k = by (is_lt (order (id v) (id w))) (placed_owned
 sorted_owned : (u : Routine) (vs : List Actor) → AllOwned u vs → AllOwned u (sorted vs)
 sorted_owned u [] k = tt
 sorted_owned u (v ∷ vs) k = placed_owned u v (sorted vs) k.0 (sorted_owned u vs k.1)
-
--- a list is what it runs of the routine, where that is told by its actors
-owned_from : (u : Routine) (vs : List Actor) (is : Values) → running u vs ≡ actors_of u is → AllOwned u vs → running u vs ≡ actors_of u (ids (running u vs))
-owned_from u vs is e k = e ∙ sym (ap (λ zs. actors_of u (ids zs)) e ∙ ap (actors_of u) (ids_of_actors u is))
 
 running_owned : (u : Routine) (vs : List Actor) → AllOwned u vs → running u vs ≡ actors_of u (ids (running u vs))
 running_owned u [] k = refl

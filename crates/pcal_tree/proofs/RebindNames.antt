@@ -16,6 +16,7 @@ use Rattle.pcal_tree.specs.laws.MacroUses.{same_refusal}
 use Rattle.pcal_tree.specs.laws.MacroBindings.{Binding, bound, standing, beneath, Bindings, offences_where, same_binding, none_found, offending, unsettled, both, bound_inside, all_bound_inside, standing_inside, beneath_inside, offences_seen}
 use Rattle.pcal_tree.proofs.SetLaws.{or_both, or_mixed, any_flat, Same, Sound, any_union}
 use Rattle.pcal_tree.proofs.FirstLaws.{name_sound, refusal_sound}
+use Rattle.tla_value.proofs.OrderSets.{either_swap}
 
 -- ---- what is the same is equal
 
@@ -151,11 +152,6 @@ one_more ms x s (n ∷ ns) f =
         either_scope (bytes_eq x n.word) (in_scope s n.word) m n.place f
         ∙ ap (λ (b : Bool). list_any f (offence_if (b && m) Rebind n.place) || list_any f (rebound ms s n)) (sym (or-false (bytes_eq x n.word)))
 
-pub or_turned : (a b c : Bool) → (a || (b || c)) ≡ (b || (a || c))
-or_turned true true c = refl
-or_turned true false c = refl
-or_turned false b c = refl
-
 pub all_more : (ms xs : List Word) (s : Standings) (w : Word) (f : Refusal → Bool)
     → list_any f (rebound_all ms (naming xs s) (brought s w))
     ≡ (list_any f (rebound_all ms s (brought s w)) || list_any (λ v. list_any f (offences_where ms s v)) (map (beneath w) xs))
@@ -163,7 +159,7 @@ all_more ms [] s w f = sym (or-false (list_any f (rebound_all ms s (brought s w)
 all_more ms (x ∷ xs) s w f =
     one_more ms x (naming xs s) (brought s w) f
     ∙ ap (λ (b : Bool). list_any f (rebound_all ms (naming (x ∷ []) []) (brought s w)) || b) (all_more ms xs s w f)
-    ∙ or_turned (list_any f (rebound_all ms (naming (x ∷ []) []) (brought s w))) (list_any f (rebound_all ms s (brought s w)))
+    ∙ either_swap (list_any f (rebound_all ms (naming (x ∷ []) []) (brought s w))) (list_any f (rebound_all ms s (brought s w)))
     (list_any (λ v. list_any f (offences_where ms s v)) (map (beneath w) xs))
 
 pub named_around : (xs : List Word) (s r : Standings) → Around xs s r → (w : Word) → in_scope r w ≡ in_scope (naming xs s) w

@@ -2,24 +2,24 @@
 use Rattle.std.proofs.Common.{◌≡◌, ◌⊎◌, List, [], ◌∷◌, ◌++◌, Bool, true, false, cond, Option, Some, None, Ok, Err, refl, sym, ap, subst, ◌∙◌, inl, inr, true≢false}
 use Rattle.std.specs.Ordering.{is_lt}
 use Rattle.tla_tree.specs.Tree.{Word}
-use Rattle.tla_value.specs.Value.{Value, fault, Outcome, set, ◌>>=◌}
-use Rattle.tla_value.specs.Order.{same, order, set_from}
+use Rattle.tla_value.specs.Value.{Value, fault, Outcome, ◌>>=◌}
+use Rattle.tla_value.specs.Order.{same, order}
 use Rattle.tla_value.specs.OrderLaws.{same_self}
-use Rattle.tla_value.proofs.Outcomes.{ok_is}
-use Rattle.tla_token.specs.declared.place.Place.{Place}
+use Rattle.tla_value.proofs.Outcomes.{ok_is, bound_ok}
 use Rattle.tla_value.specs.declared.fault.FaultKind.TheVariants.{SameIdentifier}
 use Rattle.pcal_tree.specs.Algorithm.{Main, alone, processes, first_process, alone_routine}
 use Rattle.pcal_tree.specs.Scope.{State}
 use Rattle.pcal_tree.specs.Calls.{label_name, label_value}
 use Rattle.pcal_tree.specs.Program.{Program, Actor}
 use Rattle.pcal_tree.specs.Variables.{vars, Agree}
-use Rattle.pcal_tree.specs.Processes.{actors_in, all_actors, apart, united, last_place, sorted, placed, identifier, identifiers, has_identifier, OneOf, IsActor}
+use Rattle.pcal_tree.specs.Processes.{actors_in, all_actors, apart, united, last_place, sorted, placed, identifier, has_identifier, OneOf, IsActor}
 use Rattle.pcal_tree.specs.Step.{Stand, routines_of}
 use Rattle.pcal_tree.specs.Script.{Turn, StepBy}
 use Rattle.pcal_tree.specs.StepAnswers.{reached, replied, label_place, step_from, step_at, is_self, with_self, step_of, step_in, stepped}
 use Rattle.pcal_tree.specs.laws.Steps.{StandsOnce}
 use Rattle.pcal_tree.proofs.TroubleLaws.{found_stands, stand_is_found, IsSomething}
 use Rattle.pcal_tree.proofs.ReplyLaws.{found_self}
+use Rattle.pcal_tree.proofs.OneStand.{united_same}
 
 -- ---- processes of one list differ in their identifiers
 
@@ -83,7 +83,7 @@ in_placed u v (w ∷ ws) h = by (in_placed u v ws) (is_lt (order (identifier v.s
     by ih false (inl p) = inr (inl p)
     by ih false (inr g) = behind (ih g)
 
-in_sorted : (u : Actor) (vs : List Actor) → OneOf u (sorted vs) → OneOf u vs
+pub in_sorted : (u : Actor) (vs : List Actor) → OneOf u (sorted vs) → OneOf u vs
 in_sorted u [] h = h
 in_sorted u (v ∷ vs) h = by (in_sorted u vs) (in_placed u v (sorted vs) h)
   where
@@ -99,13 +99,6 @@ one_distinct x v w (inl p) (inl q) e = p ∙ sym q
 one_distinct x v w (inl p) (inr q) e = absurd q
 one_distinct x v w (inr p) h e = absurd p
 
-bound_ok : {X Y : Type 0} (o : Outcome X) (go : X → Outcome Y) (y : Y) → o >>= go ≡ Ok y → (x : X) × (o ≡ Ok x) × (go x ≡ Ok y)
-bound_ok (Ok x) go y e = (x, refl, e)
-bound_ok (Err k) go y e = cc
-
-united_is : (P : Program) (at : Place) (us ws : List Actor) → united P at us ≡ Ok ws → us ≡ ws
-united_is P at us ws e = (let r = bound_ok (P.check at (set (set_from (identifiers us)))) (λ v. Ok us) ws e in ok_is r.2)
-
 actors_distinct : (P : Program) (m : Main) (vs : List Actor) → actors_in P m ≡ Ok vs → Distinct vs
 actors_distinct P (alone ss) vs e = subst Distinct (ok_is e) (one_distinct (record { self = None; own = alone_routine P.algorithm ss }))
 actors_distinct P (processes ps) vs e =
@@ -114,7 +107,7 @@ actors_distinct P (processes ps) vs e =
     let all = bound_ok (all_actors P (first_process P.algorithm) ps) (λ us. apart [] us >>= finish) vs e in
     let each = bound_ok (apart [] all.0) finish vs all.2 in
     let one = bound_ok (united P at each.0) (λ ws. Ok (sorted ws)) vs each.2 in
-    let same_list : sorted each.0 ≡ vs = ap sorted (united_is P at each.0 one.0 one.1) ∙ ok_is one.2 in
+    let same_list : sorted each.0 ≡ vs = ap sorted (united_same P at each.0 one.0 one.1) ∙ ok_is one.2 in
     subst Distinct same_list (λ v w g h s. apart_distinct all.0 [] each.0 none_distinct each.1 v w (in_sorted v each.0 g) (in_sorted w each.0 h) s)
 
 -- ---- the process with an identifier

@@ -16,12 +16,10 @@ use Rattle.pcal_tree.specs.InitialChoice.{started}
 use Rattle.pcal_tree.specs.Script.{Turn, Reaches, StepBy}
 use Rattle.pcal_tree.specs.StepAnswers.{reached, replied, label_place, step_from, step_at, is_self, with_self, step_of, step_in, stepped, start_by}
 use Rattle.pcal_tree.proofs.TroubleLaws.{found_stands}
+use Rattle.std.proofs.lemmas.Option.{same_Some}
 
 given : {X : Type 0} (x y : X) → reached x ≡ reached y → x ≡ y
 given x y e = cc
-
-some_is : {X : Type 0} (x y : X) → Some x ≡ Some y → x ≡ y
-some_is x y e = cc
 
 agree_self : (xs : List Word) (s : State) → Agree xs s s
 agree_self [] s = tt
@@ -49,7 +47,7 @@ found_self who (w ∷ vs) v e = by (found_self who vs v) (is_self who w.self) re
     further f = (inr f.0, f.1)
 
     by : (with_self who vs ≡ Some v → OneOf v vs × (v.self ≡ who)) → (b : Bool) → is_self who w.self ≡ b → cond b (Some w) (with_self who vs) ≡ Some v → OneOf v (w ∷ vs) × (v.self ≡ who)
-    by ih true h e = (inl (sym (some_is w v e)), ap (λ (u : Actor). u.self) (sym (some_is w v e)) ∙ self_is who w.self h)
+    by ih true h e = (inl (sym (same_Some w v e)), ap (λ (u : Actor). u.self) (sym (same_Some w v e)) ∙ self_is who w.self h)
     by ih false h e = further (ih e)
 
 pub step_replied : (P : Program) (n : Turn) (s t : State) (l : Word) → stepped P s n.who n.choices ≡ reached (t, l) → StepBy P n s t

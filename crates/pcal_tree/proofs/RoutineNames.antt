@@ -119,7 +119,7 @@ looked extended taken (w ∷ ws) n x h =
     by ih false e (inl k) = absurd (true_false (sym (want_found w n x k) ∙ e))
     by ih false e (inr k) = behind e (ih k)
 
-one_given : (gs : List Given) (g h : Given) → Apart gs → OneOf g gs → OneOf h gs → g.written ≡ h.written → g ≡ h
+pub one_given : (gs : List Given) (g h : Given) → Apart gs → OneOf g gs → OneOf h gs → g.written ≡ h.written → g ≡ h
 one_given [] g h a k l e = absurd k
 one_given (f ∷ gs) g h a (inl p) (inl q) e = p ∙ sym q
 one_given (f ∷ gs) g h a (inl p) (inr q) e = absurd (every_one (λ h. f.written ≡ h.written → ⊥) h gs a.0 q (sym (ap (λ u. u.written) p) ∙ e))

@@ -7,16 +7,13 @@ use Rattle.tla_token.specs.Signs.{is_among}
 use Rattle.tla_tree.specs.Tree.{Word}
 use Rattle.pcal_tree.specs.Paths.{Effect, meets}
 use Rattle.pcal_tree.specs.laws.MacroSummaries.{union}
+use Rattle.tla_value.proofs.OrderSets.{either_twice}
 
 -- ---- truth values
 
 pub or_both : (a b c : Bool) → ((a || b) || c) ≡ (a || (b || c))
 or_both true b c = refl
 or_both false b c = refl
-
-or_again : (a b : Bool) → (a || b) ≡ (a || (a || b))
-or_again true b = refl
-or_again false b = refl
 
 or_later : (a b c : Bool) → c ≡ (a || c) → (b || c) ≡ (a || (b || c))
 or_later true true c e = refl
@@ -99,7 +96,7 @@ absorbed {X = X} same sound f x (y ∷ xs) e = by (same x y) refl e (absorbed sa
   where
     by : (b : Bool) → same x y ≡ b → (b || list_any (same x) xs) ≡ true → (list_any (same x) xs ≡ true → list_any f xs ≡ (f x || list_any f xs))
         → (f y || list_any f xs) ≡ (f x || (f y || list_any f xs))
-    by true h e rest = or_again (f y) (list_any f xs) ∙ ap (λ (z : X). f z || (f y || list_any f xs)) (sym (sound x y h))
+    by true h e rest = either_twice (f y) (list_any f xs) ∙ ap (λ (z : X). f z || (f y || list_any f xs)) (sym (sound x y h))
     by false h e rest = or_later (f x) (f y) (list_any f xs) (rest e)
 
 pub any_union : {X : Type 0} (same : X → X → Bool) → Sound same → (f : X → Bool) (xs ys : List X) → list_any f (union same xs ys) ≡ (list_any f xs || list_any f ys)

@@ -72,7 +72,7 @@ one_map f x [] h = absurd h
 one_map f x (y ∷ ys) (inl e) = inl (ap f e)
 one_map f x (y ∷ ys) (inr h) = inr (one_map f x ys h)
 
-one_reverse : {X : Type 0} (x : X) (xs : List X) → OneOf x (reverse xs) → OneOf x xs
+pub one_reverse : {X : Type 0} (x : X) (xs : List X) → OneOf x (reverse xs) → OneOf x xs
 one_reverse x [] h = h
 one_reverse x (y ∷ ys) h = by (one_reverse x ys) (one_either x (reverse ys) (y ∷ []) (subst (OneOf x) (reverse_onto ys y []) h))
   where
@@ -92,7 +92,7 @@ declares_one (d ∷ ds) x e = by (declares_one ds x) (bytes_eq d.name.word x) re
     by ih true p e = (d, inl refl, (bytes_eq-Decides d.name.word x).0 p)
     by ih false p e = more (ih e)
 
-named_one : (x : Word) (us : List Routine) (u : Routine) → routine_named x us ≡ Some u → OneOf u us
+pub named_one : (x : Word) (us : List Routine) (u : Routine) → routine_named x us ≡ Some u → OneOf u us
 named_one x [] u e = cc
 named_one x (w ∷ us) u e = by (named_one x us u) (bytes_eq w.name.word x) e
   where

@@ -53,7 +53,7 @@ whole_put g free (node (name x) at us) = ap (λ (o : Option Tree). is_whole (gra
     by None = refl
 whole_put g free (node m at us) = refl
 
-root_placed : (at : Place) (t : Tree) → root (placed_at at t) ≡ root t
+pub root_placed : (at : Place) (t : Tree) → root (placed_at at t) ≡ root t
 root_placed at (node m p ts) = refl
 
 whole_placed : (at : Place) (t : Tree) → is_whole (placed_at at t) ≡ is_whole t

@@ -158,11 +158,6 @@ in_definitions (more_definitions d q e ds) ts =
 
 -- ---- labels and simple statements
 
-in_colon : (x : Colon) (ts : List Token) → length ts ≤ length (colon_tokens x ts)
-in_colon (colon q) ts = omega arith
-in_colon (colon_plus q r) ts = omega arith
-in_colon (colon_minus q r) ts = omega arith
-
 in_labels : (ls : Labels) (ss : tree.Statements) (ts : List Token) → body_weight (with_labels ls ss) + length ts ≤ body_weight ss + length (labels ls ts)
 in_labels no_labels ss ts = omega arith
 in_labels (label x (colon q) ls) ss ts = (let u = in_labels ls ss ts in omega arith)

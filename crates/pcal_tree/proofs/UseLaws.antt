@@ -4,7 +4,6 @@ use Rattle.std.specs.List.{list_any, flat_map}
 use Rattle.std.proofs.lemmas.List.Folds.{list_any-append}
 use Rattle.std.proofs.lemmas.Bool.{and_parts, eqb-true}
 use Rattle.std.proofs.lemmas.Slice.Eq.{bytes_eq-Decides}
-use Rattle.std.proofs.Math.Bool.{or-false}
 use Rattle.tla_token.specs.declared.place.Place.{Place}
 use Rattle.tla_token.specs.declared.rule.Rule.TheVariants.{Unknown, Arity, NotVariable}
 use Rattle.tla_token.specs.declared.rule.Refusal.{Refusal}
@@ -20,6 +19,7 @@ use Rattle.pcal_tree.specs.laws.MacroSummaries.{same_truth}
 use Rattle.pcal_tree.specs.laws.MacroUses.{NameUse, applied, assigned, handed, Uses, MacroUses, used_word, offences_as, same_place, same_refusal, same_use, no_uses, offending, both, use_inside, form_uses, tree_uses, parts_uses, root_uses, left_uses, left_parts_uses, CallUses, assignments_uses, binds_uses, bound_after, one_uses, body_uses, branches_uses, argument_uses, called_use, called_uses, call_uses, offences_seen, offences_by_uses}
 use Rattle.pcal_tree.proofs.SetLaws.{or_mixed, any_flat, Same, Sound, any_union}
 use Rattle.pcal_tree.proofs.FirstLaws.{place_sound, refusal_sound}
+use Rattle.pcal_tree.proofs.RebindNames.{and_nothing}
 
 -- ---- what is the same is equal
 
@@ -92,9 +92,6 @@ seen_both s a b f =
 
 says_both : (s : Sight) (rs qs : List Refusal) (a b : Uses) → Says s rs a → Says s qs b → Says s (rs ++ qs) (both a b)
 says_both s rs qs a b h k f = list_any-append f rs qs ∙ (λ i. h f i || k f i) ∙ seen_both s a b f
-
-and_nothing : (rs : List Refusal) → Same rs (rs ++ [])
-and_nothing rs f = sym (list_any-append f rs [] ∙ or-false (list_any f rs))
 
 says_offending : (s : Sight) (rs : List Refusal) → Says s rs (offending rs)
 says_offending s rs = and_nothing rs

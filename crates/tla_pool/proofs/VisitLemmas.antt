@@ -14,6 +14,7 @@ use Rattle.tla_pool.specs.Done.{AreMade, IsDone, AreDone}
 use Rattle.tla_pool.specs.Visits.{number_of, IsNode, Fits, AllFit, WillBe, AllWillBe, InOrder, to_parts, Enters, work, all_work}
 use Rattle.tla_pool.proofs.PoolGrown.{Keeps-same}
 use Rattle.tla_pool.proofs.DoneLemmas.{AreMade-kept, AreMade-keep, AreMade-found}
+use Rattle.std.proofs.Math.Logic.{⊎_map}
 
 -- ---- what is done
 abbrev IsFound : Option ℕ → Type 0
@@ -74,9 +75,6 @@ fits_enter ts vs i n h k =
     fits_append ts vs (visit.Leave i n ∷ to_parts n.parts) (fits_before ts vs (visit.Enter i) h) ((l, k), fits_parts ts n.parts (AllBelow-more i (length ts) n.parts (omega (arith, l)) k.1))
 
 -- ---- a visit is made
-on_right : {A B C : Type 0} → (B → C) → A ⊎ B → A ⊎ C
-on_right f (inl a) = inl a
-on_right f (inr b) = inr (f b)
 
 will_after : (d e : List (ℕ × ℕ)) (vs : List Visit) (v : Visit) (i : ℕ) → ((j : ℕ) → IsDone d j → IsDone e j) → IsDone e (number_of v) → WillBe d (vs ++ v ∷ []) i → WillBe e vs i
 will_after d e [] v i m k h = after h
@@ -84,7 +82,7 @@ will_after d e [] v i m k h = after h
     after : (number_of v ≡ i) ⊎ IsDone d i → IsDone e i
     after (inl q) = subst (IsDone e) q k
     after (inr q) = m i q
-will_after d e (w ∷ vs) v i m k h = on_right (will_after d e vs v i m k) h
+will_after d e (w ∷ vs) v i m k h = ⊎_map (λ q. q) (will_after d e vs v i m k) h
 
 all_after : (d e : List (ℕ × ℕ)) (vs : List Visit) (v : Visit) (is : List ℕ) → ((j : ℕ) → IsDone d j → IsDone e j) → IsDone e (number_of v) → AllWillBe d (vs ++ v ∷ []) is → AllWillBe e vs is
 all_after d e vs v [] m k h = tt
@@ -111,8 +109,8 @@ will_parts d i [] h = h
 will_parts d i (j ∷ is) h = inr (will_parts d i is h)
 
 will_enter : (d : List (ℕ × ℕ)) (vs : List Visit) (i j : ℕ) (n : Entry) → WillBe d (vs ++ visit.Enter j ∷ []) i → WillBe d (vs ++ visit.Leave j n ∷ to_parts n.parts) i
-will_enter d [] i j n h = on_right (will_parts d i n.parts) h
-will_enter d (w ∷ vs) i j n h = on_right (will_enter d vs i j n) h
+will_enter d [] i j n h = ⊎_map (λ q. q) (will_parts d i n.parts) h
+will_enter d (w ∷ vs) i j n h = ⊎_map (λ q. q) (will_enter d vs i j n) h
 
 all_enter : (d : List (ℕ × ℕ)) (vs : List Visit) (is : List ℕ) (j : ℕ) (n : Entry) → AllWillBe d (vs ++ visit.Enter j ∷ []) is → AllWillBe d (vs ++ visit.Leave j n ∷ to_parts n.parts) is
 all_enter d vs [] j n h = tt
@@ -151,7 +149,7 @@ some_work ts (visit.Enter i) = some (at ts i)
     some (node m p us) = omega arith
 some_work ts (visit.Leave i n) = omega arith
 
-less_after : (ts : List Tree) (vs : List Visit) (v : Visit) → all_work ts vs < all_work ts (vs ++ v ∷ [])
+pub less_after : (ts : List Tree) (vs : List Visit) (v : Visit) → all_work ts vs < all_work ts (vs ++ v ∷ [])
 less_after ts vs v = (let e = work_append ts vs (v ∷ []) in let s = some_work ts v in omega (arith, e, s))
 
 less_enter : (ts : List Tree) (vs : List Visit) (i : ℕ) (n : Entry) → IsNode ts i n → all_work ts (vs ++ visit.Leave i n ∷ to_parts n.parts) < all_work ts (vs ++ visit.Enter i ∷ [])
@@ -217,9 +215,6 @@ goes_leave g ts us ws d vs i n e made h k l t =
       order = order_after d (insert_entry nat_eq d i made) vs (visit.Leave i n) (IsDone-kept d i made) (IsDone-new d i made) h.order;
       will = will_after d (insert_entry nat_eq d i made) vs (visit.Leave i n) e (IsDone-kept d i made) (IsDone-new d i made) h.will;
     }
-
-pub less_leave : (ts : List Tree) (vs : List Visit) (i : ℕ) (n : Entry) → all_work ts vs < all_work ts (vs ++ visit.Leave i n ∷ [])
-less_leave ts vs i n = less_after ts vs (visit.Leave i n)
 
 -- what was made of the number, when it is done
 pub goes_end : (g : Graft) (ts us : List Tree) (d : List (ℕ × ℕ)) (vs : List Visit) (e made : ℕ) → e < length ts → Goes g ts us d vs e → lookup (nat_eq e) d ≡ Some made → (made < length us) × (at us made ≡ graft g (at ts e))

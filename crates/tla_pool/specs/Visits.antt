@@ -1,5 +1,6 @@
 -- A walk over the tree of a number without recursion: the visits that are still to be made, of which the last is the next one.
 use Rattle.std.specs.Prelude.{◌≡◌, ◌⊎◌, ℕ, ◌+◌, ◌<◌, List, [], ◌∷◌, ◌++◌, length, map}
+use Rattle.std.specs.List.{AllByRecursion}
 use Rattle.tla_pool.specs.declared.graft.Visit.{Visit}
 use Rattle.tla_pool.specs.declared.graft.Visit.TheVariants as visit
 use Rattle.tla_tree.specs.Tree.{Tree, size}
@@ -20,8 +21,7 @@ Fits ts (visit.Enter i) = i < length ts
 Fits ts (visit.Leave i n) = (i < length ts) × IsNode ts i n
 
 abbrev pub AllFit : List Tree → List Visit → Type 0
-AllFit ts [] = Unit {0}
-AllFit ts (v ∷ vs) = Fits ts v × AllFit ts vs
+AllFit ts vs = AllByRecursion (Fits ts) vs
 
 -- the number is done, or will be
 abbrev pub WillBe : List (ℕ × ℕ) → List Visit → ℕ → Type 0
@@ -29,8 +29,7 @@ WillBe done [] i = IsDone done i
 WillBe done (v ∷ vs) i = (number_of v ≡ i) ⊎ WillBe done vs i
 
 abbrev pub AllWillBe : List (ℕ × ℕ) → List Visit → List ℕ → Type 0
-AllWillBe done vs [] = Unit {0}
-AllWillBe done vs (i ∷ is) = WillBe done vs i × AllWillBe done vs is
+AllWillBe done vs is = AllByRecursion (WillBe done vs) is
 
 -- where a node's parts aren't done, they are visited before it
 abbrev pub InOrder : List (ℕ × ℕ) → List Visit → Type 0

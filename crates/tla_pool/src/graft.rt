@@ -73,7 +73,7 @@ pub fn grafted<G: Grafting>(
         match visit {
             Visit::Enter(i) => enter(alloc, pool, i, &done, &mut ahead)?,
             Visit::Leave(i, node) => {
-                let made = over_done(alloc, pool, node, g, &done)?;
+                let made = over_made_parts(alloc, pool, node, g, &done)?;
                 done.keep(i, made)?;
             }
         }
@@ -104,8 +104,8 @@ fn enter(
     Ok(())
 }
 
-// The grafted node, whose parts are done.
-fn over_done<G: Grafting>(
+// The grafted node: what is put in for it, or the node over what was made of its parts, which are done.
+fn over_made_parts<G: Grafting>(
     alloc: Global,
     pool: &mut Pool,
     node: Node,

@@ -20,7 +20,7 @@ abbrev pub SoundDens : List Denotation → Type 0
 SoundDens [] = Unit {0}
 SoundDens (d ∷ ds) = SoundDen d × SoundDens ds
 
-proper_either : (b : Bool) (s t : Sense) → Proper s.value → Proper t.value → Proper (cond b s t).value
+pub proper_either : (b : Bool) (s t : Sense) → Proper s.value → Proper t.value → Proper (cond b s t).value
 proper_either true s t h k = h
 proper_either false s t h k = k
 

@@ -192,9 +192,6 @@ eval_steady c l t = (eval_fine c l t).1
 pub value_kept : Keeping plain
 value_kept at v c = c
 
-parts_have : (ds : List Denotation) (e : Env) → SoundDens ds → Sound e → Has AreAll (part_values ds e)
-parts_have = sound_values
-
 of_values : {X : Type 0} (P : X → Type 0) (o : Outcome X) (go : X → Sense) (v : Value) → Has P o → ((x : X) → P x → (go x).value ≡ Ok v → MeansAlike (go x) (just v))
     → (o >>= (λ x. (go x).value)) ≡ Ok v → MeansAlike (record { value = o >>= (λ x. (go x).value); test = λ p w. o >>= (λ x. (go x).test p w) }) (just v)
 of_values P (Ok x) go v h k q = k x h q
@@ -214,8 +211,8 @@ means_its_value (node (next x) at ts) e r k v q = k.primed x at v q
 means_its_value (node strings at ts) e r k v q = absurd cc
 means_its_value (node (strict o) at ts) e r k v q =
     of_values AreAll (part_values (evals plain ts) e) (λ vs. record { value = strict_value plain o at vs; test = λ p w. strict_test plain o at p w vs }) v
-    (parts_have (evals plain ts) e (evals_canonical plain value_kept ts) r) (λ vs c. strict_means o at v vs c) q
+    (sound_values (evals plain ts) e (evals_canonical plain value_kept ts) r) (λ vs c. strict_means o at v vs c) q
 means_its_value (node (operator_call g) at ts) e r k v q =
     of_values AreAll (part_values (evals plain ts) e) (λ vs. called at (e.defs g) vs) v
-    (parts_have (evals plain ts) e (evals_canonical plain value_kept ts) r) (λ vs c. k.defs g at vs c v) q
+    (sound_values (evals plain ts) e (evals_canonical plain value_kept ts) r) (λ vs c. k.defs g at vs c v) q
 means_its_value (node m at ts) e r k v q = made_means _ v q

@@ -1,7 +1,7 @@
 -- What it is for a value to be within the limits, part by part.
 use Rattle.std.proofs.Common.{◌≡◌, ℕ, suc, pos, ◌+◌, ◌≤◌, ◌<◌, Bool, true, false, List, [], ◌∷◌, length, refl, sym, ap, ◌∙◌, arith, Ok, Err}
 use Rattle.std.specs.Prelude.{◌&&◌, ◌^◌, nat_le, if◌then◌else◌}
-use Rattle.std.proofs.lemmas.Bool.{leb-true, le-leb, and_parts}
+use Rattle.std.proofs.lemmas.Bool.{leb-true, le-leb, and_parts, false_from_ne_true}
 use Rattle.tla_token.specs.declared.place.Place.{Place}
 use Rattle.tla_token.specs.Limits.{most_members, deepest_value}
 use Rattle.tla_value.specs.Value.{Value, Values, set, fun, values_in, over}
@@ -24,28 +24,24 @@ fits_by v h k = joined (fits_parts v) (nat_le (depth v) deepest_value) h (le-leb
 
 -- ---- sets and functions
 
-not_true : (b : Bool) → (b ≡ true → ⊥) → b ≡ false
-not_true true h = absurd (h refl)
-not_true false h = refl
-
 count_of : (vs : Values) → fits_count vs ≡ true → count vs ≤ most_members
 count_of vs h = leb-true (count vs) most_members h
 
 pub set_many : (vs : Values) → most_members < count vs → fits (set vs) ≡ false
-set_many vs l = not_true (fits (set vs)) (λ h. omega (arith, count_of vs (and_parts (fits_count vs) (all_fit vs) (fits_parts_of (set vs) h)).0))
+set_many vs l = false_from_ne_true (fits (set vs)) (λ h. omega (arith, count_of vs (and_parts (fits_count vs) (all_fit vs) (fits_parts_of (set vs) h)).0))
 
 pub set_deep : (vs : Values) → deepest_value ≤ depths vs → fits (set vs) ≡ false
-set_deep vs l = not_true (fits (set vs)) (λ h. omega (arith, depth_of (set vs) h))
+set_deep vs l = false_from_ne_true (fits (set vs)) (λ h. omega (arith, depth_of (set vs) h))
 
 pub set_fits : (vs : Values) → count vs ≤ most_members → depths vs < deepest_value → all_fit vs ≡ true → fits (set vs) ≡ true
 set_fits vs l d h = fits_by (set vs) (joined (fits_count vs) (all_fit vs) (le-leb (count vs) most_members l) h) (omega arith)
 
 pub fun_many : (ds vs : Values) → most_members < count ds → fits (fun ds vs) ≡ false
 fun_many ds vs l =
-    not_true (fits (fun ds vs)) (λ h. omega (arith, count_of ds (and_parts (fits_count ds) (all_fit ds && all_fit vs) (fits_parts_of (fun ds vs) h)).0))
+    false_from_ne_true (fits (fun ds vs)) (λ h. omega (arith, count_of ds (and_parts (fits_count ds) (all_fit ds && all_fit vs) (fits_parts_of (fun ds vs) h)).0))
 
 pub fun_deep : (ds vs : Values) → deepest_value ≤ depths vs → fits (fun ds vs) ≡ false
-fun_deep ds vs l = not_true (fits (fun ds vs)) (λ h. omega (arith, depth_of (fun ds vs) h))
+fun_deep ds vs l = false_from_ne_true (fits (fun ds vs)) (λ h. omega (arith, depth_of (fun ds vs) h))
 
 pub fun_fits : (ds vs : Values) → count ds ≤ most_members → depths ds < deepest_value → depths vs < deepest_value → all_fit ds ≡ true → all_fit vs ≡ true → fits (fun ds vs) ≡ true
 fun_fits ds vs l d e h k =

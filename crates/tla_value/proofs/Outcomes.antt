@@ -5,6 +5,11 @@ use Rattle.tla_value.specs.Value.{◌>>=◌, Outcome}
 pub ok_is : {X : Type 0} {x y : X} → ◌≡◌ {A = Outcome X} (Ok x) (Ok y) → x ≡ y
 ok_is e = cc
 
+-- what goes on with a result has one to go on with
+pub bound_ok : {X Y : Type 0} (o : Outcome X) (go : X → Outcome Y) (y : Y) → o >>= go ≡ Ok y → (x : X) × (o ≡ Ok x) × (go x ≡ Ok y)
+bound_ok (Ok x) go y e = (x, refl, e)
+bound_ok (Err k) go y e = cc
+
 pub then_ok : {X : Type 0} (o : Outcome X) → (o >>= Ok) ≡ o
 then_ok (Ok x) = refl
 then_ok (Err k) = refl

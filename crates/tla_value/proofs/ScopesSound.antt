@@ -1,21 +1,20 @@
 -- In the scope of definitions names stand for canonical values where constants and states have such, and what has a value is tested by it.
-use Rattle.std.proofs.Common.{◌≡◌, ℕ, suc, ℤ, pos, ◌+ℤ◌, ◌-ℤ◌, Bool, true, false, cond, bytes_eq, codes, List, [], ◌∷◌, ◌++◌, length, Option, Some, None, refl, sym, ap, ◌∙◌, subst, Ok, Err}
+use Rattle.std.proofs.Common.{◌≡◌, suc, ℤ, pos, ◌+ℤ◌, ◌-ℤ◌, Bool, true, false, cond, bytes_eq, codes, List, [], ◌∷◌, ◌++◌, Option, Some, None, refl, sym, ap, ◌∙◌, Ok, Err}
 use Rattle.tla_token.specs.declared.place.Place.{Place}
 use Rattle.tla_tree.specs.Tree.{Word}
 use Rattle.tla_value.specs.declared.fault.FaultKind.TheVariants.{AssertFailed}
-use Rattle.tla_value.specs.Value.{Value, Values, truth, int, set, fun, Outcome, Sense, fault, values_in, ◌>>=◌, in_order}
-use Rattle.tla_value.specs.Order.{IsCanonical, AreCanonical, count, listed, seq_from}
-use Rattle.tla_value.specs.Stops.{Check, truth_at, int_at, members_at, sequence_at, one_of, two_of, three_of, misshapen, sense_of}
+use Rattle.tla_value.specs.Value.{Value, truth, int, set, Outcome, Sense, fault, values_in, in_order}
+use Rattle.tla_value.specs.Order.{IsCanonical, AreCanonical, count, listed}
+use Rattle.tla_value.specs.Stops.{Check, truth_at, int_at, members_at, sequence_at, one_of, two_of, three_of, misshapen}
 use Rattle.tla_value.specs.Sets.{range, natural}
-use Rattle.tla_value.specs.Strict.{applied}
 use Rattle.tla_value.specs.Standard.{Standard, length_of, appended, first_of, rest_of, part_of, sequences, size_of, is_finite, printed, asserted, standard_of, headed, tailed, element, part_between, standard_value, standard_sense, standard_called, is_int, is_natural, standard_name}
 use Rattle.tla_value.specs.Meaning.{Env, just, bind, called, only_tested, eval}
 use Rattle.tla_value.specs.Definitions.{Valuation, Definition, or_sense, base, in_states, at_use, with_arguments, body_sense, defined, with_definitions, scope_of}
 use Rattle.tla_value.specs.laws.CanonicalNames.{Has, Proper, Keeping, Sound, MeansAlike, TestsByValue}
 use Rattle.tla_value.proofs.OrderFuns.{seq_from_canonical, values_listed}
-use Rattle.tla_value.proofs.Canonical.{then_has, any_has, has_cond, IsSet, append_canonical, listed_canonical, integers_canonical}
+use Rattle.tla_value.proofs.Canonical.{then_has, any_has, has_cond, IsSet, append_canonical, integers_canonical}
 use Rattle.tla_value.proofs.CanonicalForms.{AreBoth, AreAll, one_proper, two_proper, set_proper, sequence_proper, applied_proper}
-use Rattle.tla_value.proofs.CanonicalEval.{sound_bind, eval_canonical}
+use Rattle.tla_value.proofs.CanonicalEval.{sound_bind, eval_canonical, proper_either}
 use Rattle.tla_value.proofs.CanonicalTests.{made_means}
 
 -- ---- what has a value is tested by it
@@ -87,12 +86,8 @@ or_proper : (o : Option Value) (s : Sense) → ((v : Value) → o ≡ Some v →
 or_proper (Some w) s h k = h w refl
 or_proper None s h k = k
 
-sense_proper : (b : Bool) (s t : Sense) → Proper s.value → Proper t.value → Proper (cond b s t).value
-sense_proper true s t h k = h
-sense_proper false s t h k = k
-
 name_proper : (x : Word) (at : Place) → Proper (standard_name x at).value
-name_proper x at = sense_proper (bytes_eq (codes "Nat") x) _ _ tt (sense_proper (bytes_eq (codes "Int") x) _ _ tt tt)
+name_proper x at = proper_either (bytes_eq (codes "Nat") x) _ _ tt (proper_either (bytes_eq (codes "Int") x) _ _ tt tt)
 
 head_proper : (at : Place) (vs : List Value) → AreAll vs → Proper (headed at vs)
 head_proper at [] h = tt
@@ -186,7 +181,7 @@ body_proper c l d None h at = tt
 
 defined_sound : (c : Check) → Keeping c → (d : Definition) (ps : List Word) (e : Env) → Sound e → Sound (defined c d ps e)
 defined_sound c l d [] e h = record {
-  now = λ x at. sense_proper (bytes_eq d.title x) (body_sense c d (Some e) at) (e.now x at) (body_proper c l d (Some e) h at) (h.now x at);
+  now = λ x at. proper_either (bytes_eq d.title x) (body_sense c d (Some e) at) (e.now x at) (body_proper c l d (Some e) h at) (h.now x at);
   primed = h.primed;
   defs = h.defs;
 }

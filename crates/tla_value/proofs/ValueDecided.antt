@@ -17,6 +17,7 @@ use Rattle.tla_value.specs.ValueText.{Mark, word, number, quote, sign, Spelling,
 use Rattle.tla_value.specs.ValueSeen.{mark_of, marks_of, FitBefore, SpellsFrom, is_no_block, ends_in_token}
 use Rattle.tla_value.proofs.ValueReader.{read, steps, member_steps, field_steps, pair_steps, read_marks}
 use Rattle.tla_value.proofs.ValueOnce.{text_before, cut_at, joined, ends_more, some_text}
+use Rattle.std.proofs.lemmas.Option.{same_Some}
 
 -- ---- what can be told
 
@@ -338,9 +339,6 @@ first_mark (pairs d s ps) r = (_, _, refl)
 none_is_some : {A : Type 0} (a : A) → None ≡ Some a → ⊥
 none_is_some a e = cc
 
-taken : {A : Type 0} (a b : A) → Some a ≡ Some b → a ≡ b
-taken a b e = cc
-
 pub value_told : (bytes : List ℕ) (at : ℕ) → Told (ValueAt bytes at)
 value_told bytes at = by (read (2 * length ms) ms) refl
   where
@@ -349,7 +347,7 @@ value_told bytes at = by (read (2 * length ms) ms) refl
 
     -- the spelling of a value there, and what is read
     pair_of : (x : ValueAt bytes at) (p : Spelling × List Mark) → read (2 * length ms) ms ≡ Some p → (x.2.spells.0, seen (parts (drop x.0 bytes))) ≡ p
-    pair_of x p e = taken (x.2.spells.0, seen (parts (drop x.0 bytes))) p (sym (is_read bytes at x.0 x.1 x.2) ∙ e)
+    pair_of x p e = same_Some (x.2.spells.0, seen (parts (drop x.0 bytes))) p (sym (is_read bytes at x.0 x.1 x.2) ∙ e)
 
     found : (s : Spelling) (r : List Mark) → read (2 * length ms) ms ≡ Some (s, r) → Told (ms ≡ marks s r) → Told (IsGood s) → Told (IsWithin s deepest_value) → Told (ValueAt bytes at)
     found s r e (inl m) (inl g) (inl w) =

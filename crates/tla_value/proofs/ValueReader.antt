@@ -6,6 +6,7 @@ use Rattle.tla_tree.specs.Tree.{Word}
 use Rattle.tla_value.specs.Value.{text}
 use Rattle.tla_value.specs.Order.{same}
 use Rattle.tla_value.specs.ValueText.{Mark, word, number, quote, sign, Spelling, Spellings, Fields, Pairs, truth_word, digits, minus, quoted, named, braces, angles, fields, pairs, no_spellings, spelling, no_fields, field, no_pairs, pair, marks, marks_in, more_marks, field_marks, pair_marks, IsGood, AreGood, AreGoodFields, AreGoodPairs, truth_name, is_identifier}
+use Rattle.std.proofs.lemmas.Option.{same_Some}
 
 -- ---- the reader
 
@@ -209,14 +210,11 @@ mutual
 
 -- ---- in one way
 
-taken : {A : Type 0} (a b : A) → Some a ≡ Some b → a ≡ b
-taken a b e = cc
-
 -- two spellings whose tokens go on in one list are one, and end in one place
 pub one_spelling : (s t : Spelling) (r q : List Mark) → IsGood s → IsGood t → marks s r ≡ marks t q → (s ≡ t) × (r ≡ q)
 one_spelling s t r q g h e =
     let k = steps s + steps t in
     let p : Spelling × List Mark = (s, r) in
     let o : Spelling × List Mark = (t, q) in
-    let same_read : p ≡ o = taken p o (sym (read_marks s k r g (omega arith)) ∙ ap (λ (ts : List Mark). read k ts) e ∙ read_marks t k q h (omega arith)) in
+    let same_read : p ≡ o = same_Some p o (sym (read_marks s k r g (omega arith)) ∙ ap (λ (ts : List Mark). read k ts) e ∙ read_marks t k q h (omega arith)) in
     (ap (λ (x : Spelling × List Mark). x.0) same_read, ap (λ (x : Spelling × List Mark). x.1) same_read)

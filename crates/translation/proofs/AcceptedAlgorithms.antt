@@ -24,10 +24,10 @@ use Rattle.translation.proofs.AcceptedNames.{names_once, definitions_free, bodie
 use Rattle.translation.proofs.OnceThrough.{accepted_once}
 use Rattle.translation.proofs.FewNames.{few_names, tokens_within}
 use Rattle.translation.proofs.KnownRoutines.{routine_written}
-use Rattle.translation.proofs.RegionActions.{every_both}
 use Rattle.translation.proofs.TypedLabels.{labelled_typed}
 use Rattle.translation.proofs.TypedTexts.{text_typed}
 use Rattle.pcal_tree.proofs.ClearLabels.{both_none}
+use Rattle.pcal_tree.proofs.OneStand.{every_both}
 
 -- its name, its variables and a body that isn't empty
 abbrev IsTypedRoutine : Routine → Type 0

@@ -1,15 +1,14 @@
 -- In the module of an accepted algorithm ProcSet has just the identifiers of the processes, and the test of Termination is true of a sound state exactly where all are done.
-use Rattle.std.proofs.Common.{◌≡◌, ℕ, suc, List, [], ◌∷◌, ◌++◌, map, Bool, true, false, ◌||◌, cond, bytes_eq, codes, Option, Some, None, inl, refl, sym, ap, ◌∙◌, subst, Ok, Err}
+use Rattle.std.proofs.Common.{◌≡◌, List, ◌++◌, map, Bool, true, false, cond, bytes_eq, codes, Option, Some, None, inl, refl, sym, ap, ◌∙◌, subst, Ok, Err}
 use Rattle.std.proofs.lemmas.Slice.Eq.{bytes_eq-Decides}
 use Rattle.tla_token.specs.declared.place.Place.{Place}
 use Rattle.tla_token.specs.Places.{nowhere}
 use Rattle.tla_token.specs.Words.{is_own}
-use Rattle.tla_tree.specs.Tree.{Word, words, Tree, set_of}
-use Rattle.tla_value.specs.Value.{Value, Values, set, text, Outcome, TrueExactly, ◌>>=◌}
+use Rattle.tla_tree.specs.Tree.{Word, words, Tree}
+use Rattle.tla_value.specs.Value.{Value, set, text, Outcome, TrueExactly}
 use Rattle.tla_value.specs.Order.{holds, set_from}
 use Rattle.tla_value.specs.Outside.{Outside, ReadDefinition, found}
 use Rattle.tla_value.specs.Stops.{plain}
-use Rattle.tla_value.specs.Strict.{strict_value}
 use Rattle.tla_value.specs.Meaning.{Env, just, eval}
 use Rattle.tla_value.specs.Definitions.{Valuation, no_state, or_sense, base, in_states, scope_of}
 use Rattle.tla_value.specs.laws.Untitled.{Untitled}
@@ -21,27 +20,25 @@ use Rattle.module_tree.specs.ActionTruth.{value_in, truth_in}
 use Rattle.module_tree.specs.Module.{Module}
 use Rattle.module_tree.specs.ModuleTruth.{scope}
 use Rattle.module_tree.proofs.Tells.{tells_as}
-use Rattle.pcal_tree.specs.Algorithm.{Process, Main, alone, processes, first_process, alone_routine, process_routine, Algorithm}
+use Rattle.pcal_tree.specs.Algorithm.{Main, alone, processes, first_process, alone_routine, Algorithm}
 use Rattle.pcal_tree.specs.Faults.{Sound}
-use Rattle.pcal_tree.specs.Processes.{OneOf, identifier, identifiers, all_actors, actors_of, actors_in, sorted, actors, IsActor}
+use Rattle.pcal_tree.specs.Processes.{OneOf, identifier, identifiers, actors_in, sorted, actors, IsActor}
 use Rattle.pcal_tree.specs.Program.{Program, Actor, inner}
 use Rattle.pcal_tree.specs.Programs.{program_in}
 use Rattle.pcal_tree.specs.Scope.{State}
 use Rattle.pcal_tree.specs.Step.{pc_of}
-use Rattle.pcal_tree.specs.Takers.{each_of, single, takers_of}
 use Rattle.pcal_tree.specs.Variables.{pc, on_variables}
-use Rattle.pcal_tree.proofs.ProcessesInOrder.{id, ids, Distinct, ids_of_actors, sorted_ascending}
-use Rattle.action_builder.specs.ProcessSets.{set_of_takers, sets_of_processes, union, process_set_of}
+use Rattle.pcal_tree.proofs.ProcessesInOrder.{id, ids, Distinct, sorted_ascending}
+use Rattle.action_builder.specs.ProcessSets.{process_set_of}
 use Rattle.action_builder.specs.WrittenNames.{with_names}
 use Rattle.action_builder.specs.laws.WrittenScope.{definitions_of}
-use Rattle.action_builder.proofs.ProcSetIs.{AreSets, held_in, process_set_is}
 use Rattle.promise.specs.ConstantsAndStates.{AreConstants}
 use Rattle.translation.specs.Region.{region_of}
 use Rattle.translation.specs.laws.AcceptedAlgorithm.{IsAcceptedInFile}
 use Rattle.translation.specs.laws.AcceptedLaws.{extra_of}
 use Rattle.translation.proofs.FramesAccepted.{pc_among}
 use Rattle.translation.proofs.InitScopes.{grows, NoValue, scope_grows, scope_lacks, with_both, set_grows, Lacks}
-use Rattle.translation.proofs.InitSets.{G, Gives, identity_gives, identity_canonical, value_grows, all_parts, ids_both, running_all, process_set_gives}
+use Rattle.translation.proofs.InitSets.{G, running_all, process_set_gives, union_is}
 use Rattle.translation.proofs.NamesApart.{self_some, free, own_differs, extra_untitled_by, untitled_mapped, untitled_joined}
 use Rattle.translation.proofs.NamesOfRules.{Unreserved, not_own, turned}
 use Rattle.translation.proofs.NextEnds.{PcRead, AllDone, AllThere, all_done_true}
@@ -83,33 +80,6 @@ module _ (b : Bool) (title : Word) (o : Outside) (g : Algorithm) (h : IsAccepted
         subst (Envs grows (G o g h title first.region values k)) (sym (with_both (definitions_of P) (extra_of g) (in_states no_state no_state (base plain values))))
         (set_grows (process_set_of g.main) (G o g h title first.region values k) (scope_of plain values (definitions_of P) no_state no_state) set_lacks (scope_grows values (definitions_of P) no_state no_state (λ x. inl refl)))
 
-    module _ (X : Env) (grow : Envs grows (G o g h title first.region values k) X) where
-      taker_set : (p : Process) (is : Values) → Gives o g h title first.region values k p.several p.identity is → (eval plain (set_of_takers (takers_of p)) X).value ≡ Ok (set is)
-      taker_set p is = by p.several
-        where
-          by : (b : Bool) → Gives o g h title first.region values k b p.identity is → (eval plain (set_of_takers (cond b (each_of p.identity) (single p.identity))) X).value ≡ Ok (set is)
-          by true e = value_grows o g h title first.region values k X grow p.identity (set is) e
-          by false (i, q, e) = (λ j. (value_grows o g h title first.region values k X grow p.identity i e j >>= (λ v. Ok (v ∷ []))) >>= (strict_value plain set_of nowhere)) ∙ ap (λ z. Ok (set z)) (sym q)
-
-      sets_are : (n : ℕ) (ps : List Process) (vs : List Actor) → all_actors P n ps ≡ Ok vs → (vss : List Values) × AreSets X (sets_of_processes ps) vss × ((x : Value) → held_in x vss ≡ holds x (ids vs))
-      sets_are n [] vs e = ([], tt, λ x. ap (λ zs. holds x (ids zs)) (ok_is e))
-      sets_are n (p ∷ ps) vs e =
-          let (is, more, d, f, q) = all_parts P n p ps vs e in
-          let (vss, s, r) = sets_are (suc n) ps more f in
-          let gives = identity_gives o g h title first.region values k p is d in (
-            is ∷ vss,
-            (taker_set p is gives, (identity_canonical o g h title first.region values k p.several p.identity is gives).0, s),
-            λ x. (λ i. holds x (sym (ids_of_actors (process_routine n p) is) i) || r x i) ∙ sym (ids_both (actors_of (process_routine n p) is) more x) ∙ ap (λ zs. holds x (ids zs)) (sym q),
-          )
-
-      union_is : (n : ℕ) (ps : List Process) (vs : List Actor) → all_actors P n ps ≡ Ok vs → Distinct vs → (eval plain (union (sets_of_processes ps)) X).value ≡ Ok (set (ids (sorted vs)))
-      union_is n [] vs e d = ap (λ zs. Ok (set (ids (sorted zs)))) (ok_is e)
-      union_is n (p ∷ ps) vs e d = by (sets_are n (p ∷ ps) vs e)
-        where
-          by : (vss : List Values) × AreSets X (sets_of_processes (p ∷ ps)) vss × ((x : Value) → held_in x vss ≡ holds x (ids vs)) → (eval plain (union (sets_of_processes (p ∷ ps))) X).value ≡ Ok (set (ids (sorted vs)))
-          by ([], s, r) = absurd s
-          by (is ∷ vss, s, r) = process_set_is X _ _ is vss s vs d r
-
     -- processes in order are in the order of a set
     ordered_set : (all vs : List Actor) → Distinct all → vs ≡ sorted all → ids vs ≡ set_from (identifiers vs)
     ordered_set all vs d q =
@@ -125,7 +95,7 @@ module _ (b : Bool) (title : Word) (o : Outside) (g : Algorithm) (h : IsAccepted
         by (processes ps) i n =
             let r = running_all o g h title first.region values k ps vs i all in
             ap (λ (z : Option Tree). elim z [ Some y ↦ (eval plain y (scope plain first values no_state no_state)).value | None ↦ Ok (set (ids vs)) ]) (sym n)
-            ∙ union_is (scope plain first values no_state no_state) none_grow (first_process g) ps r.all r.given r.distinct
+            ∙ union_is o g h title first.region values k (scope plain first values no_state no_state) none_grow (first_process g) ps r.all r.given r.distinct
             ∙ ap (λ zs. Ok (set (ids zs))) (sym r.ordered)
             ∙ ap (λ z. Ok (set z)) (ordered_set r.all vs r.distinct r.ordered)
 

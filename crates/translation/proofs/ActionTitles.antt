@@ -19,10 +19,10 @@ use Rattle.translation.proofs.NoPlaces.{all_labels, naming_bare, as_many_macros,
 abbrev titles : List Action → List Word
 titles xs = map (λ (a : Action). a.title) xs
 
-titles_joined : (xs ys : List Action) → titles (xs ++ ys) ≡ titles xs ++ titles ys
+pub titles_joined : (xs ys : List Action) → titles (xs ++ ys) ≡ titles xs ++ titles ys
 titles_joined xs ys = map-append (λ (a : Action). a.title) xs ys
 
-label_titles : (P : Program) (t : Taken) (ls : List Word) → titles (map (label_action P t) ls) ≡ map (label_name P t.routine) ls
+pub label_titles : (P : Program) (t : Taken) (ls : List Word) → titles (map (label_action P t) ls) ≡ map (label_name P t.routine) ls
 label_titles P t [] = refl
 label_titles P t (l ∷ ls) = λ i. label_name P t.routine l ∷ label_titles P t ls i
 

@@ -30,7 +30,7 @@ use Rattle.translation.specs.laws.PlacedStatements.{PlacedOne, Placed, AllPlaced
 use Rattle.translation.specs.laws.StepParts.{Asked, AskedOne, AskedIn, AskedSome, goes_on}
 use Rattle.translation.specs.laws.StepsOnce.{set_by, set_in, set_in_some, none_set, SetsOnceOne, SetsOnce, SetsOnceSome, JumpsOnceOne, JumpsOnce, JumpsOnceSome}
 use Rattle.translation.specs.laws.WritableAlgorithm.{AreWritableAssignments, AreWritableBinds, IsWritableStatement, AreWritableStatements, AreWritableBranches}
-use Rattle.translation.proofs.StepsOnce.{In, OnPath, IsReached, Has, apart_of}
+use Rattle.translation.proofs.StepsOnce.{In, OnPath, IsReached, Has, apart_of, joined_left, joined_right, joined_reached}
 use Rattle.translation.proofs.NamesFree.{AllOf, both_of, BindsOf, names_free, all_free}
 
 -- ---- what a path has after statements that don't jump
@@ -40,21 +40,6 @@ record Onward (ws : List Word) (p q : Path) : Type 0 where
   reached : IsReached p → IsReached q
   goes : (x : Word) → OnPath p x → OnPath q x
   assigns : IsReached p → (x : Word) → In ws x → OnPath q x
-
-joined_reached : (p q : Path) → IsReached p → IsReached (joined p q)
-joined_reached None q h = absurd h
-joined_reached (Some xs) None h = tt
-joined_reached (Some xs) (Some ys) h = tt
-
-joined_left : (p q : Path) (x : Word) → OnPath p x → OnPath (joined p q) x
-joined_left None q x h = absurd h
-joined_left (Some xs) None x h = h
-joined_left (Some xs) (Some ys) x h = in_front xs ys x h
-
-joined_right : (p q : Path) (x : Word) → OnPath q x → OnPath (joined p q) x
-joined_right None q x h = h
-joined_right (Some xs) None x h = absurd h
-joined_right (Some xs) (Some ys) x h = behind xs ys x h
 
 still_there : (p : Path) → Onward [] p (option_map (λ xs. [] ++ xs) p)
 still_there None = record { reached = λ h. h; goes = λ x h. h; assigns = λ h x m. absurd h }

@@ -1,5 +1,5 @@
 -- The procedures of an algorithm that can be written: those that are called, their numbers, and what is written for their calls.
-use Rattle.std.proofs.Common.{◌≡◌, ℕ, suc, ◌+◌, ◌<◌, ◌≤◌, length, List, [], ◌∷◌, Bool, true, false, ◌||◌, cond, bytes_eq, map, reverse, Some, None, ◌⊎◌, inl, inr, refl, sym, ap, subst, ◌∙◌, arith}
+use Rattle.std.proofs.Common.{◌≡◌, ℕ, suc, ◌+◌, ◌<◌, ◌≤◌, length, List, [], ◌∷◌, Bool, true, false, ◌||◌, cond, bytes_eq, map, reverse, Some, ◌⊎◌, inl, inr, refl, sym, ap, subst, ◌∙◌, arith}
 use Rattle.std.specs.List.{AllByRecursion}
 use Rattle.std.proofs.lemmas.Bool.{eqb-true}
 use Rattle.tla_token.specs.Signs.{is_among}
@@ -22,6 +22,7 @@ use Rattle.translation.specs.laws.WritableAlgorithm.{is_procedure, is_variable, 
 use Rattle.translation.proofs.WritableBodies.{label_string}
 use Rattle.translation.proofs.NamedBodies.{renames_put}
 use Rattle.translation.proofs.RoutinesNamed.{variables_named, names_fit, label_name_string}
+use Rattle.pcal_tree.proofs.StepVariables.{named_one}
 
 -- ---- numbers
 
@@ -102,14 +103,6 @@ module _ (a : Algorithm) where
       by (inl q) = exit_from (first_procedure a) a.procedures u q
       by (inr q) = main_exit a.main u q
 
-some_one : (x : Word) (us : List Routine) (p : Routine) → routine_named x us ≡ Some p → OneOf p us
-some_one x [] p e = cc
-some_one x (u ∷ us) p e = by (some_one x us p) (bytes_eq u.name.word x) e
-  where
-    by : (routine_named x us ≡ Some p → OneOf p us) → (b : Bool) → cond b (Some u) (routine_named x us) ≡ Some p → OneOf p (u ∷ us)
-    by f true d = inl (sym (ap (λ o. elim o as (λ q. Routine) [ None ↦ u | (Some v) ↦ v ]) d))
-    by f false d = inr (f d)
-
 pub one_declared : (ds : List Declaration) → AllByRecursion IsWritableDeclaration ds → (d : Declaration) → OneOf d ds → IsWritableDeclaration d
 one_declared [] h d k = absurd k
 one_declared (e ∷ ds) h d (inl q) = subst IsWritableDeclaration (sym q) h.0
@@ -144,6 +137,6 @@ module _ (o : Outside) (a : Algorithm) (h : IsWritableAlgorithm o a) where
   pub procedures_fit : (u : Routine) → OneOf u (routines a) → ProceduresFit program (written_initials program) u
   procedures_fit u k = record {
     own = names_fit o a h u k;
-    called = λ x p e. called_fits p (some_one x (procedure_routines a) p e);
-    same = λ x p e q. same_routine a u p k (some_one x (procedure_routines a) p e) (eqb-true u.number p.number q);
+    called = λ x p e. called_fits p (named_one x (procedure_routines a) p e);
+    same = λ x p e q. same_routine a u p k (named_one x (procedure_routines a) p e) (eqb-true u.number p.number q);
   }

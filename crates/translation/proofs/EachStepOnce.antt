@@ -133,7 +133,7 @@ calls_written (d ∷ older) quiet g free at m us h = by (calls_written older qui
 abbrev NoOffences : Effects → List Visit → Type 0
 NoOffences E vs = flat_map (offences_at E) vs ≡ []
 
-two_fine : (E : Effects) (vs ws : List Visit) → NoOffences E (vs ++ ws) → NoOffences E vs × NoOffences E ws
+pub two_fine : (E : Effects) (vs ws : List Visit) → NoOffences E (vs ++ ws) → NoOffences E vs × NoOffences E ws
 two_fine E vs ws h =
     let e = sym (flat_map-append (offences_at E) vs ws) ∙ h in
     (nothing_left (flat_map (offences_at E) vs) _ e, nothing_right (flat_map (offences_at E) vs) _ e)

@@ -1,6 +1,6 @@
 -- Where no label is missing, each statement that jumps ends its list or is followed by a label, also with macro calls written out.
 use Rattle.std.proofs.Common.{◌≡◌, ℕ, suc, List, [], ◌∷◌, ◌++◌, reverse, Bool, true, false, ◌||◌, cond, bytes_eq, codes, Option, Some, None, ◌⊎◌, inl, inr, refl, sym, subst, ◌∙◌}
-use Rattle.std.proofs.lemmas.Bool.{or_parts}
+use Rattle.std.proofs.lemmas.Bool.{or_parts, both_ways}
 use Rattle.std.specs.List.{flat_map, AllByRecursion}
 use Rattle.tla_token.specs.declared.rule.Refusal.{Refusal}
 use Rattle.tla_token.specs.declared.rule.Rule.{Rule}
@@ -106,17 +106,13 @@ macros_still (d ∷ older) h at m ts = by (bytes_eq d.name.word m) (macros_still
 
 -- ---- before another list
 
-absurd_true : (b : Bool) → b ≡ false → b ≡ true → ⊥
-absurd_true true e f = cc
-absurd_true false e f = cc
-
 mutual
   one_ends : (st : Statement) (rest : Statements) → jumps_one st ≡ false → JumpEnds st rest
   one_ends (branch e a b) rest h =
       let p = or_parts (jumps a) (jumps b) h in
-      (all_end a p.0, all_end b p.1, λ k. absurd (absurd_true (jumps a || jumps b) h k))
-  one_ends (either bs) rest h = (some_end bs h, λ k. absurd (absurd_true (jumps_some bs) h k))
-  one_ends (with bs b) rest h = (all_end b h, λ k. absurd (absurd_true (jumps b) h k))
+      (all_end a p.0, all_end b p.1, λ k. absurd (both_ways (jumps a || jumps b) h k))
+  one_ends (either bs) rest h = (some_end bs h, λ k. absurd (both_ways (jumps_some bs) h k))
+  one_ends (with bs b) rest h = (all_end b h, λ k. absurd (both_ways (jumps b) h k))
   one_ends (while e b) rest h = cc
   one_ends _ rest h = tt
 
@@ -207,7 +203,7 @@ module _ (E : Effects) (X : Writing) (still : IsStill X) where
   -- a statement that holds a label or a jump, before the rest
   stops_if : (p : Before) (st : Statement) (j : Partner) (b c : Bool) → due_after st j ≡ cond b (Some AfterBranch) None → (b ≡ false → c ≡ false) → (rest : Statements) → NoneMissing (visits E (next E p st j) rest) → c ≡ true → Stops (expand X rest)
   stops_if p st j true c d f rest h k = stops_after (next E p st j) AfterBranch refl d rest h
-  stops_if p st j false c d f rest h k = absurd (absurd_true c (f refl) k)
+  stops_if p st j false c d f rest h k = absurd (both_ways c (f refl) k)
 
   mutual
     one_ordered : (p : Before) (at : Span) (st : Statement) (rest : Statements) → NoneMissing (visits_inside E p st) → NoneMissing (visits E (next E p st (partner_of rest)) rest) → JumpsEnd (expand X rest) → JumpsEnd (expand_one X at st (expand X rest))

@@ -1,5 +1,5 @@
 -- All formulas of fairness of the module of an accepted algorithm, with what each is to be true of, for each process that it speaks of.
-use Rattle.std.proofs.Common.{◌≡◌, ℕ, zero, suc, ◌+◌, ◌<◌, ◌≤◌, length, List, [], ◌∷◌, map, Bool, true, false, cond, Some, ◌⊎◌, inl, inr, refl, sym, ap, ◌∙◌, subst, arith}
+use Rattle.std.proofs.Common.{◌≡◌, ℕ, suc, ◌≤◌, length, List, [], ◌∷◌, map, Bool, true, false, cond, Some, ◌⊎◌, inl, inr, refl, sym, ap, ◌∙◌, subst, arith}
 use Rattle.std.specs.Prelude.{flat_map}
 use Rattle.std.specs.List.{AllByRecursion}
 use Rattle.tla_tree.specs.Tree.{Word}
@@ -13,7 +13,7 @@ use Rattle.module_tree.specs.ModuleTruth.{scope}
 use Rattle.module_tree.specs.ActionTruth.{acts_of, no_acts, call_holds}
 use Rattle.pcal_tree.specs.declared.mark.Fairness.{Fairness as Wanted}
 use Rattle.pcal_tree.specs.declared.mark.Fairness.TheVariants.{Unfair, Weak, Strong}
-use Rattle.pcal_tree.specs.Algorithm.{Procedure, Process, Main, alone, processes, Routine, procedure_routine, numbered, first_procedure, first_process, procedure_routines, Algorithm}
+use Rattle.pcal_tree.specs.Algorithm.{Process, Main, alone, processes, Routine, numbered, first_procedure, first_process, procedure_routines, Algorithm}
 use Rattle.pcal_tree.specs.Faults.{Sound}
 use Rattle.pcal_tree.specs.OffencesLabels.{label_words}
 use Rattle.pcal_tree.specs.Processes.{OneOf}
@@ -31,34 +31,25 @@ use Rattle.fairness.specs.Demands.{Demand, all_steps, routine_steps, label_steps
 use Rattle.fairness.specs.FairnessLines.{over_of, line_of}
 use Rattle.fairness.specs.MarkedLabels.{strong_labels}
 use Rattle.fairness.specs.Obligations.{obligation_of}
-use Rattle.fairness.specs.ReachedProcedures.{reached_within, reached}
+use Rattle.fairness.specs.ReachedProcedures.{reached}
 use Rattle.promise.specs.ConstantsAndStates.{AreConstants, IsState}
 use Rattle.translation.specs.Region.{region_of}
 use Rattle.translation.specs.laws.AcceptedAlgorithm.{IsAcceptedInFile}
 use Rattle.translation.specs.laws.ActionLaws.{guard_holds, env_over, StepsFromNames, Told}
 use Rattle.translation.specs.laws.AcceptedLaws.{PreparedLaw, ReadyLaw}
-use Rattle.translation.proofs.FairLabels.{strong_is_label}
+use Rattle.fairness.proofs.LabelsShared.{strong_is_label}
 use Rattle.translation.proofs.FairTrue.{routine_line, label_line}
 use Rattle.translation.proofs.NextOfRegion.{SingleClearLaw}
 use Rattle.translation.proofs.NextTitles.{all_actions}
 use Rattle.translation.proofs.NextTrue.{env_for}
-use Rattle.translation.proofs.RegionActions.{one_filtered}
+use Rattle.fairness.proofs.LinesByProcess.{numbered_below, reached_some}
 
 -- ---- routines
-
-procedures_below : (n : ℕ) (ps : List Procedure) (u : Routine) → OneOf u (numbered procedure_routine n ps) → u.number < n + length ps
-procedures_below n [] u h = absurd h
-procedures_below n (p ∷ ps) u (inl e) = subst (λ k. k < n + suc (length ps)) (sym (ap (λ (v : Routine). v.number) e)) (omega arith)
-procedures_below n (p ∷ ps) u (inr h) = let b = procedures_below (suc n) ps u h in omega arith
 
 taken_above : (n : ℕ) (ps : List Process) (r : Taken) → OneOf r (numbered taken_process n ps) → n ≤ r.routine.number
 taken_above n [] r h = absurd h
 taken_above n (p ∷ ps) r (inl e) = subst (λ k. n ≤ k) (sym (ap (λ (z : Taken). z.routine.number) e)) (omega arith)
 taken_above n (p ∷ ps) r (inr h) = let b = taken_above (suc n) ps r h in omega arith
-
-reached_some : (n : ℕ) (a : Algorithm) (u v : Routine) → OneOf v (reached_within n a u) → OneOf v (procedure_routines a)
-reached_some zero a u v h = absurd h
-reached_some (suc n) a u v h = one_filtered _ v (procedure_routines a) h
 
 module _ (U : Algorithm → Readable) (prepared : PreparedLaw IsAcceptedInFile) (ready : ReadyLaw IsAcceptedInFile U) (clear : SingleClearLaw)
     (b : Bool) (title : Word) (o : Outside) (g : Algorithm) (h : IsAcceptedInFile o g) (values : Valuation) (s t : State) where
@@ -86,7 +77,7 @@ module _ (U : Algorithm → Readable) (prepared : PreparedLaw IsAcceptedInFile) 
       Its u = (u ≡ r.routine) ⊎ OneOf u (procedure_routines g)
 
       other : (u : Routine) → OneOf u (procedure_routines g) → r.routine.number ≡ u.number → ⊥
-      other u m q = (let below = procedures_below (first_procedure g) g.procedures u m in let above = taken_above (first_process g) ps r n in absurd (omega (arith, below, above, q)))
+      other u m q = (let below = numbered_below (first_procedure g) g.procedures u m in let above = taken_above (first_process g) ps r n in absurd (omega (arith, below, above, q)))
 
       some_is : {A : Type 0} {x y : A} → Some x ≡ Some y → x ≡ y
       some_is q = cc

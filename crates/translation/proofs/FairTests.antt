@@ -1,23 +1,18 @@
 -- The test before an action of fairness at any value of pc, and labels that are shared out between those that count and those that are left out.
-use Rattle.std.proofs.Common.{◌≡◌, List, [], ◌∷◌, map, Bool, true, false, not, ◌⊎◌, inl, inr, Option, Some, None, refl, sym, ap, ◌∙◌, subst, Ok, Err}
-use Rattle.std.specs.Option.{ok_or}
-use Rattle.std.proofs.lemmas.Bool.{or_left, or_right, or_cases, both_ways}
+use Rattle.std.proofs.Common.{◌≡◌, List, [], ◌∷◌, map, Bool, true, false, not, ◌⊎◌, inl, inr, Some, refl, sym, ap, ◌∙◌, subst, Ok, Err}
+use Rattle.std.proofs.lemmas.Bool.{or_left, or_right, or_cases, both_ways, not-true}
 use Rattle.std.proofs.lemmas.Slice.Eq.{bytes_eq-Decides}
 use Rattle.std.specs.Prelude.{bytes_eq}
 use Rattle.tla_token.specs.declared.place.Place.{Place}
 use Rattle.tla_token.specs.Places.{nowhere}
-use Rattle.tla_tree.specs.Tree.{Word, Tree, set_of, apply}
-use Rattle.tla_tree.specs.TreeOf.{trees_from}
-use Rattle.tla_value.specs.declared.fault.FaultKind.TheVariants.{NotInDomain}
-use Rattle.tla_value.specs.Value.{Value, truth, int, text, model, set, fun, fault, values_in, Outcome, ◌>>=◌, TrueExactly}
-use Rattle.tla_value.specs.Order.{same, holds, found_at}
+use Rattle.tla_tree.specs.Tree.{Word, Tree, apply}
+use Rattle.tla_value.specs.Value.{Value, text, values_in, Outcome, ◌>>=◌, TrueExactly}
+use Rattle.tla_value.specs.Order.{same, holds}
 use Rattle.tla_value.specs.OrderLaws.{same_is, same_self}
 use Rattle.tla_value.specs.Stops.{plain, truth_at}
-use Rattle.tla_value.specs.Strict.{applied, strict_value, strict_test, same_truth}
-use Rattle.tla_value.specs.Meaning.{Env, just, eval, evals, part_values}
-use Rattle.tla_value.proofs.OrderSets.{holds_set_from}
-use Rattle.module_tree.specs.Formulas.{named, quoted, at, is_in}
-use Rattle.module_tree.specs.Formulas as formulas
+use Rattle.tla_value.specs.Strict.{applied, strict_value}
+use Rattle.tla_value.specs.Meaning.{Env, just, eval}
+use Rattle.module_tree.specs.Formulas.{named, at}
 use Rattle.pcal_tree.specs.Processes.{OneOf}
 use Rattle.pcal_tree.specs.Program.{Actor, index, read_at}
 use Rattle.pcal_tree.specs.Scope.{State}
@@ -31,6 +26,8 @@ use Rattle.fairness.specs.laws.LinesOfObligations.{SharedOut}
 use Rattle.translation.specs.laws.ActionLaws.{guard_holds}
 use Rattle.translation.proofs.NamesApart.{never}
 use Rattle.translation.proofs.RoutinesNamed.{one_each_of}
+use Rattle.fairness.proofs.TestsOfLabels.{tested}
+use Rattle.action_builder.proofs.ActionsOfLabels.{applied_anywhere}
 
 -- ---- a value among strings
 
@@ -52,44 +49,16 @@ held_to w (y ∷ xs) h = by (held_to w xs) (or_cases (same w (text y)) (among_te
 
 -- ---- the test
 
-quoted_values : (xs : List Word) (env : Env) → part_values (evals plain (trees_from (map quoted xs))) env ≡ Ok (map text xs)
-quoted_values [] env = refl
-quoted_values (x ∷ xs) env = ap (λ o. o >>= (λ vs. Ok (text x ∷ vs))) (quoted_values xs env)
-
-quoted_test : (xs : List Word) (env : Env) (w : Value) → (eval plain (formulas.set (map quoted xs)) env).test nowhere w ≡ Ok (among_texts w xs)
-quoted_test xs env w = (λ i. quoted_values xs env i >>= strict_test plain set_of nowhere nowhere w) ∙ ap Ok (holds_set_from w (map text xs))
-
-tested : (e : Tree) (xs : List Word) (env : Env) (w : Value) → (eval plain e env).value ≡ Ok w → (eval plain (is_in false e (formulas.set (map quoted xs))) env).value ≡ Ok (truth (not (among_texts w xs)))
-tested e xs env w is =
-    (λ i. is i >>= (λ v. (eval plain (formulas.set (map quoted xs)) env).test nowhere v >>= (λ b. Ok (truth (same_truth false b)))))
-    ∙ (λ i. quoted_test xs env w i >>= (λ b. Ok (truth (same_truth false b))))
-
-not_true : (b : Bool) → not b ≡ true → b ≡ false
-not_true true e = cc
-not_true false e = refl
-
 -- it is true exactly where pc is at none of these labels
 pub guard_true : (c : Takers) (xs : List Word) (env : Env) (w : Value) → (eval plain (at (named pc) (identifier_of c)) env).value ≡ Ok w → TrueExactly (guard_holds env (guard_of c xs)) (among_texts w xs ≡ false)
 guard_true c [] env w e = (true, refl, (λ h. refl, λ h. refl))
 guard_true c (x ∷ xs) env w e = (
   not (among_texts w (x ∷ xs)),
   ap (λ o. o >>= (truth_at nowhere)) (tested (at (named pc) (identifier_of c)) (x ∷ xs) env w e),
-  (λ h. not_true (among_texts w (x ∷ xs)) h, λ h. ap not h),
+  (λ h. not-true (among_texts w (x ∷ xs)) h, λ h. ap not h),
 )
 
 -- ---- pc of a process
-
-applied_anywhere : (p q : Place) (f k v : Value) → applied p f k ≡ Ok v → applied q f k ≡ Ok v
-applied_anywhere p q (fun ds rs) k v e = by (found_at ds rs k) e
-  where
-    by : (o : Option Value) → ok_or o (fault NotInDomain p) ≡ Ok v → ok_or o (fault NotInDomain q) ≡ Ok v
-    by (Some w) e = ap (λ (o : Outcome Value). elim o [ Ok x ↦ Ok x | Err k ↦ Ok w ]) e
-    by None e = cc
-applied_anywhere p q (truth b) k v e = cc
-applied_anywhere p q (int z) k v e = cc
-applied_anywhere p q (text w) k v e = cc
-applied_anywhere p q (model w) k v e = cc
-applied_anywhere p q (set vs) k v e = cc
 
 then_ok : (o : Outcome Value) (at : Place) (w : Value) → (o >>= (read_at at [])) ≡ Ok w → o ≡ Ok w
 then_ok (Ok v) at w e = e

@@ -37,7 +37,7 @@ use Rattle.pcal_tree.proofs.ProcessesInOrder.{id}
 use Rattle.action_builder.specs.LabelActions.{call_by, label_action, label_actions, routine_actions, taken_procedures, procedure_takers, main_actions, title_of}
 use Rattle.action_builder.specs.NextFormula.{ended}
 use Rattle.action_builder.specs.WrittenNames.{with_names}
-use Rattle.action_builder.specs.laws.Jumps.{Unlike, AllUnlike}
+use Rattle.action_builder.specs.laws.Jumps.{AllUnlike}
 use Rattle.action_builder.specs.laws.Ready.{Readable, values_of}
 use Rattle.action_builder.specs.laws.WrittenScope.{definitions_of}
 use Rattle.action_builder.proofs.WaysOfNext.{own_true, own_alone_true}
@@ -45,7 +45,7 @@ use Rattle.fairness.specs.Demands.{routine_steps, label_steps}
 use Rattle.fairness.specs.FairnessLines.{identifier_of, action_call, guard_of, line_of}
 use Rattle.fairness.specs.MarkedLabels.{kept_labels, left_out_labels}
 use Rattle.fairness.specs.Obligations.{Obligation, written_labels, obligation_of}
-use Rattle.translation.proofs.FairLabels.{labels_shared}
+use Rattle.fairness.proofs.LabelsShared.{labels_shared}
 use Rattle.promise.specs.ConstantsAndStates.{AreConstants, IsState}
 use Rattle.translation.specs.Region.{region_of}
 use Rattle.translation.specs.laws.AcceptedAlgorithm.{IsAcceptedInFile}
@@ -65,36 +65,19 @@ use Rattle.translation.proofs.NextSteps.{one_running}
 use Rattle.translation.proofs.NextTitles.{all_actions, titles_once, unmapped}
 use Rattle.translation.proofs.NextTrue.{any_one, one_any, all_from, FromLabel, FromRoutine, argument, env_for, LabelTrue}
 use Rattle.translation.proofs.WritableBodies.{IsBegun, begins}
+use Rattle.translation.proofs.ActionTitles.{titles_joined, label_titles}
+use Rattle.translation.proofs.JumpsReady.{unlike_behind}
+use Rattle.action_builder.proofs.FitJumps.{unlike_first}
 
 -- ---- a part of a list without repetitions
-
-unlike_back : (xs ys : List Word) → AllUnlike (xs ++ ys) → AllUnlike ys
-unlike_back [] ys h = h
-unlike_back (x ∷ xs) ys h = unlike_back xs ys h.1
-
-unlike_first : (x : Word) (xs ys : List Word) → Unlike x (xs ++ ys) → Unlike x xs
-unlike_first x [] ys h = tt
-unlike_first x (z ∷ xs) ys h = (h.0, unlike_first x xs ys h.1)
-
-unlike_front : (xs ys : List Word) → AllUnlike (xs ++ ys) → AllUnlike xs
-unlike_front [] ys h = tt
-unlike_front (x ∷ xs) ys h = (unlike_first x xs ys h.0, unlike_front xs ys h.1)
-
-titles_joined : (xs ys : List Action) → titles (xs ++ ys) ≡ titles xs ++ titles ys
-titles_joined [] ys = refl
-titles_joined (x ∷ xs) ys = ap (λ zs. x.title ∷ zs) (titles_joined xs ys)
-
-titles_of_labels : (P : Program) (r : Taken) (ls : List Word) → titles (map (label_action P r) ls) ≡ map (label_name P r.routine) ls
-titles_of_labels P r [] = refl
-titles_of_labels P r (l ∷ ls) = ap (λ zs. label_name P r.routine l ∷ zs) (titles_of_labels P r ls)
 
 -- names of labels are apart where actions are
 names_once : (P : Program) (r : Taken) (xs : List Action) → OneTitle xs → Within (label_actions P) r xs → AllUnlike (map (label_name P r.routine) (label_words r.routine.body))
 names_once P r xs d w =
-    subst AllUnlike (titles_of_labels P r (label_words r.routine.body))
-    (unlike_front (titles (label_actions P r)) (titles w.later)
+    subst AllUnlike (label_titles P r (label_words r.routine.body))
+    (unlike_first (titles (label_actions P r)) (titles w.later)
     (subst AllUnlike (titles_joined (label_actions P r) w.later)
-    (unlike_back (titles w.before) (titles (label_actions P r ++ w.later)) (subst AllUnlike (ap titles w.all ∙ titles_joined w.before (label_actions P r ++ w.later)) d))))
+    (unlike_behind (titles w.before) (titles (label_actions P r ++ w.later)) (subst AllUnlike (ap titles w.all ∙ titles_joined w.before (label_actions P r ++ w.later)) d))))
 
 module _ (U : Algorithm → Readable) (prepared : PreparedLaw IsAcceptedInFile) (ready : ReadyLaw IsAcceptedInFile U) (clear : SingleClearLaw)
     (b : Bool) (title : Word) (o : Outside) (g : Algorithm) (h : IsAcceptedInFile o g) (values : Valuation) (s t : State) where

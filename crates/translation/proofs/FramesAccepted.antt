@@ -1,12 +1,11 @@
 -- In an accepted algorithm a `with` binds no variable of the translation and nothing that an initial value reads; pc and the stack are where each process has them.
-use Rattle.std.proofs.Common.{◌≡◌, List, [], ◌∷◌, ◌++◌, map, Bool, true, false, ◌||◌, ◌&&◌, not, cond, bytes_eq, codes, Option, Some, None, inl, inr, refl, sym, ap, subst, ◌∙◌, Ok}
-use Rattle.std.specs.List.{AllByRecursion}
+use Rattle.std.proofs.Common.{◌≡◌, List, [], ◌∷◌, ◌++◌, map, Bool, true, false, ◌||◌, ◌&&◌, not, cond, bytes_eq, codes, Option, Some, None, inl, inr, refl, sym, ap, ◌∙◌, Ok}
 use Rattle.std.proofs.lemmas.Bool.{or_right, both_ways}
 use Rattle.std.proofs.lemmas.Slice.Eq.{bytes_eq-Decides}
 use Rattle.tla_token.specs.declared.place.Place.{Place}
 use Rattle.tla_token.specs.Signs.{is_among}
 use Rattle.tla_token.specs.Words.{is_own, is_standard}
-use Rattle.tla_tree.specs.Tree.{Word, Each, Form, name, operator_call, Tree, node, Trees, no_trees, tree, seen_names, Graft, grafted_name, grafted_node, graft, grafts}
+use Rattle.tla_tree.specs.Tree.{Word, Each, Form, name, operator_call, Tree, node, Trees, no_trees, tree, seen_names}
 use Rattle.tla_tree.specs.laws.Writable.{IsIdentifier, IsWritable, AreWritable, names_in}
 use Rattle.tla_value.specs.Definitions.{Valuation, Definition, or_sense, base, with_arguments, body_sense, defined, with_definitions, scope_of, no_state}
 use Rattle.tla_value.specs.Grafts.{own_part, read_tree}
@@ -28,8 +27,7 @@ use Rattle.pcal_tree.specs.Program.{Program, Actor, index, inner, written}
 use Rattle.pcal_tree.specs.Programs.{program_in}
 use Rattle.pcal_tree.specs.Scope.{State, Scope, value_of}
 use Rattle.pcal_tree.specs.Variables.{declared, vars, pc, stack, stack_for, written_by_all}
-use Rattle.pcal_tree.proofs.CallsFine.{also_weaker, free_weaker}
-use Rattle.pcal_tree.proofs.NamesSeen.{HasFree, PutsIn}
+use Rattle.pcal_tree.proofs.CallsFine.{free_weaker}
 use Rattle.action_builder.specs.OwnVariables.{own_under, own_variables, is_own_variable}
 use Rattle.action_builder.specs.Written.{old_stack}
 use Rattle.action_builder.specs.laws.Ready.{values_of}
@@ -41,10 +39,10 @@ use Rattle.translation.specs.laws.AcceptedAlgorithm.{IsAcceptedInFile}
 use Rattle.translation.specs.laws.AcceptedLaws.{extra_of, may_bind}
 use Rattle.translation.proofs.NamesApart.{IsNamed, self_none, self_some, writable, free, never, own_differs, false_among, extra_untitled_by, untitled_mapped, untitled_joined}
 use Rattle.translation.proofs.NamesOfRules.{Unreserved, not_own, turned}
-use Rattle.translation.proofs.RoutinesNamed.{one_each_of, among_later, among_before, local_free}
+use Rattle.translation.proofs.RoutinesNamed.{one_each_of, among_later, among_before, local_free, declared_each}
 use Rattle.translation.proofs.TidySteps.{no_old}
 use Rattle.translation.proofs.VariableNames.{each_from, none_among, vars_each, stack_each, own_each}
-use Rattle.translation.specs.laws.WritableAlgorithm.{IsWritableDeclaration}
+use Rattle.pcal_tree.proofs.GraftsRead.{also_weaker}
 
 -- ---- names that are read free, and identifiers
 
@@ -71,38 +69,6 @@ mutual
   parts_named N (xs ∷ names) (tree t ts) w h =
       (free_weaker (λ z. Also xs N z × IsIdentifier z) (Also xs (λ z. N z × IsIdentifier z)) (λ y k. also_and N xs y k.1 k.0) t (named_free (Also xs N) t w.0 h.0), parts_named N names ts w.1 h.1)
 
--- ---- with trees put in
-
-has_weaker : (N M : Word → Type 0) → ((y : Word) → N y → M y) → (o : Option Tree) → HasFree N o → HasFree M o
-has_weaker N M h (Some t) k = free_weaker N M h t k
-has_weaker N M h None k = tt
-
-puts_also : (g : Graft) (xs : List Word) (M N : Word → Type 0) → PutsIn g M N → PutsIn g (Also xs M) (Also xs N)
-puts_also g [] M N k = k
-puts_also g (x ∷ xs) M N k = puts_also g xs (Or x M) (Or x N) (record { left = by; put = λ y at. has_weaker N (Or x N) (λ z n. inr n) (g y at) (k.put y at) })
-  where
-    by : (y : Word) (at : Place) → Or x M y → g y at ≡ None → Or x N y
-    by y at (inl e) q = inl e
-    by y at (inr n) q = inr (k.left y at n q)
-
-name_free : (g : Graft) (M N : Word → Type 0) → PutsIn g M N → (x : Word) (at : Place) (us : Trees) → M x → FreeInParts N Any [] us → (o : Option Tree) → g x at ≡ o → FreeNames N Any (grafted_name o (name x) at us)
-name_free g M N k x at us n f (Some t) q = subst (HasFree N) q (k.put x at)
-name_free g M N k x at us n f None q = (k.left x at n q, f)
-
-node_free : (g : Graft) (M N : Word → Type 0) → PutsIn g M N → (m : Form) (at : Place) (us : Trees) → FormReads M Any m → FreeInParts N Any (seen_names m) us → FreeNames N Any (grafted_node g m at us)
-node_free g M N k (name x) at us n f = name_free g M N k x at us n f (g x at) refl
-node_free g M N k (operator_call o) at us n f = (tt, f)
-node_free g M N k m at us n f = (tt, f)
-
-mutual
-  pub graft_free : (g : Graft) (M N : Word → Type 0) → PutsIn g M N → (t : Tree) → FreeNames M Any t → FreeNames N Any (graft g t)
-  graft_free g M N k (node m at ts) h = node_free g M N k m at (grafts g ts) h.0 (grafts_free g M N k (seen_names m) ts h.1)
-
-  grafts_free : (g : Graft) (M N : Word → Type 0) → PutsIn g M N → (names : List (List Word)) (ts : Trees) → FreeInParts M Any names ts → FreeInParts N Any names (grafts g ts)
-  grafts_free g M N k names no_trees h = tt
-  grafts_free g M N k [] (tree t ts) h = (graft_free g M N k t h.0, grafts_free g M N k [] ts h.1)
-  grafts_free g M N k (xs ∷ names) (tree t ts) h = (graft_free g (Also xs M) (Also xs N) (puts_also g xs M N k) t h.0, grafts_free g M N k names ts h.1)
-
 -- ---- definitions and operators
 
 defs_passed : (c : Check) (d : Definition) (ps : List Word) (env : Env) (x : Word) → bytes_eq d.title x ≡ false → (defined c d ps env).defs x ≡ env.defs x
@@ -120,10 +86,6 @@ bound_defs None e x = refl
 bound_now : (w : Option Value) (e : Env) (x : Word) (at : Place) → bytes_eq self x ≡ false → (self_bound w e).now x at ≡ e.now x at
 bound_now (Some w) e x at q = ap (λ b. cond b (just w) (e.now x at)) q
 bound_now None e x at q = refl
-
-declared_identifiers : (ds : List Declaration) → AllByRecursion IsWritableDeclaration ds → Each IsIdentifier (declared ds)
-declared_identifiers [] h = tt
-declared_identifiers (d ∷ ds) h = (h.0.0, declared_identifiers ds h.1)
 
 module _ (o : Outside) (a : Algorithm) (h : IsAcceptedInFile o a) (values : Valuation) where
   abbrev pub P : Program
@@ -143,7 +105,7 @@ module _ (o : Outside) (a : Algorithm) (h : IsAcceptedInFile o a) (values : Valu
   globals_each : (Q : Word → Type 0) → ((x : Word) → Unreserved o x → IsIdentifier x → Q x) → Each Q (declared a.globals)
   globals_each Q k =
       each_from Q (declared a.globals)
-      (λ x m. k x (one_each_of (Unreserved o) (declared a.globals) (free o a h).globals x m) (one_each_of IsIdentifier (declared a.globals) (declared_identifiers a.globals (writable o a h).globals) x m))
+      (λ x m. k x (one_each_of (Unreserved o) (declared a.globals) (free o a h).globals x m) (one_each_of IsIdentifier (declared a.globals) (declared_each a.globals (writable o a h).globals) x m))
 
   pub old_no_variable : is_among (vars P) old_stack ≡ false
   old_no_variable =

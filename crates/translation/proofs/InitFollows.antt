@@ -21,7 +21,7 @@ use Rattle.pcal_tree.specs.Scope.{State}
 use Rattle.pcal_tree.specs.Takers.{Takers, each_of, single, lone, taken_process, taken_main}
 use Rattle.pcal_tree.specs.Variables.{declared, pc, stack_for, written_by_all, vars}
 use Rattle.pcal_tree.proofs.OneStand.{every_both}
-use Rattle.pcal_tree.proofs.ProcessesInOrder.{id, ids, ids_of_actors, sorted_ascending, At, at_first, at_later, running_in_order, running_ascending, all_owned}
+use Rattle.pcal_tree.proofs.ProcessesInOrder.{id, ids, ids_of_actors, sorted_ascending, At, at_first, at_later, running_in_order, running_ascending, all_owned, all_parts}
 use Rattle.pcal_tree.proofs.RoutineNames.{every_one}
 use Rattle.pcal_tree.proofs.TroubleLaws.{one_left, one_right}
 use Rattle.action_builder.specs.InitialFormulas.{locals_start, globals_start, stack_start, pc_start, init}
@@ -34,18 +34,16 @@ use Rattle.pcal_tree.specs.Program.{written}
 use Rattle.promise.specs.ConstantsAndStates.{AreConstants, IsState}
 use Rattle.translation.specs.laws.AcceptedAlgorithm.{IsAcceptedInFile}
 use Rattle.translation.specs.laws.AcceptedLaws.{extra_of}
-use Rattle.translation.proofs.InitLabels.{in_sorted, one_holds, lone_pc, lone_stack, all_pc, all_stack}
+use Rattle.pcal_tree.proofs.ReplyConverse.{in_sorted}
+use Rattle.translation.proofs.InitLabels.{one_holds, lone_pc, lone_stack, all_pc, all_stack}
 use Rattle.translation.proofs.InitNames.{StartFine, identity_used, all_fine}
-use Rattle.translation.proofs.InitSets.{all_parts, P, E, all_grow, Gives, identity_gives, identity_canonical, value_grows, Running, running_all, process_set_gives}
+use Rattle.translation.proofs.InitSets.{P, E, all_grow, Gives, identity_gives, identity_canonical, value_grows, Running, running_all, process_set_gives}
 use Rattle.translation.proofs.InitValues.{globals_hold, lone_is, single_is, spread_is, locals_hold}
 use Rattle.translation.proofs.NamesApart.{names_apart}
 use Rattle.translation.proofs.NamesOfRules.{rules_of_names}
 use Rattle.translation.proofs.RoutinesNamed.{among_before}
 use Rattle.translation.proofs.VariableNames.{one_is_among}
-
-every_from : {A : Type 0} (B : A → Type 0) (xs : List A) → ((x : A) → OneOf x xs → B x) → AllByRecursion B xs
-every_from B [] f = tt
-every_from B (x ∷ xs) f = (f x (inl refl), every_from B xs (λ y m. f y (inr m)))
+use Rattle.translation.proofs.NextTrue.{all_from}
 
 declared_one : (d : Declaration) (ds : List Declaration) → OneOf d ds → OneOf d.name.word (declared ds)
 declared_one d [] m = absurd m
@@ -98,7 +96,7 @@ module _ (o : Outside) (a : Algorithm) (h : IsAcceptedInFile o a) (title : Word)
       → Follows (locals_allowed Q u spread vs (locals u) s) (all_hold plain env (locals_start Q (record { takers = t; routine = u })))
   locals_of u mine t spread vs f =
       locals_hold o a h title r values k s state u t spread vs (locals u)
-      (every_from _ (locals u) (λ d m. f d (declared_one d (locals u) m) (every_one (StartFine o a u) d (locals u) (all_fine o a h values u mine) m)))
+      (all_from _ (locals u) (λ d m. f d (declared_one d (locals u) m) (every_one (StartFine o a u) d (locals u) (all_fine o a h values u mine) m)))
 
   -- ---- routine by routine
 
@@ -176,7 +174,7 @@ module _ (o : Outside) (a : Algorithm) (h : IsAcceptedInFile o a) (title : Word)
     )
 
     procedure_local : (u : Routine) → OneOf u (routines a) → Follows (locals_allowed Q u true ws (locals u) s) (all_hold plain env (locals_start Q (record { takers = each_of process_set; routine = u })))
-    procedure_local u mine = locals_of u mine (each_of process_set) true ws (spread_is o a h title r values k s state u mine process_set ws (every_from _ ws (named u mine)) (process_set_gives o a h title r values k s ps ws main run) ascending)
+    procedure_local u mine = locals_of u mine (each_of process_set) true ws (spread_is o a h title r values k s state u mine process_set ws (all_from _ ws (named u mine)) (process_set_gives o a h title r values k s ps ws main run) ascending)
 
     process_local : (p : Process) (m : ℕ) → At p m ps (first_process a) → Follows (locals_allowed Q (process_routine m p) p.several (running (process_routine m p) ws) (locals (process_routine m p)) s) (all_hold plain env (locals_start Q (taken_process m p)))
     process_local p m x =
@@ -201,7 +199,7 @@ module _ (o : Outside) (a : Algorithm) (h : IsAcceptedInFile o a) (title : Word)
                 (all_hold plain env (locals_start Q (record { takers = cond b (each_of p.identity) (single p.identity); routine = process_routine m p })))
             split true q =
                 locals_of (process_routine m p) mine (each_of p.identity) true (running (process_routine m p) ws)
-                (spread_is o a h title r values k s state (process_routine m p) mine p.identity (running (process_routine m p) ws) (every_from _ (running (process_routine m p) ws) (λ v l. named (process_routine m p) mine v (running_one (process_routine m p) v ws l)))
+                (spread_is o a h title r values k s state (process_routine m p) mine p.identity (running (process_routine m p) ws) (all_from _ (running (process_routine m p) ws) (λ v l. named (process_routine m p) mine v (running_one (process_routine m p) v ws l)))
                 (value_grows o a h title r values k env (all_grow o a h title r values k s) p.identity (set is) q ∙ ap (λ z. Ok (set z)) (sym (ap ids those ∙ ids_of_actors (process_routine m p) is)))
                 (running_ascending (process_routine m p) ws ascending))
             split false (i, z, q) =

@@ -3,11 +3,10 @@ use Rattle.std.proofs.Common.{◌≡◌, ℕ, suc, List, [], ◌∷◌, ◌++◌
 use Rattle.std.proofs.Math.Bool.{or-false}
 use Rattle.std.proofs.lemmas.Bool.{or_left, or_right}
 use Rattle.std.specs.List.{AllByRecursion}
-use Rattle.std.specs.Ordering.{is_lt}
 use Rattle.tla_token.specs.Signs.{is_among}
 use Rattle.tla_tree.specs.Tree.{Word, Tree}
 use Rattle.tla_value.specs.Value.{Value, Values, no_values, and, set, and_then, Outcome, ◌>>=◌}
-use Rattle.tla_value.specs.Order.{order, same, holds, IsAscending, IsCanonical, AreCanonical}
+use Rattle.tla_value.specs.Order.{same, holds, IsAscending, IsCanonical, AreCanonical}
 use Rattle.tla_value.specs.OrderLaws.{same_is, same_self}
 use Rattle.tla_value.specs.Stops.{plain}
 use Rattle.tla_value.specs.Meaning.{Env, bind, eval}
@@ -21,48 +20,26 @@ use Rattle.module_tree.specs.ActionTruth.{truth_in}
 use Rattle.pcal_tree.specs.Algorithm.{Statements, Process, alone, processes, Routine, process_routine, alone_routine, numbered, first_process, procedure_routines, main_routines, Algorithm}
 use Rattle.pcal_tree.specs.Calls.{label_value, first_label}
 use Rattle.pcal_tree.specs.InitialStates.{function_on, own_allowed, empty_stack, stack_allowed, pc_allowed}
-use Rattle.pcal_tree.specs.Processes.{OneOf, identifier, actors_of, all_actors, placed, sorted}
+use Rattle.pcal_tree.specs.Processes.{OneOf, actors_of, all_actors}
 use Rattle.pcal_tree.specs.Program.{Program, Actor}
 use Rattle.pcal_tree.specs.Scope.{State}
 use Rattle.pcal_tree.specs.Takers.{each_of, single, lone, takers_of, Taken, taken_process, taken_main}
 use Rattle.pcal_tree.specs.Variables.{declared, pc, stack, stack_for, written_by_all, vars}
 use Rattle.pcal_tree.proofs.OneStand.{every_both}
-use Rattle.pcal_tree.proofs.ProcessesInOrder.{id, ids, ids_of_actors, Distinct, sorted_ascending}
+use Rattle.pcal_tree.proofs.ReplyConverse.{in_sorted}
+use Rattle.pcal_tree.proofs.ProcessesInOrder.{id, ids, ids_of_actors, Distinct, sorted_ascending, all_parts}
 use Rattle.pcal_tree.proofs.RoutineNames.{every_one, one_either}
 use Rattle.action_builder.specs.InitialFormulas.{for_all_processes, stack_start, is_taker, first_pc, pc_value, pc_start}
 use Rattle.action_builder.proofs.SpreadStarts.{at_each_self, function_is, equal_is}
 use Rattle.action_builder.proofs.WrittenStarts.{Takes, pc_is, Follows}
 use Rattle.promise.specs.ConstantsAndStates.{AreConstants, IsState}
 use Rattle.translation.specs.laws.AcceptedAlgorithm.{IsAcceptedInFile}
-use Rattle.translation.proofs.InitSets.{all_parts, P, E, each_grows, Gives, identity_gives, identity_canonical, value_grows, test_grows, Running, process_set_gives}
+use Rattle.translation.proofs.InitSets.{P, E, each_grows, Gives, identity_gives, identity_canonical, value_grows, test_grows, Running, process_set_gives}
 use Rattle.translation.proofs.InitValues.{in_is, variable_is}
 use Rattle.translation.proofs.NamesApart.{false_among, never}
 use Rattle.translation.proofs.RoutinesNamed.{among_later, among_before}
 
 -- ---- members of lists of processes
-
-in_placed : (u v : Actor) (ws : List Actor) → OneOf u (placed v ws) → (u ≡ v) ⊎ OneOf u ws
-in_placed u v [] (inl p) = inl p
-in_placed u v [] (inr h) = absurd h
-in_placed u v (w ∷ ws) h = by (in_placed u v ws) (is_lt (order (identifier v.self) (identifier w.self))) h
-  where
-    behind : (u ≡ v) ⊎ OneOf u ws → (u ≡ v) ⊎ OneOf u (w ∷ ws)
-    behind (inl p) = inl p
-    behind (inr g) = inr (inr g)
-
-    by : (OneOf u (placed v ws) → (u ≡ v) ⊎ OneOf u ws) → (b : Bool) → OneOf u (cond b (v ∷ w ∷ ws) (w ∷ placed v ws)) → (u ≡ v) ⊎ OneOf u (w ∷ ws)
-    by ih true (inl p) = inl p
-    by ih true (inr g) = inr g
-    by ih false (inl p) = inr (inl p)
-    by ih false (inr g) = behind (ih g)
-
-pub in_sorted : (u : Actor) (vs : List Actor) → OneOf u (sorted vs) → OneOf u vs
-in_sorted u [] h = h
-in_sorted u (v ∷ vs) h = by (in_sorted u vs) (in_placed u v (sorted vs) h)
-  where
-    by : (OneOf u (sorted vs) → OneOf u vs) → (u ≡ v) ⊎ OneOf u (sorted vs) → OneOf u (v ∷ vs)
-    by ih (inl p) = inl p
-    by ih (inr g) = inr (ih g)
 
 held_one : (v : Actor) (vs : List Actor) → OneOf v vs → holds (id v) (ids vs) ≡ true
 held_one v [] m = absurd m

@@ -8,7 +8,7 @@ use Rattle.std.proofs.lemmas.Slice.Eq.{bytes_eq-Decides}
 use Rattle.tla_token.specs.Places.{nowhere}
 use Rattle.tla_token.specs.declared.place.Place.{Place}
 use Rattle.tla_token.specs.Signs.{is_among}
-use Rattle.tla_tree.specs.Tree.{Word, words, binders, name, Tree, node, no_trees, Graft, graft, Each, Every}
+use Rattle.tla_tree.specs.Tree.{Word, words, binders, name, Tree, node, no_trees, Graft, graft, Every}
 use Rattle.tla_value.specs.Stops.{plain}
 use Rattle.tla_value.specs.Definitions.{Valuation, Definition}
 use Rattle.tla_value.specs.Grafts.{owned, own_part}
@@ -48,15 +48,11 @@ use Rattle.translation.proofs.NamesApart.{free, kept_differs, used_outside, glob
 use Rattle.translation.proofs.NamesInSight.{sees_map, sees_inside}
 use Rattle.translation.proofs.NamesOfRules.{Unreserved, not_own, turned, rules_of_names}
 use Rattle.translation.proofs.RoutinesNamed.{one_each_of, among_later}
-use Rattle.translation.proofs.VariableNames.{each_from, none_among, one_is_among, own_each, stack_each}
+use Rattle.translation.proofs.VariableNames.{each_from, none_among, one_is_among, own_each, stack_each, each_two}
 
 -- an expression as a body that reads it
 abbrev body_of : Tree → Statements
 body_of e = then (record { first = nowhere; last = nowhere }) (await e) done
-
-each_two : (A B C : Word → Type 0) → ((x : Word) → A x → B x → C x) → (xs : List Word) → Each A xs → Each B xs → Each C xs
-each_two A B C f [] h k = tt
-each_two A B C f (x ∷ xs) h k = (f x h.0 k.0, each_two A B C f xs h.1 k.1)
 
 -- trees put in for names bind nothing
 grafted_binds : (B : Word → Type 0) (g : Graft) → ((x : Word) (at : Place) → Has (BindsAll B) B g (g x at)) → (e : Tree) → Every (BindsAll B) e → Every (BindsAll B) (graft g e)

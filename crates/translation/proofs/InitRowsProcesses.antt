@@ -1,42 +1,26 @@
 -- Init of an algorithm with a single process and a process set, which is accepted in its file, by the law: true of the state where each process's variables have their
 -- initial values and each is at its first label, false of another.
-use Rattle.std.proofs.Common.{◌≡◌, ◌<◌, length, ℕ, [], ◌∷◌, true, false, cond, bytes_eq, codes, Option, Some, None, refl, subst, arith, Ok}
+use Rattle.std.proofs.Common.{◌≡◌, ℕ, [], ◌∷◌, true, false, cond, bytes_eq, codes, Some, None, refl, arith, Ok}
 use Rattle.std.specs.Prelude.{pos}
-use Rattle.std.proofs.lemmas.Option.{same_Some}
-use Rattle.tla_token.specs.AlgorithmOffences as tokens
-use Rattle.tla_token.specs.Limits.{past_text}
 use Rattle.tla_token.specs.declared.place.Place.{Place}
 use Rattle.tla_tree.specs.declared.op.Op.TheVariants.{Plus}
-use Rattle.tla_tree.specs.Reader.{readers}
 use Rattle.tla_tree.specs.Spelling.{Phrase, last, more, set_of, infix_of}
 use Rattle.tla_tree.specs.Spelling as spelled
 use Rattle.tla_tree.specs.Tree.{Word, Name}
-use Rattle.tla_value.specs.Outside.{Outside}
 use Rattle.tla_value.specs.Stops.{plain}
 use Rattle.tla_value.specs.Value.{Value, text, int, fun, values_in}
 use Rattle.pcal_tree.specs.Algorithm.{Algorithm}
-use Rattle.pcal_tree.specs.AlgorithmTokens.{views}
-use Rattle.pcal_tree.specs.Grammar.{Text, algorithm, to_end, no_define, begin_end, processes, unfair, bare, spell, algorithm_of, Good, p_syntax}
+use Rattle.pcal_tree.specs.Grammar.{Text, algorithm, to_end, no_define, begin_end, processes, unfair, bare, algorithm_of, Good, p_syntax}
 use Rattle.pcal_tree.specs.GrammarP.{simple, last_statement}
 use Rattle.pcal_tree.specs.GrammarParts.{Labels, by_semicolon, equals, no_section, section, last_variable, colon, label, no_labels, assign, last_assignment}
-use Rattle.pcal_tree.specs.Labelled.{labelled}
-use Rattle.pcal_tree.specs.OffencesLabels.{label_offences}
-use Rattle.pcal_tree.specs.OffencesOfNames.{name_offences}
 use Rattle.pcal_tree.specs.Processes.{Proper}
 use Rattle.pcal_tree.specs.Program.{Program}
 use Rattle.pcal_tree.specs.Programs.{program_in}
 use Rattle.pcal_tree.specs.Scope.{State}
 use Rattle.pcal_tree.specs.Variables.{on_variables}
-use Rattle.module_tree.specs.AlgorithmText.{AlgorithmText, algorithm_in, algorithm_tokens}
-use Rattle.module_tree.specs.FileOffences.{offences_of, algorithm_offences}
+use Rattle.module_tree.specs.AlgorithmText.{algorithm_in}
 use Rattle.module_tree.specs.Module.{Module}
 use Rattle.module_tree.specs.ModuleTruth.{init_holds}
-use Rattle.module_tree.specs.TextFront as front
-use Rattle.module_tree.specs.Walk.{walk}
-use Rattle.module_tree.specs.laws.Kept.{only_large}
-use Rattle.module_tree.specs.laws.Outsides.{HasOutside}
-use Rattle.module_tree.proofs.AlgorithmIsCut.{algorithm_is_cut}
-use Rattle.module_tree.proofs.SomeOutside.{outside_read, has_outside}
 use Rattle.action_builder.specs.WrittenNames.{with_names}
 use Rattle.promise.specs.ConstantsAndStates.{AreConstants, IsState}
 use Rattle.translation.specs.Region.{region_of}
@@ -44,6 +28,8 @@ use Rattle.translation.specs.laws.AcceptedAlgorithm.{IsAcceptedInFile}
 use Rattle.translation.proofs.InitRows.{told, values, no_constants, values_canonical}
 use Rattle.translation.proofs.RowsProcesses as kinds
 use Rattle.translation.proofs.Trees.{integers}
+use Rattle.translation.proofs.RowsAccepted.{accepted_by}
+use Rattle.translation.proofs.RowsStands.{both_have}
 
 -- ---- the algorithm
 
@@ -94,39 +80,6 @@ both = algorithm_of both_text
 
 both_good : Good p_syntax both_text
 both_good = search
-
-both_outside : outside_read (walk kinds.file) ≡ integers
-unfolding readers
-both_outside = refl
-
-both_have : HasOutside (walk kinds.file) integers
-both_have = subst (λ (o : Outside). HasOutside (walk kinds.file) o) both_outside (has_outside (walk kinds.file))
-
--- an algorithm that the tokens of a file spell, and that breaks no rule
-accepted_by : (x : front.Text) (t : Text) (o : Option AlgorithmText) (u : Outside) → algorithm_in x ≡ o → Good p_syntax t → offences_of (walk x) ≡ [] → only_large (algorithm_offences o) ≡ true
-    → front.on_some o (λ a. Some (views (algorithm_tokens x a))) ≡ Some (spell t []) → front.on_some o (λ a. Some (tokens.algorithm_offences (algorithm_tokens x a))) ≡ Some []
-    → labelled false (algorithm_of t) ≡ algorithm_of t → name_offences (algorithm_of t) u ≡ [] → label_offences (algorithm_of t) ≡ [] → length x < past_text → HasOutside (walk x) u → IsAcceptedInFile u (algorithm_of t)
-accepted_by x t (Some a) u is good fine large told rules labels_added names labels short outside = record {
-  file = x;
-  accepted = record {
-    syntax = p_syntax;
-    text = x;
-    from = a.from;
-    to = a.rest.to;
-    tokens = algorithm_tokens x a;
-    tok = algorithm_is_cut x a fine is large;
-    rules = same_Some (tokens.algorithm_offences (algorithm_tokens x a)) [] rules;
-    typed = algorithm_of t;
-    spelled = (t, good, same_Some (views (algorithm_tokens x a)) (spell t []) told, refl);
-    forced = false;
-    labels_added = labels_added;
-    names = names;
-    labels = labels;
-  };
-  short = short;
-  outside = outside;
-}
-accepted_by x t None u is good fine large told rules labels_added names labels short outside = absurd cc
 
 both_accepted : IsAcceptedInFile integers both
 both_accepted = accepted_by kinds.file both_text (algorithm_in kinds.file) integers refl both_good refl refl refl refl refl refl refl (omega arith) both_have

@@ -48,9 +48,6 @@ any_for k (Err j) = tt
 pub lacks_grows : (s t : Sense) → Lacks s → Senses grows s t
 lacks_grows s t h = subst (λ z. Senses grows z t) (sym h.1) (record { value = any_for h.0 t.value; test = λ p q e v. any_for h.0 (t.test q v) })
 
-pub same_grows : (s t : Sense) → Senses grows s s → s ≡ t → Senses grows s t
-same_grows s t h e = subst (λ z. Senses grows s z) e h
-
 -- ---- scopes
 
 itself : (ds : List Definition) → Both (DefinitionsJoin grows plain plain no_limits) ds ds

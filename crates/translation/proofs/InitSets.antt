@@ -1,7 +1,6 @@
 -- The scope of Init in an accepted algorithm's module: names outside routines have in it the values that they have where identifiers and globals are looked at, and the
 -- sets of processes and ProcSet have the identifiers of the processes.
 use Rattle.std.proofs.Common.{◌≡◌, ℕ, suc, List, [], ◌∷◌, ◌++◌, Bool, true, false, ◌||◌, cond, bytes_eq, codes, map, Some, None, inl, inr, refl, sym, ◌∙◌, ap, subst, Ok, Err}
-use Rattle.std.proofs.Math.Bool.{or_assoc}
 use Rattle.std.proofs.lemmas.Slice.Eq.{bytes_eq-Decides}
 use Rattle.tla_token.specs.declared.place.Place.{Place}
 use Rattle.tla_token.specs.Places.{nowhere}
@@ -9,7 +8,7 @@ use Rattle.tla_token.specs.Signs.{is_among}
 use Rattle.tla_token.specs.Words.{is_own, standard_names}
 use Rattle.tla_tree.specs.Tree.{Word, words, Each, Tree, set_of, root_place}
 use Rattle.tla_value.specs.Value.{Value, Values, no_values, and, truth, int, text, model, fun, set, Outcome, ◌>>=◌}
-use Rattle.tla_value.specs.Order.{holds, same, IsAscending, IsCanonical, AreCanonical}
+use Rattle.tla_value.specs.Order.{holds, IsAscending, IsCanonical, AreCanonical}
 use Rattle.tla_value.specs.Strict.{strict_value}
 use Rattle.tla_value.specs.Stops.{plain, members_at}
 use Rattle.tla_value.specs.Standard.{standard_name}
@@ -20,22 +19,22 @@ use Rattle.tla_value.specs.laws.CanonicalNames.{Proper, Sound, TestsByValue}
 use Rattle.tla_value.specs.laws.Untitled.{Untitled}
 use Rattle.tla_value.proofs.CanonicalEval.{eval_canonical}
 use Rattle.tla_value.proofs.CanonicalTests.{value_kept, means_its_value}
-use Rattle.tla_value.proofs.Outcomes.{ok_is}
+use Rattle.tla_value.proofs.Outcomes.{ok_is, bound_ok}
 use Rattle.tla_value.proofs.ScopesSound.{scope_sound, scope_tests_by_value}
-use Rattle.tla_value.proofs.Untitled.{looked_through}
+use Rattle.tla_value.proofs.Untitled.{looked_through, untitled_append}
 use Rattle.tla_value.proofs.JoinedScopes.{Envs, eval_in}
 use Rattle.module_tree.specs.Formulas.{self, process_set, unset_value}
 use Rattle.module_tree.specs.Module.{Region}
 use Rattle.module_tree.specs.ModuleTruth.{process_set_defined}
 use Rattle.pcal_tree.specs.Algorithm.{declares, Process, Main, alone, processes, process_routine, first_process, procedure_routines, main_routines, Algorithm}
 use Rattle.pcal_tree.specs.Calls.{defaultInitValue}
-use Rattle.pcal_tree.specs.Processes.{OneOf, one_value, identifiers_of, actors_of, all_actors, apart, united, last_place, sorted, actors_in, actors}
+use Rattle.pcal_tree.specs.Processes.{one_value, identifiers_of, actors_of, all_actors, apart, united, last_place, sorted, actors_in, actors}
 use Rattle.pcal_tree.specs.Program.{Program, Actor, inner, globals_on, common_env, global_env, written}
 use Rattle.pcal_tree.specs.Programs.{program_in}
 use Rattle.pcal_tree.specs.Scope.{State}
 use Rattle.pcal_tree.specs.Takers.{takers_of, each_of, single}
 use Rattle.pcal_tree.specs.Variables.{declared, pc, stack_for, written_by_all, vars, on_variables}
-use Rattle.pcal_tree.proofs.ProcessesInOrder.{id, ids, Distinct, apart_gives, ids_of_actors}
+use Rattle.pcal_tree.proofs.ProcessesInOrder.{ids, Distinct, apart_gives, ids_of_actors, all_parts, ids_both}
 use Rattle.action_builder.specs.ProcessSets.{set_of_takers, sets_of_processes, union, process_set_of}
 use Rattle.action_builder.specs.laws.WrittenScope.{definitions_of}
 use Rattle.action_builder.proofs.ProcSetIs.{AreSets, held_in, process_set_is}
@@ -43,23 +42,19 @@ use Rattle.promise.specs.ConstantsAndStates.{AreConstants}
 use Rattle.translation.specs.laws.AcceptedAlgorithm.{IsAcceptedInFile}
 use Rattle.translation.specs.laws.AcceptedLaws.{extra_of}
 use Rattle.translation.proofs.InitScopes.{grows, no_limits, kept, Lacks, NoValue, Fits, scope_grows, scope_lacks, bound_grows, with_both, set_grows}
-use Rattle.translation.proofs.NamesApart.{writable, free, outer, own_differs, false_among, never}
+use Rattle.translation.proofs.NamesApart.{writable, free, outer, own_differs, false_among, never, untitled_mapped}
 use Rattle.translation.proofs.NamesOfRules.{Unreserved, not_own, turned}
 use Rattle.translation.proofs.RoutinesNamed.{among_before, local_free}
 use Rattle.translation.proofs.VariableNames.{each_to, none_among, vars_each}
 use Rattle.action_builder.proofs.Names.{each_name}
 
-pub bound_ok : {X Y : Type 0} (o : Outcome X) (go : X → Outcome Y) (y : Y) → o >>= go ≡ Ok y → (x : X) × (o ≡ Ok x) × (go x ≡ Ok y)
-bound_ok (Ok x) go y e = (x, refl, e)
-bound_ok (Err k) go y e = cc
-
-pub untitled_joined : (x : Word) (ds es : List Definition) → Untitled x ds → Untitled x es → Untitled x (ds ++ es)
-untitled_joined x [] es h k = k
-untitled_joined x (d ∷ ds) es h k = (h.0, untitled_joined x ds es h.1 k)
-
-pub untitled_mapped : {X : Type 0} (x : Word) (f : X → Definition) (xs : List X) → ((y : X) → OneOf y xs → bytes_eq (f y).title x ≡ false) → Untitled x (map f xs)
-untitled_mapped x f [] h = tt
-untitled_mapped x f (y ∷ ys) h = (h y (inl refl), untitled_mapped x f ys (λ z k. h z (inr k)))
+pub is_set : (at : Place) (w : Value) (ws : Values) → members_at at w ≡ Ok ws → w ≡ set ws
+is_set at (set vs) ws e = ap set (ok_is e)
+is_set at (truth b) ws e = cc
+is_set at (int z) ws e = cc
+is_set at (text w) ws e = cc
+is_set at (model w) ws e = cc
+is_set at (fun us vs) ws e = cc
 
 -- a word that is no standard name
 not_the : (w x : Word) → is_among standard_names w ≡ true → is_among standard_names x ≡ false → bytes_eq w x ≡ false
@@ -68,18 +63,6 @@ not_the w x s e = false_among (bytes_eq w x) (λ q. never (sym s ∙ ap (is_amon
 -- an own name is no name of the user's
 not_user : (w x : Word) → is_own w ≡ false → is_own x ≡ true → bytes_eq w x ≡ false
 not_user w x h k = false_among (bytes_eq w x) (λ q. never (sym (ap is_own ((bytes_eq-Decides w x).0 q) ∙ k) ∙ h))
-
--- what all_actors gives is put together from what each process gives
-pub all_parts : (P : Program) (n : ℕ) (p : Process) (ps : List Process) (vs : List Actor) → all_actors P n (p ∷ ps) ≡ Ok vs
-    → (is : Values) × (more : List Actor) × (identifiers_of P p ≡ Ok is) × (all_actors P (suc n) ps ≡ Ok more) × (vs ≡ actors_of (process_routine n p) is ++ more)
-all_parts P n p ps vs e =
-    let (is, d, f) = bound_ok (identifiers_of P p) (λ is. all_actors P (suc n) ps >>= (λ more. Ok (actors_of (process_routine n p) is ++ more))) vs e in
-    let (more, g, q) = bound_ok (all_actors P (suc n) ps) (λ more. Ok (actors_of (process_routine n p) is ++ more)) vs f in
-    (is, more, d, g, sym (ok_is q))
-
-pub ids_both : (vs ws : List Actor) (x : Value) → holds x (ids (vs ++ ws)) ≡ (holds x (ids vs) || holds x (ids ws))
-ids_both [] ws x = refl
-ids_both (v ∷ vs) ws x = ap (λ b. same x (id v) || b) (ids_both vs ws x) ∙ sym (or_assoc (same x (id v)) (holds x (ids vs)) (holds x (ids ws)))
 
 module _ (o : Outside) (a : Algorithm) (h : IsAcceptedInFile o a) (title : Word) (r : Region) (values : Valuation) (k : AreConstants (record { title = title; outside = o; region = r }) values) where
   abbrev pub P : Program
@@ -142,7 +125,7 @@ module _ (o : Outside) (a : Algorithm) (h : IsAcceptedInFile o a) (title : Word)
 
   own_untitled : (x : Word) → is_own x ≡ true → Untitled x ds
   own_untitled x e =
-      untitled_joined x (found o.definitions) (map inner a.definitions)
+      untitled_append x (found o.definitions) (map inner a.definitions)
       (untitled_mapped x (λ (d : ReadDefinition). d.definition) o.definitions (λ d m. not_user d.definition.title x (not_own o d.definition.title ((free o a h).read d m)) e))
       (untitled_mapped x inner a.definitions (λ d m. not_user d.name.word x (not_own o d.name.word ((free o a h).definitions d m)) e))
 
@@ -181,7 +164,7 @@ module _ (o : Outside) (a : Algorithm) (h : IsAcceptedInFile o a) (title : Word)
 
   pub unset_is : (s : State) → (eval plain unset_value (E s)).value ≡ Ok defaultInitValue
   unset_is s =
-      ap (λ z. z.value) (looked_through plain (ds ++ extra_of a) _ (codes "defaultInitValue") nowhere (untitled_joined (codes "defaultInitValue") ds (extra_of a) (own_untitled (codes "defaultInitValue") refl) (no_extra a.main)))
+      ap (λ z. z.value) (looked_through plain (ds ++ extra_of a) _ (codes "defaultInitValue") nowhere (untitled_append (codes "defaultInitValue") ds (extra_of a) (own_untitled (codes "defaultInitValue") refl) (no_extra a.main)))
       ∙ (λ i. (variable i).value)
     where
       no_extra : (m : Main) → Untitled (codes "defaultInitValue") (process_set_defined (process_set_of m))
@@ -212,16 +195,8 @@ module _ (o : Outside) (a : Algorithm) (h : IsAcceptedInFile o a) (title : Word)
       let (v, d, f) = bound_ok (eval plain p.identity G).value (one_value p.several (root_place p.identity)) is e in
       by p.several v d f
     where
-      members : (at : Place) (v : Value) → members_at at v ≡ Ok is → v ≡ set is
-      members at (set vs) e = ap set (ok_is e)
-      members at (truth b) e = cc
-      members at (int z) e = cc
-      members at (text w) e = cc
-      members at (model w) e = cc
-      members at (fun us vs) e = cc
-
       by : (b : Bool) (v : Value) → (eval plain p.identity G).value ≡ Ok v → one_value b (root_place p.identity) v ≡ Ok is → Gives b p.identity is
-      by true v d f = d ∙ ap (λ w. Ok w) (members (root_place p.identity) v f)
+      by true v d f = d ∙ ap (λ w. Ok w) (is_set (root_place p.identity) v is f)
       by false v d f = (v, sym (ok_is f), d)
 
   pub identity_canonical : (b : Bool) (t : Tree) (is : Values) → Gives b t is → IsAscending is × AreCanonical is
@@ -255,7 +230,7 @@ module _ (o : Outside) (a : Algorithm) (h : IsAcceptedInFile o a) (title : Word)
           λ x. (λ i. holds x (sym (ids_of_actors (process_routine n p) is) i) || g x i) ∙ sym (ids_both (actors_of (process_routine n p) is) more x) ∙ ap (λ zs. holds x (ids zs)) (sym q),
         )
 
-    union_is : (n : ℕ) (ps : List Process) (vs : List Actor) → all_actors P n ps ≡ Ok vs → Distinct vs → (eval plain (union (sets_of_processes ps)) X).value ≡ Ok (set (ids (sorted vs)))
+    pub union_is : (n : ℕ) (ps : List Process) (vs : List Actor) → all_actors P n ps ≡ Ok vs → Distinct vs → (eval plain (union (sets_of_processes ps)) X).value ≡ Ok (set (ids (sorted vs)))
     union_is n [] vs e d = ap (λ zs. Ok (set (ids (sorted zs)))) (ok_is e)
     union_is n (p ∷ ps) vs e d = by (sets_are n (p ∷ ps) vs e)
       where

@@ -7,24 +7,21 @@ use Rattle.tla_token.specs.declared.place.Place.{Place}
 use Rattle.tla_token.specs.Places.{nowhere}
 use Rattle.tla_token.specs.Signs.{is_among}
 use Rattle.tla_tree.specs.Tree.{Word, words, Tree, Every, graft}
-use Rattle.tla_value.specs.Value.{Value, Values, truth, int, text, model, set, fun, Sense, ◌>>=◌}
+use Rattle.tla_value.specs.Value.{Value, truth, set, Sense, ◌>>=◌}
 use Rattle.tla_value.specs.Order.{same, IsAscending, IsCanonical}
 use Rattle.tla_value.specs.Stops.{plain, members_at, truth_at}
 use Rattle.tla_value.specs.Strict.{same_truth}
 use Rattle.tla_value.specs.Meaning.{Env, just, bind, eval}
 use Rattle.tla_value.specs.Definitions.{Valuation, Definition, no_state, or_sense, base}
-use Rattle.tla_value.specs.Grafts.{read_tree}
 use Rattle.tla_value.specs.Outside.{Outside, ReadDefinition, found}
-use Rattle.tla_value.specs.laws.CanonicalNames.{Proper, Sound, TestsByValue, MeansAlike}
-use Rattle.tla_value.specs.laws.FreeNames.{Any}
+use Rattle.tla_value.specs.laws.CanonicalNames.{Sound, TestsByValue, MeansAlike}
 use Rattle.tla_value.specs.laws.Grafting.{BindsClear}
 use Rattle.tla_value.specs.laws.Untitled.{Untitled}
-use Rattle.tla_value.proofs.CanonicalEval.{eval_canonical}
-use Rattle.tla_value.proofs.CanonicalTests.{EnvsMeanAlike, eval_steady, value_kept, means_its_value}
-use Rattle.tla_value.proofs.Graft.{GraftedOn, grafted_law}
-use Rattle.tla_value.proofs.Outcomes.{ok_is}
+use Rattle.tla_value.proofs.CanonicalTests.{eval_steady, value_kept, means_its_value}
+use Rattle.tla_value.proofs.Graft.{grafted_law}
+use Rattle.tla_value.proofs.Outcomes.{bound_ok}
 use Rattle.tla_value.proofs.ScopesSound.{scope_sound, scope_tests_by_value}
-use Rattle.tla_value.proofs.Untitled.{looked_through}
+use Rattle.tla_value.proofs.Untitled.{looked_through, untitled_append}
 use Rattle.tla_value.proofs.JoinedEval.{Senses}
 use Rattle.tla_value.proofs.JoinedScopes.{Envs, eval_in, bound_both, scope_both}
 use Rattle.module_tree.specs.Formulas.{self, named, unset_value, function_of_self, is_in}
@@ -57,10 +54,11 @@ use Rattle.translation.specs.laws.AcceptedLaws.{extra_of}
 use Rattle.translation.proofs.InitNames.{Bound, sight_of, standings_of, StartFine, is_named, put_clear}
 use Rattle.translation.proofs.BoundOf.{AllIn}
 use Rattle.translation.proofs.InitScopes.{grows, no_limits, kept}
-use Rattle.translation.proofs.InitSets.{bound_ok, untitled_joined, untitled_mapped, P, E, G, globals_grow, all_grow, unset_is, value_grows}
-use Rattle.translation.proofs.NamesApart.{outer, mapped_among, false_among, never}
+use Rattle.translation.proofs.InitSets.{P, E, G, globals_grow, all_grow, unset_is, value_grows, is_set}
+use Rattle.translation.proofs.NamesApart.{outer, mapped_among, false_among, never, untitled_mapped}
 use Rattle.translation.proofs.RoutinesNamed.{among_later, among_before}
 use Rattle.translation.proofs.VariableNames.{local_among}
+use Rattle.action_builder.proofs.SingleProcess.{put_env, put_there, put_means}
 
 -- ---- what an expression means, as it stands and as it is written
 
@@ -84,43 +82,6 @@ OfStart A (among e) = A e
 pub in_is : (x : Word) (e : Tree) (env : Env) (v : Value) (b : Bool) → env.now x nowhere ≡ just v → (eval plain e env).test nowhere v ≡ Ok b → truth_in plain env (is_in true (named x) e) ≡ Ok b
 in_is x e env v b d f = (λ i. ((d i).value >>= (λ w. (eval plain e env).test nowhere w >>= (λ c. Ok (truth (same_truth true c))))) >>= (truth_at nowhere)) ∙ (λ i. (f i >>= (λ c. Ok (truth (same_truth true c)))) >>= (truth_at nowhere))
 
-is_set : (at : Place) (w : Value) (ws : Values) → members_at at w ≡ Ok ws → w ≡ set ws
-is_set at (set vs) ws e = ap set (ok_is e)
-is_set at (truth b) ws e = cc
-is_set at (int z) ws e = cc
-is_set at (text w) ws e = cc
-is_set at (model w) ws e = cc
-is_set at (fun us vs) ws e = cc
-
--- self stands for what the expression means
-put_env : Tree → Env → Env
-put_env t env = record env { now = λ x at. cond (bytes_eq self x) (eval plain t env) (env.now x at) }
-
-put_there : (t : Tree) (env : Env) → GraftedOn plain (in_place_of self t) Any Any env (put_env t env)
-unfolding put_env
-put_there t env = record { now = λ x u at. by x at (bytes_eq self x); primed = λ x at. refl; defs = λ x u. refl }
-  where
-    by : (x : Word) (at : Place) (b : Bool) → cond b (eval plain t env) (env.now x at) ≡ read_tree plain (cond b (Some t) None) x at env
-    by x at true = refl
-    by x at false = refl
-
-put_means : (t : Tree) (v : Value) (env : Env) → Sound env → MeansAlike (eval plain t env) (just v) → EnvsMeanAlike (put_env t env) (bind self v env)
-unfolding put_env
-put_means t v env r h = record {
-  now = λ x at. by x at (bytes_eq self x);
-  primed = λ x at. record { value = refl; test = λ p w k. refl };
-  defs = λ x. refl;
-  sound = record { now = λ x at. sound x at (bytes_eq self x); primed = r.primed; defs = r.defs };
-}
-  where
-    by : (x : Word) (at : Place) (b : Bool) → MeansAlike (cond b (eval plain t env) (env.now x at)) (cond b (just v) (env.now x at))
-    by x at true = h
-    by x at false = record { value = refl; test = λ p w k. refl }
-
-    sound : (x : Word) (at : Place) (b : Bool) → Proper (cond b (eval plain t env) (env.now x at)).value
-    sound x at true = eval_canonical plain value_kept t env r
-    sound x at false = r.now x at
-
 module _ (o : Outside) (a : Algorithm) (h : IsAcceptedInFile o a) (title : Word) (r : Region) (values : Valuation) (k : AreConstants (record { title = title; outside = o; region = r }) values) (s : State) (state : IsState (P o a h title r values k) s) where
   abbrev Q : Program
   Q = P o a h title r values k
@@ -138,8 +99,8 @@ module _ (o : Outside) (a : Algorithm) (h : IsAcceptedInFile o a) (title : Word)
 
   variable_untitled : (x : Word) → is_among (vars Q) x ≡ true → Untitled x ((found o.definitions ++ map inner a.definitions) ++ X)
   variable_untitled x e =
-      untitled_joined x (found o.definitions ++ map inner a.definitions) X
-      (untitled_joined x (found o.definitions) (map inner a.definitions)
+      untitled_append x (found o.definitions ++ map inner a.definitions) X
+      (untitled_append x (found o.definitions) (map inner a.definitions)
       (untitled_mapped x (λ (d : ReadDefinition). d.definition) o.definitions (λ d m. false_among (bytes_eq d.definition.title x) (λ q. never (sym (titled d m) ∙ ap (is_among (unit_names o)) ((bytes_eq-Decides d.definition.title x).0 q) ∙ (outer o a h values x e).unit))))
       (untitled_mapped x inner a.definitions (outer o a h values x e).defined))
       (no_extra a.main)
@@ -256,8 +217,8 @@ module _ (o : Outside) (a : Algorithm) (h : IsAcceptedInFile o a) (title : Word)
         leads e n c =
             let x = written_in Q u e in
             subst (λ z. Leads z (eval plain (graft (in_place_of self t) x) env)) (written_expression Q X (record { self = Some i; own = w }) u apart e n s)
-            (subst (Leads (eval plain x (bind self i env))) (sym (grafted_law plain (in_place_of self t) x c env (put_env t env) (put_there t env)))
-            (alike_leads _ _ _ (bound_itself x i) (eval_steady plain value_kept x (put_env t env) (bind self i env) (put_means t i env sound means))))
+            (subst (Leads (eval plain x (bind self i env))) (sym (grafted_law plain (in_place_of self t) x c env (put_env plain self t env) (put_there plain self t env)))
+            (alike_leads _ _ _ (bound_itself x i) (eval_steady plain value_kept x (put_env plain self t env) (bind self i env) (put_means plain value_kept self t i env sound means))))
 
     -- of many processes
     each_value : (e : Tree) → IsNamed Q X u e → (vs : List Actor) → AllByRecursion Named vs → at_each_self (written_in Q u e) env vs ≡ values_for Q u e s vs

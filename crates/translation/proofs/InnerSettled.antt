@@ -1,8 +1,8 @@
 -- Definitions of an algorithm that may be read read nothing that a step assigns.
-use Rattle.std.proofs.Common.{◌≡◌, ℕ, suc, List, [], ◌∷◌, ◌++◌, length, Bool, true, false, not, ◌||◌, ◌&&◌, cond, bytes_eq, map, filter, nat_eq, Option, Some, None, inl, inr, refl, sym, ap, subst, ◌∙◌, arith}
+use Rattle.std.proofs.Common.{◌≡◌, ℕ, suc, List, [], ◌∷◌, ◌++◌, length, Bool, true, false, not, ◌||◌, ◌&&◌, cond, bytes_eq, map, filter, nat_eq, Some, inl, inr, refl, sym, ap, subst, ◌∙◌, arith}
 use mathlib.Core.List.{reverse_aux}
 use Rattle.std.specs.List.{flat_map, list_any, AllByRecursion}
-use Rattle.std.proofs.lemmas.Bool.{both_ways, or_left, or_right, or_parts, eqb-true}
+use Rattle.std.proofs.lemmas.Bool.{both_ways, or_left, or_right, or_parts, eqb-true, not-true}
 use Rattle.std.proofs.lemmas.Slice.Eq.{bytes_eq-Decides}
 use Rattle.tla_token.specs.declared.place.Place.{Place}
 use Rattle.tla_token.specs.declared.rule.Rule.TheVariants.{Arity, Rebind}
@@ -23,7 +23,7 @@ use Rattle.tla_value.proofs.Facts.{each_weaker}
 use Rattle.tla_value.proofs.FreeNames.{also_any, other_of}
 use Rattle.pcal_tree.specs.Algorithm.{Definition, Algorithm}
 use Rattle.pcal_tree.specs.BoundNames.{lists_in, lists_in_declared}
-use Rattle.pcal_tree.specs.NameUses.{Use, takes, variable, argument, standard, unread, Sight, seeing_plain, seeing_variables, knowing, use_of, use_offences, applied_offences}
+use Rattle.pcal_tree.specs.NameUses.{takes, variable, Sight, seeing_plain, seeing_variables, knowing, use_of, use_offences, applied_offences}
 use Rattle.pcal_tree.specs.OffencesNames.{form_offences, count, in_tree, in_parts, in_whole, in_declared, in_definitions, defined_inside, names_of, kept_names, repeated, sight_outside, sight_inside}
 use Rattle.pcal_tree.specs.OffencesRebind.{any_name, starts_rebind, standing_outside, standing_inside, Standings, in_scope, may_rebind, naming, rebound, rebound_all, whole_rebinds, definitions_rebind}
 use Rattle.pcal_tree.specs.OffencesReserved.{reserved_outside, reserved_name, declared_names, names_of_definition}
@@ -34,14 +34,13 @@ use Rattle.pcal_tree.specs.Programs.{program_in}
 use Rattle.pcal_tree.specs.Reads.{used, looked_at, among_looked_at, through, readings, readings_of}
 use Rattle.pcal_tree.specs.Variables.{vars, declared}
 use Rattle.pcal_tree.proofs.CallsFine as CallsFine
-use Rattle.pcal_tree.proofs.CallsFine.{Usable, Sees, in_also, throughout_both}
+use Rattle.pcal_tree.proofs.CallsFine.{Usable, Sees, in_also, throughout_both, usable_is, among_also}
 use Rattle.pcal_tree.proofs.ClearLabels.{both_none}
 use Rattle.pcal_tree.proofs.NothingCaptured.{Free, BindsFree, written_bare}
 use Rattle.pcal_tree.proofs.Uncaptured.{throughout_weaker}
 use Rattle.action_builder.specs.Assigned.{Names}
 use Rattle.action_builder.specs.laws.Ready.{IsWithin}
 use Rattle.action_builder.specs.laws.WrittenScope.{AllRead, Common, titles}
-use Rattle.action_builder.proofs.FitWritten.{among_each}
 use Rattle.translation.specs.laws.AcceptedAlgorithm.{IsAcceptedInFile}
 use Rattle.translation.specs.laws.FreshReads.{readable}
 use Rattle.translation.specs.laws.AcceptedLaws.{extra_of}
@@ -52,32 +51,24 @@ use Rattle.translation.proofs.MacrosSound.{typed, in_named, in_rest}
 use Rattle.translation.proofs.NamesApart.{false_among, never, once}
 use Rattle.translation.proofs.NamesFree.{AllOf, BindsOf, names_free}
 use Rattle.translation.proofs.NamesGiven.{Bound, bound_all}
-use Rattle.translation.proofs.NamesInSight.{among_also, sees_map, sees_outside}
+use Rattle.translation.proofs.NamesInSight.{sees_map, sees_outside}
 use Rattle.translation.proofs.NamesOfRules.{Unreserved, turned, rules_of_names, names_unreserved, split, of_flat}
 use Rattle.translation.proofs.OutsideSettled.{free_both, foreign_outside}
 use Rattle.translation.proofs.PreparedSteps.{whole}
 use Rattle.translation.proofs.ReadyNames.{through_none}
 use Rattle.translation.proofs.RoutinesNamed.{among_before}
 use Rattle.translation.proofs.VariableNames.{one_is_among}
-use Rattle.translation.proofs.StepNames.{any_none, any_each, readings_global, negated, negated_back}
+use Rattle.translation.proofs.StepNames.{any_none, any_each, readings_global, negated}
+use Rattle.action_builder.proofs.Names.{each_name}
 
 -- ---- operators that are used
-
-applied_usable : (u : Option Use) (n : ℕ) (right : Bool) (at : Place) → applied_offences u n right at ≡ [] → Usable u
-applied_usable None n right at e = cc
-applied_usable (Some unread) n right at e = cc
-applied_usable (Some (takes k)) n right at e = tt
-applied_usable (Some variable) n right at e = tt
-applied_usable (Some (argument p)) n right at e = tt
-applied_usable (Some (standard d true)) n right at e = refl
-applied_usable (Some (standard d false)) n right at e = (let k = (both_none (use_offences (Some (standard d false)) n at) _ e).1 in absurd cc)
 
 -- an operator that is used with arguments is of M
 abbrev Applies : Sight → (Word → Type 0) → Type 0
 Applies r M = (f : Word) (n : ℕ) (right : Bool) (at : Place) → applied_offences (use_of r f) (suc n) right at ≡ [] → M f
 
 applies_seen : (r : Sight) (M : Word → Type 0) → Sees r M → Applies r M
-applies_seen r M s f n right at e = s f (applied_usable (use_of r f) (suc n) right at e)
+applies_seen r M s f n right at e = s f (usable_is (use_of r f) (suc n) right at e)
 
 none_taken : (n : ℕ) → not (nat_eq 0 (suc n)) ≡ false → ⊥
 none_taken n e = by (nat_eq 0 (suc n)) refl e
@@ -270,8 +261,8 @@ module _ (o : Outside) (a : Algorithm) (h : IsAcceptedInFile o a) (values : Valu
               (free_two (Also (words d.params) (Common P (extra_of a))) Any (Also (words d.params) (NotIn (d ∷ ds))) (NotIn (d ∷ ds)) (Also (words d.params) (λ y. Common P (extra_of a) y × NotIn (d ∷ ds) y)) (NotIn (d ∷ ds))
               (also_two (Common P (extra_of a)) (NotIn (d ∷ ds)) (λ y. Common P (extra_of a) y × NotIn (d ∷ ds) y) (λ y a b. (a, b)) (words d.params)) (λ y a b. b) d.body r.0
               (free_both (Also (words d.params) (NotIn (d ∷ ds))) Any (NotIn (d ∷ ds)) d.body seen.0 ops))
-              (names_free (Calm older) d.body (words d.params) writable bound (among_each (Calm older) (words d.params) params)
-              (all_calm older (used d.body (words d.params)) (λ y n b. any_each A _ (negated_back (list_any A (through (readings_of a) d.name.word)) f) y
+              (names_free (Calm older) d.body (words d.params) writable bound (each_name (Calm older) (words d.params) params)
+              (all_calm older (used d.body (words d.params)) (λ y n b. any_each A _ (not-true (list_any A (through (readings_of a) d.name.word)) f) y
               (subst (λ (zs : List Word). is_among zs y ≡ true) (sym (title_reads older d ds q k.0)) (in_filter (among_looked_at (readings gs older) (used d.body (words d.params))) gs y n b)))));
         }),
         inner_from (d ∷ older) ds q k.1 (defined_inside d ∷ s) (sees_next d ds s k.0 e) i.1 (naming (d.name.word ∷ []) t) (holds_next older d t z) g.1 (λ c n. m c (inr n)) r.1 (λ x n. (l x n).1),
@@ -334,7 +325,7 @@ module _ (o : Outside) (a : Algorithm) (h : IsAcceptedInFile o a) (values : Valu
     where
       sees_first : Sees (seeing_variables gs (sight_outside o)) (NotIn a.definitions)
       sees_first =
-          sees_map (knowing variable) (NotIn a.definitions) gs (sight_outside o) (λ x m n d k. among_each (λ y. bytes_eq d.name.word y ≡ false) gs ((once o a h).defined d k) x (one_is_among gs x m))
+          sees_map (knowing variable) (NotIn a.definitions) gs (sight_outside o) (λ x m n d k. each_name (λ y. bytes_eq d.name.word y ≡ false) gs ((once o a h).defined d k) x (one_is_among gs x m))
           (sees_outside o (NotIn a.definitions) (record {
             constants = λ x e. ((foreign_outside o a h values).constants x e).1;
             definitions = λ d m. ((foreign_outside o a h values).definitions d m).1;

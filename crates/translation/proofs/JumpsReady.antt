@@ -1,6 +1,6 @@
 -- The assignments for jumps, calls and returns are such as items can be written for, where what they assign was not assigned before.
 use Rattle.std.proofs.Common.{◌≡◌, ℕ, suc, List, [], ◌∷◌, ◌++◌, Bool, true, false, ◌||◌, nat_eq, cond, bytes_eq, codes, Some, refl, sym, ap, subst, ◌∙◌}
-use Rattle.std.proofs.lemmas.Bool.{both_ways, or_right}
+use Rattle.std.proofs.lemmas.Bool.{both_ways, or_right, false_from_ne_true}
 use Rattle.std.proofs.lemmas.Option.{same_Some}
 use Rattle.std.proofs.lemmas.Slice.Eq.{bytes_eq-Decides}
 use Rattle.std.specs.List.{flat_map, AllByRecursion}
@@ -27,32 +27,29 @@ use Rattle.action_builder.specs.WrittenNames.{renames}
 use Rattle.action_builder.specs.laws.Jumps.{Unlike, AllUnlike}
 use Rattle.action_builder.specs.laws.Ready.{Readable, IsWithin, Apart}
 use Rattle.action_builder.proofs.FitJumps.{parameters_first}
-use Rattle.action_builder.proofs.FitWritten.{among_each}
 use Rattle.translation.specs.laws.FreshReads.{fresh, AllReadFresh}
 use Rattle.translation.specs.laws.StepNames.{name_of, Unused, StepNames, StartReads, Called, Frames}
 use Rattle.translation.specs.laws.StepParts.{Readied}
 use Rattle.translation.specs.laws.WritableAlgorithm.{is_variable}
 use Rattle.translation.proofs.AskedSteps.{tree_fresh}
 use Rattle.translation.proofs.ReadiedSteps.{Became}
-use Rattle.translation.proofs.StepNames.{not_true, GlobalsOf, became_global, became_variables, variable_apart, fresh_globals, unused_fresh, named_reads, named_trees}
+use Rattle.translation.proofs.StepNames.{GlobalsOf, became_global, became_variables, variable_apart, fresh_globals, unused_fresh, named_reads, named_trees}
 use Rattle.translation.proofs.StepsOnce as steps
 use Rattle.translation.proofs.StraightSteps.{all_roots, ReadsAnyhow, WritesAnyhow, AllAnyhow, straight_ready}
 use Rattle.translation.proofs.NamesFree.{AllOf, both_of}
+use Rattle.action_builder.proofs.Names.{each_name}
+use Rattle.translation.proofs.VariableNames.{each_joined}
 
 -- ---- lists of names
 
 pub each_apart : (B : Names) (xs : List Word) → Each (λ x. B x ≡ false) xs → Apart B xs
-each_apart B xs h x m = among_each (λ y. B y ≡ false) xs h x m
-
-pub each_joined : (Q : Word → Type 0) (xs ys : List Word) → Each Q xs → Each Q ys → Each Q (xs ++ ys)
-each_joined Q [] ys h k = k
-each_joined Q (x ∷ xs) ys h k = (h.0, each_joined Q xs ys h.1 k)
+each_apart B xs h x m = each_name (λ y. B y ≡ false) xs h x m
 
 each_behind : (Q : Word → Type 0) (xs ys : List Word) → Each Q (xs ++ ys) → Each Q ys
 each_behind Q [] ys h = h
 each_behind Q (x ∷ xs) ys h = each_behind Q xs ys h.1
 
-unlike_behind : (xs ys : List Word) → AllUnlike (xs ++ ys) → AllUnlike ys
+pub unlike_behind : (xs ys : List Word) → AllUnlike (xs ++ ys) → AllUnlike ys
 unlike_behind [] ys h = h
 unlike_behind (x ∷ xs) ys h = unlike_behind xs ys h.1
 
@@ -62,7 +59,7 @@ unlike_last [] y h k = (tt, tt)
 unlike_last (x ∷ xs) y h k = (each_joined (λ z. bytes_eq x z ≡ false) xs (y ∷ []) h.0 (turned x y k.0, tt), unlike_last xs y h.1 k.1)
   where
     turned : (x y : Word) → bytes_eq y x ≡ false → bytes_eq x y ≡ false
-    turned x y e = not_true (bytes_eq x y) (λ q. both_ways (bytes_eq y x) e ((bytes_eq-Decides y x).1 (sym ((bytes_eq-Decides x y).0 q))))
+    turned x y e = false_from_ne_true (bytes_eq x y) (λ q. both_ways (bytes_eq y x) e ((bytes_eq-Decides y x).1 (sym ((bytes_eq-Decides x y).0 q))))
 
 joined_lists : (xs ys zs : List Word) → ((xs ++ ys) ++ zs) ≡ (xs ++ (ys ++ zs))
 joined_lists [] ys zs = refl
@@ -220,7 +217,7 @@ module _ (P : Program) (u : Routine) (N : Word → Type 0) (k : StepNames P u N)
   -- ---- a jump
 
   pub pc_free : (A B : Names) → Became r A B → IsWithin A V → B pc ≡ false
-  pc_free A B q w = not_true (B pc) (λ b. (let z = q pc b in k.pc_apart z.0 (w z.0 z.1) z.2))
+  pc_free A B q w = false_from_ne_true (B pc) (λ b. (let z = q pc b in k.pc_apart z.0 (w z.0 z.1) z.2))
 
   pub ready_from : (A B : Names) → Became r A B → IsWithin A V → (b : Statements) → Straight A b → Each (λ x. B x ≡ false) (all_roots b) → AllUnlike (all_roots b) → Readied U vs B (graft_all h b)
   ready_from A B q w b f p d = straight_ready P u N k A B (became_variables P u N k A B q w) (became_global P u N k A B q w) b f (each_apart B (all_roots b) p) d
@@ -244,7 +241,7 @@ module _ (P : Program) (u : Routine) (N : Word → Type 0) (k : StepNames P u N)
       named x m = ap (λ (b : Bool). cond b (written P u x) x) m
 
       free : (x : Word) → declares (locals u) x ≡ true → B (written P u x) ≡ false
-      free x m = not_true (B (written P u x)) (λ b. (let z = q (written P u x) b in
+      free x m = false_from_ne_true (B (written P u x)) (λ b. (let z = q (written P u x) b in
           both_ways (A x) (p x m) (ap A (sym (variable_apart P u N k z.0 x (w z.0 z.1) (or_right (declares a.globals x) (declares (locals u) x) m) (z.2 ∙ sym (named x m)))) ∙ z.1)))
 
   module _ (ret : Bool) (f : Frames P u N ret) where
@@ -252,7 +249,7 @@ module _ (P : Program) (u : Routine) (N : Word → Type 0) (k : StepNames P u N)
     stack_is = (f.stack_among, f.stack_new)
 
     pub stack_free : (A B : Names) → Became r A B → IsWithin A V → B stack ≡ false
-    stack_free A B q w = not_true (B stack) (λ b. (let z = q stack b in f.stack_apart z.0 (w z.0 z.1) z.2))
+    stack_free A B q w = false_from_ne_true (B stack) (λ b. (let z = q stack b in f.stack_apart z.0 (w z.0 z.1) z.2))
 
     pub return_ready : (A B : Names) → Became r A B → IsWithin A V → Apart A (declared (locals u)) → (at : Place) → Readied U vs B (graft_all h (return_written P u at))
     return_ready A B q w p at =
@@ -303,7 +300,7 @@ module _ (P : Program) (u : Routine) (N : Word → Type 0) (k : StepNames P u N)
       called_free A B s w p = by (nat_eq u.number q.number) refl
         where
           other : nat_eq u.number q.number ≡ false → (x : Word) → declares (locals q) x ≡ true → B (written P q x) ≡ false
-          other e x m = not_true (B (written P q x)) (λ b. (let z = s (written P q x) b in c.other e z.0 x (w z.0 z.1) m z.2))
+          other e x m = false_from_ne_true (B (written P q x)) (λ b. (let z = s (written P q x) b in c.other e z.0 x (w z.0 z.1) m z.2))
 
           by : (b : Bool) → nat_eq u.number q.number ≡ b → Each (λ x. B x ≡ false) (written_all P q (locals q))
           by true e = subst (λ (v : Routine). Each (λ x. B x ≡ false) (written_all P v (locals v))) (c.same e) (owned_free A B s w (p e))

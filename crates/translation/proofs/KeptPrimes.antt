@@ -47,7 +47,7 @@ use Rattle.translation.proofs.FromLabels.{Passes, from_label, NoneAgain, again_p
 use Rattle.translation.proofs.KeptLabels.{Puts, put_in_body, expand_unprimed, labelled_unprimed}
 use Rattle.translation.proofs.KeptTexts.{text_unprimed}
 use Rattle.translation.proofs.NamesGiven.{once}
-use Rattle.translation.proofs.NamesInSight.{one_reversed}
+use Rattle.pcal_tree.proofs.StepVariables.{one_reverse}
 
 -- ---- macro calls written out
 
@@ -254,7 +254,7 @@ module _ (o : Outside) (a : Algorithm) (h : IsAcceptedInFile o a) (values : Valu
   whole = subst AlgorithmUnprimed h.accepted.labels_added (labelled_unprimed h.accepted.forced h.accepted.typed (text_unprimed h.accepted.syntax h.accepted.tokens h.accepted.typed h.accepted.spelled))
 
   newest_first : AllByRecursion MacroUnprimed (reverse a.macros)
-  newest_first = all_of (reverse a.macros) (λ m k. each_of_all a.macros whole.macros m (one_reversed m a.macros k))
+  newest_first = all_of (reverse a.macros) (λ m k. each_of_all a.macros whole.macros m (one_reverse m a.macros k))
 
   step_unprimed : (u : Routine) → OneOf u (routines a) → (l : Word) (b : Begin) → at_label u l ≡ Some b → NonePrimed (expanded (reverse a.macros) b.items)
   step_unprimed u k l b e =

@@ -18,8 +18,8 @@ use Rattle.translation.specs.laws.WritableAlgorithm.{AreWritableStatements, is_p
 use Rattle.translation.specs.laws.TypedAlgorithm.{AreTypedStatements, IsTypedMacro, IsTypedProcedure, IsTypedProcess, IsTypedMain, IsTypedAlgorithm}
 use Rattle.translation.specs.laws.AssignedOnce.{AssignOnce}
 use Rattle.translation.proofs.KnownStatements.{AreKnown, is_variable_use, assignable, all_more, all_once, statements_known}
-use Rattle.translation.proofs.RegionActions.{every_both}
 use Rattle.pcal_tree.proofs.ClearLabels.{both_none}
+use Rattle.pcal_tree.proofs.OneStand.{every_both}
 
 -- ---- what is in scope
 

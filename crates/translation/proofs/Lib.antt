@@ -97,7 +97,6 @@ pub mod InitSets
 pub mod ActionTrue
 pub mod ActionSets
 pub mod FairTests
-pub mod FairLabels
 pub mod FairTrue
 pub mod FairAll
 pub mod ReadyNames

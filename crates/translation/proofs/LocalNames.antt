@@ -11,11 +11,11 @@ use Rattle.pcal_tree.specs.Processes.{OneOf}
 use Rattle.pcal_tree.specs.Variables.{declared}
 use Rattle.pcal_tree.proofs.ClearLabels.{both_none}
 use Rattle.pcal_tree.proofs.RoutineNames.{one_either}
-use Rattle.action_builder.proofs.FitWritten.{among_each}
 use Rattle.translation.specs.laws.AcceptedAlgorithm.{IsAcceptedInFile}
 use Rattle.translation.proofs.AcceptedNames.{no_offence}
 use Rattle.translation.proofs.NamesApart.{false_among, never, free}
 use Rattle.translation.proofs.NamesOfRules.{Unreserved, rules_of_names}
+use Rattle.action_builder.proofs.Names.{each_name}
 
 -- ---- numbers
 
@@ -39,7 +39,7 @@ main_apart a u p k m e =
 
 -- of names that nothing bound again, each is free
 each_new : (ext : List Word) (s : Standings) (es : List Declaration) → rebound_all ext s (names_of es) ≡ [] → (x : Word) → declares es x ≡ true → (in_scope s x && may_rebind ext x) ≡ false
-each_new ext s es e x m = among_each (λ y. (in_scope s y && may_rebind ext y) ≡ false) (declared es) (new es e) x m
+each_new ext s es e x m = each_name (λ y. (in_scope s y && may_rebind ext y) ≡ false) (declared es) (new es e) x m
   where
     new : (es : List Declaration) → rebound_all ext s (names_of es) ≡ [] → Each (λ y. (in_scope s y && may_rebind ext y) ≡ false) (declared es)
     new [] e = tt
@@ -86,4 +86,4 @@ module _ (o : Outside) (a : Algorithm) where
 pub local_outside : (o : Outside) (a : Algorithm) → IsAcceptedInFile o a → (u : Routine) → OneOf u (routines a) → (x : Word) → declares (locals u) x ≡ true → in_scope (standing_inside a o) x ≡ false
 local_outside o a h u k x m =
     false_among (in_scope (standing_inside a o) x)
-    (λ q. never (sym (λ i. q i && ap not (among_each (Unreserved o) (declared (locals u)) ((free o a h).locals u k) x m) i) ∙ each_new o.extended (standing_inside a o) (locals u) (routine_new o a (rules_of_names a o h.accepted.names).2 u k) x m))
+    (λ q. never (sym (λ i. q i && ap not (each_name (Unreserved o) (declared (locals u)) ((free o a h).locals u k) x m) i) ∙ each_new o.extended (standing_inside a o) (locals u) (routine_new o a (rules_of_names a o h.accepted.names).2 u k) x m))

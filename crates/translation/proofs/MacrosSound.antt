@@ -7,7 +7,7 @@ use Rattle.tla_token.specs.Signs.{is_among}
 use Rattle.tla_token.specs.Words.{is_own, is_standard, standard_names}
 use Rattle.tla_tree.specs.Tree.{Word, words}
 use Rattle.tla_value.specs.Outside.{Outside, ReadDefinition}
-use Rattle.pcal_tree.specs.Algorithm.{Definition, Macro, Routine, locals, Algorithm}
+use Rattle.pcal_tree.specs.Algorithm.{Definition, Macro, Algorithm}
 use Rattle.pcal_tree.specs.BoundNames.{all_of, lists_in, lists_in_body, lists_in_declared, bound_lists}
 use Rattle.pcal_tree.specs.NameUses.{knowing, variable, seeing_variables}
 use Rattle.pcal_tree.specs.OffencesNames.{sight_inside}
@@ -27,12 +27,13 @@ use Rattle.translation.specs.laws.WritableAlgorithm.{IsStarted}
 use Rattle.translation.proofs.BoundOf.{AllIn, MacrosAll, in_both, in_flat, body_bound}
 use Rattle.translation.proofs.FewNames.{tokens_within}
 use Rattle.translation.proofs.NamesApart.{free, mapped_among}
-use Rattle.translation.proofs.NamesInSight.{one_reversed, UsedOutside, sees_map, sees_inside}
+use Rattle.translation.proofs.NamesInSight.{UsedOutside, sees_map, sees_inside}
 use Rattle.translation.proofs.NamesOfRules.{Unreserved, rules_of_names}
 use Rattle.translation.proofs.RoutinesNamed.{among_later, among_before}
 use Rattle.translation.proofs.TypedLabels.{labelled_typed}
 use Rattle.translation.proofs.TypedTexts.{text_typed}
 use Rattle.translation.proofs.VariableNames.{each_to, one_is_among}
+use Rattle.pcal_tree.proofs.StepVariables.{one_reverse}
 
 pub typed : (o : Outside) (a : Algorithm) → IsAccepted o a → IsTypedAlgorithm a
 typed o a h = subst IsTypedAlgorithm h.labels_added (labelled_typed h.forced h.typed (text_typed h.syntax h.text h.from h.to h.tokens h.typed h.tok (tokens_within h.tokens h.rules).0 h.spelled))
@@ -66,11 +67,11 @@ module _ (o : Outside) (a : Algorithm) (h : IsAcceptedInFile o a) where
       let i = in_both N (lists_in_declared a.globals) _ g in
       let j = in_both N (flat_map (λ (c : Definition). lists_in c.body) a.definitions) _ i.1 in
       let l = in_both N (flat_map (λ (c : Macro). lists_in_body c.body) a.macros) _ j.1 in
-      in_flat N (λ (c : Macro). lists_in_body c.body) a.macros l.0 d (one_reversed d a.macros k)
+      in_flat N (λ (c : Macro). lists_in_body c.body) a.macros l.0 d (one_reverse d a.macros k)
 
   text_fine : (d : Macro) → OneOf d (reverse a.macros) → TextFine o a d
   text_fine d k =
-      let m = one_reversed d a.macros k in
+      let m = one_reverse d a.macros k in
       let t = every_one IsTypedMacro d a.macros (typed o a h.accepted).macros m in
       record {
         bound = macros_bound (R o.extended a.procedures) all_bound d k;
@@ -137,11 +138,3 @@ module _ (o : Outside) (a : Algorithm) where
   kept_of r y (inr e) = inr e
 
 -- ---- of an accepted algorithm
-
--- each macro's text, with its parameters in scope, binds nothing again, and no name of the translation; it begins with a statement, and jumps nowhere
-pub sound_macros : (o : Outside) (g : Algorithm) → IsAcceptedInFile o g → SoundMacros o.extended g.procedures (standing_inside g o) (reverse g.macros)
-sound_macros o g h = macros_sound o g h
-
--- what may be used in a routine's body is in scope there, or may never be bound
-pub all_in_scope : (o : Outside) (g : Algorithm) (u : Routine) → Sees (seeing_variables (declared (locals u)) (sight_inside g o)) (Kept o.extended g.procedures (record { base = naming (declared (locals u)) (standing_inside g o); others = [] }))
-all_in_scope o g u y n = kept_of o g (naming (declared (locals u)) (standing_inside g o)) y (seen_in_scope o g (declared (locals u)) y n)

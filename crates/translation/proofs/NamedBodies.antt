@@ -18,8 +18,8 @@ use Rattle.action_builder.specs.WrittenNames.{renames}
 use Rattle.action_builder.proofs.FitTrees.{Fits, IsPut, Puts, name_fits, writable_fits, writable_all_fit}
 use Rattle.action_builder.proofs.FitStatements.{AssignmentsFit, BindsFit, StatementFits, StatementsFit, OrsFit, HeadsAre, SomeKeys, some_after, Beside, InParts, LeavesOld, head_graft, head_left, parts_graft, graft_all_fits}
 use Rattle.action_builder.proofs.FitSettled.{IsLoose}
-use Rattle.action_builder.proofs.FitWritten.{among_each}
 use Rattle.translation.specs.laws.WritableAlgorithm.{IsLeftSide, AreWritableAssignments, AreWritableBinds, IsWritableStatement, AreWritableStatements, AreWritableBranches}
+use Rattle.action_builder.proofs.Names.{each_name}
 
 true_false : true ≡ false → ⊥
 true_false e = cc
@@ -156,7 +156,7 @@ module _ (P : Program) (u : Routine) (G : Word → Bool) (h : VariablesNamed P u
   no_word = by (own_name []) refl
     where
       by : (b : Bool) → own_name [] ≡ b → b ≡ false
-      by true e = absurd (true_false (sym (among_each IsIdentifier (declared (locals u)) h.identifiers [] e).0.1))
+      by true e = absurd (true_false (sym (each_name IsIdentifier (declared (locals u)) h.identifiers [] e).0.1))
       by false e = refl
 
   pub renames_put : Puts IsIdentifier IsIdentifier (renames P u)
@@ -213,7 +213,7 @@ module _ (P : Program) (u : Routine) (G : Word → Bool) (h : VariablesNamed P u
     where
       by : (b : Bool) → own_name x ≡ b → cond b (Some (node (name (written P u x)) at no_trees)) None ≡ None
       by true d =
-          absurd (true_false (sym (subst IsIdentifier (sym ((bytes_eq-Decides old_stack x).0 e)) (among_each IsIdentifier (declared (locals u)) h.identifiers x d)).0.0))
+          absurd (true_false (sym (subst IsIdentifier (sym ((bytes_eq-Decides old_stack x).0 e)) (each_name IsIdentifier (declared (locals u)) h.identifiers x d)).0.0))
       by false d = refl
 
   module _ (C : Word → Bool) (D : Word → Type 0) (procedures : (x : Word) → C x ≡ true → D x) where

@@ -5,7 +5,6 @@ use Rattle.std.specs.Ordering.{is_lt}
 use Rattle.std.specs.List.{flat_map, AllByRecursion}
 use Rattle.std.proofs.lemmas.Bool.{both_ways, or_left, or_right, or_parts}
 use Rattle.std.proofs.lemmas.Slice.Eq.{bytes_eq-Decides}
-use Rattle.tla_token.specs.declared.place.Place.{Place}
 use Rattle.tla_token.specs.Signs.{is_among}
 use Rattle.tla_token.specs.Words.{is_reserved, is_own, is_standard, standard_names, begins_fairness}
 use Rattle.tla_tree.specs.Tree.{Word, words, Each}
@@ -32,7 +31,7 @@ use Rattle.pcal_tree.specs.Variables.{declared, pc, stack, stack_for, written_by
 use Rattle.pcal_tree.proofs.ClearLabels.{both_none}
 use Rattle.pcal_tree.proofs.FreeNames.{given_apart}
 use Rattle.pcal_tree.proofs.FreeWords.{given_free}
-use Rattle.pcal_tree.proofs.OneStand.{every_both, runs_routine}
+use Rattle.pcal_tree.proofs.OneStand.{every_both, runs_routine, united_same}
 use Rattle.pcal_tree.proofs.ProcessesInOrder.{apart_gives}
 use Rattle.pcal_tree.proofs.RoutineNames.{every_one}
 use Rattle.action_builder.specs.OwnVariables.{own_under, own_variables, is_own_variable}
@@ -48,7 +47,8 @@ use Rattle.translation.proofs.NamedBodies.{among_one}
 use Rattle.translation.proofs.NamesInSight.{UsedOutside, inner_read, outside_read, read_joined}
 use Rattle.translation.proofs.NamesOfRules.{Unreserved, not_own, not_standard, turned, NamesFree, names_free, NamesOnce, kept_once, rules_of_names}
 use Rattle.translation.proofs.RoutinesNamed.{one_each_of, among_later, among_before, all_wanted, local_wanted, local_free, local_new, no_global}
-use Rattle.translation.proofs.VariableNames.{each_to, each_from, none_among, one_is_among, vars_each, own_each, stack_each, local_among, spread_among, one_variable, one_routine}
+use Rattle.translation.proofs.VariableNames.{each_to, each_from, none_among, one_is_among, vars_each, own_each, stack_each, local_among, spread_among, one_variable}
+use Rattle.pcal_tree.proofs.OneStand.{one_number}
 use Rattle.translation.proofs.WrittenIdentifiers.{no_fairness, written_one}
 
 -- ---- processes have identifiers
@@ -85,13 +85,6 @@ named_placed v (w ∷ ws) h k = by (is_lt (order (identifier v.self) (identifier
 named_sorted : (vs : List Actor) → AllByRecursion IsNamed vs → AllByRecursion IsNamed (sorted vs)
 named_sorted [] h = tt
 named_sorted (v ∷ vs) h = named_placed v (sorted vs) h.0 (named_sorted vs h.1)
-
-united_same : (P : Program) (q : Place) (vs ws : List Actor) → united P q vs ≡ Ok ws → vs ≡ ws
-united_same P q vs ws e = by (P.check q _) e
-  where
-    by : (o : Outcome Value) → o >>= (λ w. Ok vs) ≡ Ok ws → vs ≡ ws
-    by (Ok v) e = ok_is e
-    by (Err k) e = cc
 
 named_main : (P : Program) (ps : List Process) (vs : List Actor) → actors_in P (processes ps) ≡ Ok vs → AllByRecursion IsNamed vs
 named_main P ps vs e = by_all (all_actors P (first_process P.algorithm) ps) (named_all P (first_process P.algorithm) ps) e
@@ -162,10 +155,6 @@ extra_aside N (processes ps) h = (refl, (λ x n. by x n (bytes_eq (codes "ProcSe
     by : (x : Word) → N x → (b : Bool) → bytes_eq (codes "ProcSet") x ≡ b → b ≡ false
     by x n true q = absurd (h x n (ap (λ b. b || false) q))
     by x n false q = refl
-
-extra_untitled : (x : Word) (m : Main) → is_own x ≡ false → Untitled x (process_set_defined (process_set_of m))
-extra_untitled x (alone ss) h = tt
-extra_untitled x (processes ps) h = (own_differs (codes "ProcSet") x refl h, tt)
 
 pub extra_untitled_by : (x : Word) (m : Main) → bytes_eq (codes "ProcSet") x ≡ false → Untitled x (process_set_defined (process_set_of m))
 extra_untitled_by x (alone ss) h = tt
@@ -371,7 +360,7 @@ module _ (o : Outside) (a : Algorithm) (h : IsAcceptedInFile o a) where
                   false_among (bytes_eq (written P z y) w)
                   (λ q.
                   let same = one_variable o.extended (taken_at_start a o) (wanted a) z.number u.number y x (given_apart o.extended (taken_at_start a o) (wanted a) writable.few) (local_wanted o a writable z y k m) (local_wanted o a writable u x runs l) ((bytes_eq-Decides (written P z y) w).0 q) in
-                  never (sym t ∙ ap (λ (r : Routine). r.spread) (one_routine a z u k runs same.0) ∙ s))
+                  never (sym t ∙ ap (λ (r : Routine). r.spread) (one_number a z u k runs same.0) ∙ s))
 
               apart_own : Each (λ y. bytes_eq y w ≡ false) (own_variables P)
               apart_own = own_each P (λ y. bytes_eq y w ≡ false) (own_differs pc w refl not_ours) (stack_each P (λ y. bytes_eq y w ≡ false) (procedure_routines a) (own_differs stack w refl not_ours)) other

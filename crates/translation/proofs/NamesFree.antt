@@ -10,8 +10,9 @@ use Rattle.tla_value.specs.laws.FreeNames.{Also, FormReads, FreeNames, FreeInPar
 use Rattle.tla_value.proofs.JoinedEval.{EachList, each_seen}
 use Rattle.pcal_tree.specs.Algorithm.{Name}
 use Rattle.pcal_tree.specs.Reads.{named, if_free, used_by_form, used, used_by_parts, used_by_all}
-use Rattle.pcal_tree.proofs.CallsFine.{also_weaker, in_also}
+use Rattle.pcal_tree.proofs.CallsFine.{in_also}
 use Rattle.translation.proofs.StepsOnce.{In}
+use Rattle.pcal_tree.proofs.GraftsRead.{tree_wider}
 
 -- the word of each name is of N
 abbrev pub AllOf : (Word → Type 0) → List Name → Type 0
@@ -25,22 +26,6 @@ both_of N (x ∷ xs) ys h = (let k = both_of N xs ys h.1 in ((h.0, k.0), k.1))
 -- the names that a form binds are of N
 abbrev pub BindsOf : (Word → Type 0) → Form → Place → Type 0
 BindsOf N m at = Each N (binders m)
-
--- ---- more names may be read
-
-mutual
-  pub tree_wider : (N N' M : Word → Type 0) → ((y : Word) → N y → N' y) → (t : Tree) → FreeNames N M t → FreeNames N' M t
-  tree_wider N N' M f (node m at ts) h = (form_wider m h.0, parts_wider N N' M f (seen_names m) ts h.1)
-    where
-      form_wider : (m : Form) → FormReads N M m → FormReads N' M m
-      form_wider (name x) k = f x k
-      form_wider (operator_call x) k = k
-      form_wider _ k = tt
-
-  pub parts_wider : (N N' M : Word → Type 0) → ((y : Word) → N y → N' y) → (names : List (List Word)) (ts : Trees) → FreeInParts N M names ts → FreeInParts N' M names ts
-  parts_wider N N' M f names no_trees h = tt
-  parts_wider N N' M f [] (tree t ts) h = (tree_wider N N' M f t h.0, parts_wider N N' M f [] ts h.1)
-  parts_wider N N' M f (xs ∷ names) (tree t ts) h = (tree_wider (Also xs N) (Also xs N') M (also_weaker N N' f xs) t h.0, parts_wider N N' M f names ts h.1)
 
 -- ---- names that are used
 

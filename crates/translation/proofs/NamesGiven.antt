@@ -6,7 +6,7 @@ use Rattle.std.proofs.lemmas.Slice.Eq.{bytes_eq-Decides}
 use Rattle.tla_token.specs.declared.place.Place.{Place}
 use Rattle.tla_token.specs.Signs.{is_among}
 use Rattle.tla_token.specs.Words.{is_own}
-use Rattle.tla_tree.specs.Tree.{Word, words, binders, name, node, no_trees, Each}
+use Rattle.tla_tree.specs.Tree.{Word, words, binders, name, node, no_trees}
 use Rattle.tla_value.specs.Stops.{plain}
 use Rattle.tla_value.specs.Definitions.{Valuation}
 use Rattle.tla_value.specs.Outside.{Outside}
@@ -48,7 +48,7 @@ use Rattle.translation.proofs.NamesApart.{free, kept_differs, used_outside, glob
 use Rattle.translation.proofs.NamesInSight.{sees_map, sees_inside}
 use Rattle.translation.proofs.NamesOfRules.{Unreserved, not_own, turned, rules_of_names}
 use Rattle.translation.proofs.RoutinesNamed.{one_each_of, among_later}
-use Rattle.translation.proofs.VariableNames.{each_to, each_from, none_among, one_is_among, vars_each}
+use Rattle.translation.proofs.VariableNames.{each_to, each_from, none_among, one_is_among, vars_each, each_two}
 
 -- ---- of each routine
 
@@ -199,10 +199,6 @@ mutual
   some_until : (N : Word → Type 0) (bs : Branches) → ReadsSomeAlways N bs → ReadsBranches N bs
   some_until N no_branches h = tt
   some_until N (or b bs) h = (reads_until N b h.0, some_until N bs h.1)
-
-each_two : (A B C : Word → Type 0) → ((x : Word) → A x → B x → C x) → (xs : List Word) → Each A xs → Each B xs → Each C xs
-each_two A B C f [] h k = tt
-each_two A B C f (x ∷ xs) h k = (f x h.0 k.0, each_two A B C f xs h.1 k.1)
 
 -- ---- an accepted algorithm
 

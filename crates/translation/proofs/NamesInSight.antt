@@ -2,7 +2,6 @@
 use Rattle.std.proofs.Common.{◌≡◌, ℕ, List, [], ◌∷◌, ◌++◌, Bool, true, false, not, ◌||◌, ◌&&◌, ◌⊎◌, cond, bytes_eq, codes, map, reverse, nat_le, Option, Some, None, inl, inr, refl, sym, ap, subst, ◌∙◌}
 use Rattle.std.specs.List.{flat_map, AllByRecursion}
 use Rattle.std.proofs.lemmas.Bool.{and_parts, or_left, or_right}
-use Rattle.std.proofs.lemmas.Grind.{reverse_onto}
 use Rattle.std.proofs.lemmas.Slice.Eq.{bytes_eq-Decides}
 use Rattle.tla_token.specs.Limits.{deepest_definition}
 use Rattle.tla_token.specs.Signs.{is_among}
@@ -29,34 +28,18 @@ use Rattle.pcal_tree.specs.OffencesNames.{in_whole, in_definitions, always_known
 use Rattle.pcal_tree.specs.Processes.{OneOf}
 use Rattle.pcal_tree.specs.Program.{inner}
 use Rattle.pcal_tree.specs.Variables.{declared}
-use Rattle.pcal_tree.proofs.CallsFine.{Usable, Sees, in_also, parts_seen}
+use Rattle.pcal_tree.proofs.CallsFine.{Usable, Sees, in_also, parts_seen, among_also}
 use Rattle.pcal_tree.proofs.ClearLabels.{both_none}
 use Rattle.pcal_tree.proofs.RoutineNames.{one_either}
 use Rattle.action_builder.specs.laws.WrittenScope.{AllRead}
+use Rattle.pcal_tree.proofs.StepVariables.{one_reverse}
 
 -- ---- lists
-
-pub one_reversed : {X : Type 0} (x : X) (xs : List X) → OneOf x (reverse xs) → OneOf x xs
-one_reversed x [] h = h
-one_reversed x (y ∷ ys) h = by (one_reversed x ys) (one_either x (reverse ys) (y ∷ []) (subst (OneOf x) (reverse_onto ys y []) h))
-  where
-    by : (OneOf x (reverse ys) → OneOf x ys) → OneOf x (reverse ys) ⊎ OneOf x (y ∷ []) → OneOf x (y ∷ ys)
-    by f (inl k) = inr (f k)
-    by f (inr (inl e)) = inl e
-    by f (inr (inr k)) = absurd k
 
 one_word : (x : Word) (ns : List Name) → OneOf x (words ns) → is_among (words ns) x ≡ true
 one_word x [] h = absurd h
 one_word x (n ∷ ns) (inl e) = or_left (bytes_eq n.word x) (is_among (words ns) x) ((bytes_eq-Decides n.word x).1 (sym e))
 one_word x (n ∷ ns) (inr h) = or_right (bytes_eq n.word x) (is_among (words ns) x) (one_word x ns h)
-
-pub among_also : (N : Word → Type 0) (xs : List Word) (y : Word) → is_among xs y ≡ true → Also xs N y
-among_also N [] y e = cc
-among_also N (x ∷ xs) y e = by (bytes_eq x y) refl e (among_also (Or x N) xs y)
-  where
-    by : (b : Bool) → bytes_eq x y ≡ b → (b || is_among xs y) ≡ true → (is_among xs y ≡ true → Also xs (Or x N) y) → Also xs (Or x N) y
-    by true q e h = in_also (Or x N) xs y (inl ((bytes_eq-Decides x y).0 q))
-    by false q e h = h e
 
 -- ---- what may be used
 
@@ -99,7 +82,7 @@ module _ (o : Outside) (N : Word → Type 0) (h : UsedOutside o N) where
   sees_outside =
       hidden (flat_map (λ u. u.names) o.opaque) _
       (sees_map plain N (words o.constants) _ (λ x m u. h.constants x (one_word x o.constants m))
-      (sees_map defined_outside N (reverse o.definitions) (always_known o.extended) (λ d m u. h.definitions d (one_reversed d o.definitions m))
+      (sees_map defined_outside N (reverse o.definitions) (always_known o.extended) (λ d m u. h.definitions d (one_reverse d o.definitions m))
       (sees_map plain N (codes "self" ∷ []) (map (known_standard o.extended) standard_table) (λ x m u. itself x m)
       (sees_table N o.extended standard_table (λ d m. h.standard d.title (table_standard d m))))))
     where
@@ -112,7 +95,7 @@ module _ (o : Outside) (N : Word → Type 0) (h : UsedOutside o N) where
     sees_globals = sees_map (knowing variable) N (declared a.globals) (sight_outside o) (λ x m u. globals x m) sees_outside
 
     pub sees_inside : Sees (sight_inside a o) N
-    sees_inside = sees_map defined_inside N (reverse a.definitions) (seeing_variables (declared a.globals) (sight_outside o)) (λ d m u. defined d (one_reversed d a.definitions m)) sees_globals
+    sees_inside = sees_map defined_inside N (reverse a.definitions) (seeing_variables (declared a.globals) (sight_outside o)) (λ d m u. defined d (one_reverse d a.definitions m)) sees_globals
 
     definitions_read : (ds : List tree.Definition) (s : Sight) → ((d : tree.Definition) → OneOf d ds → N d.name.word) → Sees s N → in_definitions ds s ≡ []
         → AllRead N (map inner ds)

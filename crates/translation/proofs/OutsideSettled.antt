@@ -34,7 +34,6 @@ use Rattle.pcal_tree.specs.Processes.{OneOf}
 use Rattle.pcal_tree.specs.Program.{Program}
 use Rattle.pcal_tree.specs.Programs.{program_in}
 use Rattle.pcal_tree.specs.Variables.{vars}
-use Rattle.pcal_tree.proofs.CallsFine.{also_weaker}
 use Rattle.pcal_tree.proofs.ClearLabels.{both_none}
 use Rattle.pcal_tree.proofs.RoutineNames.{one_either}
 use Rattle.action_builder.specs.Assigned.{Names}
@@ -45,11 +44,11 @@ use Rattle.translation.specs.laws.FreshReads.{readable}
 use Rattle.translation.specs.laws.StepNames.{Unused}
 use Rattle.translation.proofs.AcceptedNames.{apart_from}
 use Rattle.translation.proofs.NamesApart.{Outer, own_differs, false_among, never, no_standard, mapped_among, free, outer, self_no_variable}
-use Rattle.translation.proofs.NamesFree.{tree_wider}
 use Rattle.translation.proofs.NamesInSight.{UsedOutside, found_one, standard_found, more_none, one_before, table_standard, outside_read}
 use Rattle.translation.proofs.NamesOfRules.{turned, not_own, not_standard, rules_of_names, split}
 use Rattle.translation.proofs.ReadyNames.{unused_of}
 use Rattle.translation.proofs.RoutinesNamed.{among_later, among_before}
+use Rattle.pcal_tree.proofs.GraftsRead.{tree_wider, also_weaker}
 
 -- ---- names and operators together
 

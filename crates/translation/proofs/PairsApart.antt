@@ -16,7 +16,7 @@ use Rattle.tla_value.specs.Definitions.{Valuation, or_sense}
 use Rattle.tla_value.specs.laws.FreeNames.{FreeNames, Any, AgreeOn}
 use Rattle.tla_value.proofs.FreeNames.{free_names, any_names}
 use Rattle.pcal_tree.specs.Algorithm.{Start, unset, equals, among, Declaration, declares, Procedure, Routine, locals, procedure_routine, numbered, first_procedure, procedure_routines, main_routines, routines, Algorithm}
-use Rattle.pcal_tree.specs.Calls.{initial_value, routine_named}
+use Rattle.pcal_tree.specs.Calls.{initial_value}
 use Rattle.pcal_tree.specs.Offences.{offence_if}
 use Rattle.pcal_tree.specs.Names.{taken_at_start, variable, wanted, given}
 use Rattle.pcal_tree.specs.OffencesNames.{names_of, repeated_names}
@@ -46,25 +46,11 @@ use Rattle.translation.proofs.CalledProcedures.{same_routine}
 use Rattle.translation.proofs.RoutinesNamed.{one_each_of, among_before, among_later, names_fit, variables_named, local_wanted, local_new, no_global}
 use Rattle.translation.proofs.UsedNames.{none_looked_at, reads_used}
 use Rattle.translation.proofs.WrittenIdentifiers.{looked, one_given}
+use Rattle.translation.proofs.NamedBodies.{among_one}
+use Rattle.translation.proofs.VariableNames.{one_is_among, each_from}
+pub use Rattle.pcal_tree.proofs.StepVariables.{named_one}
 
 -- ---- lists
-
-each_one : (Q : Word → Type 0) (xs : List Word) → ((x : Word) → OneOf x xs → Q x) → Each Q xs
-each_one Q [] h = tt
-each_one Q (x ∷ xs) h = (h x (inl refl), each_one Q xs (λ y k. h y (inr k)))
-
-one_among : (xs : List Word) (x : Word) → OneOf x xs → is_among xs x ≡ true
-one_among [] x h = absurd h
-one_among (y ∷ ys) x (inl e) = or_left (bytes_eq y x) (is_among ys x) ((bytes_eq-Decides y x).1 (sym e))
-one_among (y ∷ ys) x (inr k) = or_right (bytes_eq y x) (is_among ys x) (one_among ys x k)
-
-among_one : (xs : List Word) (x : Word) → is_among xs x ≡ true → OneOf x xs
-among_one [] x e = cc
-among_one (y ∷ ys) x e = by (bytes_eq y x) refl e (among_one ys x)
-  where
-    by : (b : Bool) → bytes_eq y x ≡ b → (b || is_among ys x) ≡ true → (is_among ys x ≡ true → OneOf x ys) → OneOf x (y ∷ ys)
-    by true q d h = inl (sym ((bytes_eq-Decides y x).0 q))
-    by false q d h = inr (h d)
 
 -- each is the written name of one that is declared
 one_written_all : (P : Program) (u : Routine) (ds : List Declaration) (x : Word) → OneOf x (written_all P u ds) → (y : Word) × OneOf y (declared ds) × (x ≡ written P u y)
@@ -141,14 +127,6 @@ module _ (o : Outside) (a : Algorithm) where
       let s5 = before o (flat_map names_of_procedure a.procedures) _ s4 in
       let d = procedures_declare (first_procedure a) a.procedures r4 s5 u k in
       subst (Each (λ x. declares a.globals x ≡ false)) (words_declared (locals u)) (no_globals (names_of (locals u)) d.0 d.1)
-
-pub named_one : (x : Word) (us : List Routine) (p : Routine) → routine_named x us ≡ Some p → OneOf p us
-named_one x [] p e = cc
-named_one x (u ∷ us) p e = by (named_one x us p) (bytes_eq u.name.word x) e
-  where
-    by : (routine_named x us ≡ Some p → OneOf p us) → (b : Bool) → cond b (Some u) (routine_named x us) ≡ Some p → OneOf p (u ∷ us)
-    by f true d = inl (sym (ap (λ o. elim o as (λ q. Routine) [ None ↦ u | (Some v) ↦ v ]) d))
-    by f false d = inr (f d)
 
 -- ---- initial values
 
@@ -245,7 +223,7 @@ module _ (o : Outside) (a : Algorithm) (h : IsWritableAlgorithm o a) (n : name_o
   among_all : (p : Routine) → OneOf p (routines a) → (y : Word) → declares (locals p) y ≡ true → is_among (all_variables a) y ≡ true
   among_all p k y e =
       among_later (declared a.globals) (flat_map (λ u. declared (locals u)) (routines a)) y
-      (one_among (flat_map (λ u. declared (locals u)) (routines a)) y (one_each (λ (u : Routine). declared (locals u)) p y (routines a) k (among_one (declared (locals p)) y e)))
+      (one_is_among (flat_map (λ u. declared (locals u)) (routines a)) y (one_each (λ (u : Routine). declared (locals u)) p y (routines a) k (among_one (declared (locals p)) y e)))
 
   module _ (p : Routine) (k : OneOf p (routines a)) where
     one_local : (x : Word) → OneOf x (declared (locals p)) → OneOf (written Q p x) (written_all Q p (locals p))
@@ -280,7 +258,7 @@ module _ (o : Outside) (a : Algorithm) (h : IsWritableAlgorithm o a) (n : name_o
         let r = both_none _ (later_in a (d.name.word ∷ earlier) ds) q in (
           (
             (λ w s. any_value_same o a values v p pc pc_no_global w s (λ y e. one_each_of (λ z. bytes_eq pc z ≡ false) _ (names_fit o a h p k).pc (written Q p y) (one_local y (among_one (declared (locals p)) y e))) at d.start),
-            each_one _ (written_all Q p (d ∷ ds)) (λ x l w s.
+            each_from _ (written_all Q p (d ∷ ds)) (λ x l w s.
                 let m = one_written_all Q p (d ∷ ds) x l in
                 let elsewhere = no_global o a h (written Q p m.0) (local_new o a h p m.0 k (i m.0 m.1)) in
                 subst (λ z. initial_value Q v p at d.start (put z w s) ≡ initial_value Q v p at d.start s) (sym m.2)
@@ -300,7 +278,7 @@ module _ (o : Outside) (a : Algorithm) (h : IsWritableAlgorithm o a) (n : name_o
     unread : (u : Routine) → OneOf u (routines a) → nat_eq u.number p.number ≡ false → (at : Place) (ds : List Declaration) → Unread Q v p at (written_all Q u (locals u)) ds
     unread u l d at [] = tt
     unread u l d at (e ∷ ds) = (
-      each_one _ (written_all Q u (locals u)) (λ x j w s.
+      each_from _ (written_all Q u (locals u)) (λ x j w s.
           let m = one_written_all Q u (locals u) x j in
           let elsewhere = no_global o a h (written Q u m.0) (local_new o a h u m.0 l m.1) in
           subst (λ z. initial_value Q v p at e.start (put z w s) ≡ initial_value Q v p at e.start s) (sym m.2)
@@ -317,9 +295,9 @@ module _ (o : Outside) (a : Algorithm) (h : IsWritableAlgorithm o a) (n : name_o
         pc_of_p = (names_fit o a h p l).pc;
         stack_of_u = (names_fit o a h u k).stack;
         stack_of_p = (names_fit o a h p l).stack;
-        apart = λ d. each_one _ (written_all Q u (locals u)) (λ x i.
+        apart = λ d. each_from _ (written_all Q u (locals u)) (λ x i.
             let m = one_written_all Q u (locals u) x i in
-            each_one _ (written_all Q p (locals p)) (λ y j.
+            each_from _ (written_all Q p (locals p)) (λ y j.
             let r = one_written_all Q p (locals p) y j in
             (λ i. bytes_eq (m.2 i) (r.2 i)) ∙ apart_units u p k l d m.0 r.0 m.1 r.1));
         once = (names_fit o a h p l).apart;

@@ -1,13 +1,13 @@
 -- A call that is one statement with a return is such that items can be written for it: the name for the old stack is written by the stack, which the first item needs.
-use Rattle.std.proofs.Common.{◌≡◌, List, [], ◌∷◌, ◌++◌, Bool, true, false, nat_eq, cond, bytes_eq, codes, Some, None, refl, sym, ap, subst, ◌∙◌, Ok, Err}
-use Rattle.std.proofs.lemmas.Bool.{both_ways, or_right}
+use Rattle.std.proofs.Common.{◌≡◌, List, [], ◌∷◌, ◌++◌, Bool, true, false, nat_eq, cond, bytes_eq, codes, Some, None, refl, sym, ap, subst, ◌∙◌}
+use Rattle.std.proofs.lemmas.Bool.{both_ways, or_right, false_from_ne_true}
 use Rattle.std.proofs.lemmas.Slice.Eq.{bytes_eq-Decides}
 use Rattle.tla_token.specs.declared.place.Place.{Place}
 use Rattle.tla_token.specs.Places.{nowhere}
 use Rattle.tla_token.specs.Signs.{is_among}
 use Rattle.tla_tree.specs.declared.op.Op.TheVariants.{Concat}
 use Rattle.tla_tree.specs.Tree.{Word, Form, name, next, Strict, operator, tuple, fields, apply, select, except, strict, operator_call, Tree, node, Trees, no_trees, tree, Each, Every, EveryOf, binders, Graft, grafted_name, graft, grafts, root_place}
-use Rattle.tla_value.specs.Value.{Outcome, ◌>>=◌, IsBad, and_then}
+use Rattle.tla_value.specs.Value.{IsBad}
 use Rattle.tla_value.specs.Stops.{plain}
 use Rattle.tla_value.specs.Meaning.{Env, eval, evals, part_values}
 use Rattle.tla_value.specs.Definitions.{Valuation}
@@ -36,17 +36,18 @@ use Rattle.action_builder.specs.WrittenNames.{renames}
 use Rattle.action_builder.specs.laws.Grafts.{ClearItems}
 use Rattle.action_builder.specs.laws.Jumps.{Unlike, AllUnlike}
 use Rattle.action_builder.specs.laws.Ready.{Readable, IsWithin, Apart, KeptValue, Needs}
-use Rattle.action_builder.proofs.SetAgain.{bad_then}
+use Rattle.action_builder.proofs.SetAgain.{bad_then, bad_in, bad_first}
 use Rattle.translation.specs.laws.FreshReads.{fresh, Plain, AllReadFresh}
 use Rattle.translation.specs.laws.StepNames.{name_of, StepNames, Called, Frames}
 use Rattle.translation.specs.laws.StepParts.{Readied}
 use Rattle.translation.specs.laws.WritableAlgorithm.{is_variable}
-use Rattle.translation.proofs.JumpsReady.{used_in, each_joined, each_written, AllReadAnyhow, Writes, Straight, IsNew, unused_anyhow, name_anyhow, none_anyhow, and_anyhow, field_anyhow, rest_anyhow, names_anyhow, pushed_anyhow, one_write, jump_straight, pc_free, ready_from, owned_new, owned_free, stack_free, all_new, called_free, call_straight, call_each, call_unlike}
+use Rattle.translation.proofs.JumpsReady.{used_in, each_written, AllReadAnyhow, Writes, Straight, IsNew, unused_anyhow, name_anyhow, none_anyhow, and_anyhow, field_anyhow, rest_anyhow, names_anyhow, pushed_anyhow, one_write, jump_straight, pc_free, ready_from, owned_new, owned_free, stack_free, all_new, called_free, call_straight, call_each, call_unlike}
 use Rattle.translation.proofs.PutTrees.{IfEvery, every_put}
 use Rattle.translation.proofs.ReadiedSteps.{Became}
-use Rattle.translation.proofs.StepNames.{not_true, became_variables, fresh_globals, named_trees, own_reads, side_reads, fine_of}
+use Rattle.translation.proofs.StepNames.{became_variables, fresh_globals, named_trees, own_reads, side_reads, fine_of}
 use Rattle.translation.proofs.StraightSteps.{all_roots, WritesAnyhow, AllAnyhow}
 use Rattle.translation.proofs.NamesFree.{AllOf, BindsOf}
+use Rattle.translation.proofs.VariableNames.{each_joined}
 
 -- ---- a fact of all trees of a right side
 
@@ -114,14 +115,6 @@ module _ (F : Form → Place → Type 0) (plain_form : (x : Word) (at : Place) �
   own_sides y ms h = every_side y (own y ms) (every_own y ms h)
 
 -- ---- faults
-
-bad_in : {X Y : Type 0} (o : Outcome X) (f : X → Outcome Y) → ((x : X) → IsBad (f x)) → IsBad (o >>= f)
-bad_in (Ok x) f h = h x
-bad_in (Err k) f h = tt
-
-bad_first : (p q : Outcome Bool) → IsBad p → IsBad (and_then p q)
-bad_first (Ok b) q h = absurd h
-bad_first (Err k) q h = tt
 
 abbrev AreBad : Env → Trees → Type 0
 AreBad env ts = IsBad (part_values (evals plain ts) env)
@@ -244,10 +237,10 @@ module _ (P : Program) (u : Routine) (N : Word → Type 0) (k : StepNames P u N)
   -- ---- a bound name is clear
 
   turned : (x y : Word) → bytes_eq y x ≡ false → bytes_eq x y ≡ false
-  turned x y e = not_true (bytes_eq x y) (λ q. both_ways (bytes_eq y x) e ((bytes_eq-Decides y x).1 (sym ((bytes_eq-Decides x y).0 q))))
+  turned x y e = false_from_ne_true (bytes_eq x y) (λ q. both_ways (bytes_eq y x) e ((bytes_eq-Decides y x).1 (sym ((bytes_eq-Decides x y).0 q))))
 
   no_variable : (x y : Word) → is_among vs x ≡ false → is_among vs y ≡ true → bytes_eq x y ≡ false
-  no_variable x y e m = not_true (bytes_eq x y) (λ q. both_ways (is_among vs x) e (ap (is_among vs) ((bytes_eq-Decides x y).0 q) ∙ m))
+  no_variable x y e m = false_from_ne_true (bytes_eq x y) (λ q. both_ways (is_among vs x) e (ap (is_among vs) ((bytes_eq-Decides x y).0 q) ∙ m))
 
   name_clear : (B : Names) (x : Word) → N x → Clear plain (in_place_of old_stack (later B)) x
   name_clear B x n = record {
@@ -375,7 +368,7 @@ module _ (P : Program) (u : Routine) (N : Word → Type 0) (k : StepNames P u N)
         named x m = ap (λ (b : Bool). cond b (written P u x) x) m
 
         apart : (y : Word) → declares (locals q) y ≡ true → (x : Word) → declares (locals u) x ≡ true → bytes_eq (written P q y) (written P u x) ≡ false
-        apart y m x n = not_true (bytes_eq (written P q y) (written P u x)) (λ e. c.other z x y (or_right (declares a.globals x) (declares (locals u) x) n) m (named x n ∙ sym ((bytes_eq-Decides (written P q y) (written P u x)).0 e)))
+        apart y m x n = false_from_ne_true (bytes_eq (written P q y) (written P u x)) (λ e. c.other z x y (or_right (declares a.globals x) (declares (locals u) x) n) m (named x n ∙ sym ((bytes_eq-Decides (written P q y) (written P u x)).0 e)))
 
     last_unlike : AllUnlike (ys ++ all_roots last)
     last_unlike = by (nat_eq u.number q.number) refl

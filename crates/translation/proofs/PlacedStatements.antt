@@ -1,6 +1,5 @@
 -- Where no rule on labels is broken, each loop is right after a label, no `return` is outside procedures, and no label is in a `with`, with macro calls written out.
-use Rattle.std.proofs.Common.{◌≡◌, ℕ, suc, List, [], ◌∷◌, ◌++◌, reverse, Bool, true, false, not, ◌||◌, cond, bytes_eq, codes, Some, None, inl, inr, refl, sym, subst, ◌∙◌}
-use Rattle.std.proofs.lemmas.Grind.{flat_map-append}
+use Rattle.std.proofs.Common.{◌≡◌, ℕ, suc, List, [], ◌∷◌, reverse, Bool, true, false, not, ◌||◌, cond, bytes_eq, codes, Some, None, inl, inr, refl, sym, subst}
 use Rattle.std.specs.List.{flat_map, AllByRecursion}
 use Rattle.tla_token.specs.declared.rule.Rule.TheVariants.{FirstLabel, LabelInside, ReturnOutside}
 use Rattle.tla_tree.specs.Tree.{Word, Trees, Graft}
@@ -18,6 +17,7 @@ use Rattle.translation.proofs.AcceptedNames.{no_offence, each_none}
 use Rattle.translation.proofs.EndingJumps.{while_missing, each_one}
 use Rattle.translation.proofs.KnownRoutines.{reversed}
 use Rattle.translation.proofs.StepsOnce.{visit_of}
+use Rattle.translation.proofs.EachStepOnce.{two_fine}
 
 -- ---- less is asked where more may be
 
@@ -135,11 +135,6 @@ module _ (X : Writing) (calls : CallsPlaced X) where
 
 abbrev NoOffences : Effects → List Visit → Type 0
 NoOffences E vs = flat_map (offences_at E) vs ≡ []
-
-two_fine : (E : Effects) (vs ws : List Visit) → NoOffences E (vs ++ ws) → NoOffences E vs × NoOffences E ws
-two_fine E vs ws h =
-    let e = sym (flat_map-append (offences_at E) vs ws) ∙ h in
-    (nothing_left (flat_map (offences_at E) vs) _ e, nothing_right (flat_map (offences_at E) vs) _ e)
 
 or_true : (b : Bool) → (b || true) ≡ true
 or_true true = refl

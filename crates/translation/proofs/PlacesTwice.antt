@@ -1,41 +1,11 @@
 -- Forgetting the places of a translation twice is forgetting them once.
 use Rattle.std.proofs.Common.{◌≡◌, List, [], ◌∷◌, map, Option, Some, None, refl, ap}
-use Rattle.tla_tree.specs.Tree.{Word, Name, Slot, Strict, except, Form, strict, binding, local as local_form, Tree, node, Trees, no_trees, tree}
-use Rattle.tla_tree.specs.laws.Placeless.{name_placeless, names_placeless, slot_placeless, strict_placeless, form_placeless, tree_placeless, trees_placeless}
+use Rattle.tla_tree.specs.Tree.{Word, Tree}
+use Rattle.tla_tree.specs.laws.Placeless.{tree_placeless}
 use Rattle.tla_value.specs.Definitions.{Definition}
 use Rattle.module_tree.specs.Module.{Item, test, setting, unchanged, exists, local, if_then_else, either, Items, no_items, item, Branches, no_branches, branch, Call, call, call_with, Way, one_way, some_way, Body, all_of, some_of, Action, Fairness, Region}
 use Rattle.module_tree.specs.laws.PlacelessRegion.{item_placeless, items_placeless, branches_placeless, call_placeless, way_placeless, body_placeless, action_placeless, over_placeless, perhaps_placeless, fairness_placeless, definition_placeless, region_placeless}
-use Rattle.pcal_tree.specs.Algorithm.{nowhere}
-
-names_twice : (xs : List Name) → names_placeless (names_placeless xs) ≡ names_placeless xs
-names_twice [] = refl
-names_twice (x ∷ xs) = ap (λ ys. name_placeless x ∷ ys) (names_twice xs)
-
-groups_twice : (gs : List (List Name)) → map names_placeless (map names_placeless gs) ≡ map names_placeless gs
-groups_twice [] = refl
-groups_twice (g ∷ gs) = λ i. names_twice g i ∷ groups_twice gs i
-
-slots_twice : (ns : List Slot) → map slot_placeless (map slot_placeless ns) ≡ map slot_placeless ns
-slots_twice [] = refl
-slots_twice (n ∷ ns) = ap (λ ms. slot_placeless n ∷ ms) (slots_twice ns)
-
-strict_twice : (o : Strict) → strict_placeless (strict_placeless o) ≡ strict_placeless o
-strict_twice (except ns) = ap except (slots_twice ns)
-strict_twice o = refl
-
-form_twice : (m : Form) → form_placeless (form_placeless m) ≡ form_placeless m
-form_twice (strict o) = ap strict (strict_twice o)
-form_twice (binding b gs) = ap (binding b) (groups_twice gs)
-form_twice (local_form xs) = ap local_form (names_twice xs)
-form_twice m = refl
-
-mutual
-  tree_twice : (t : Tree) → tree_placeless (tree_placeless t) ≡ tree_placeless t
-  tree_twice (node m at ts) = λ i. node (form_twice m i) nowhere (trees_twice ts i)
-
-  trees_twice : (ts : Trees) → trees_placeless (trees_placeless ts) ≡ trees_placeless ts
-  trees_twice no_trees = refl
-  trees_twice (tree t ts) = λ i. tree (tree_twice t i) (trees_twice ts i)
+use Rattle.module_tree.proofs.ModulePlaces.{tree_twice}
 
 mutual
   item_twice : (t : Item) → item_placeless (item_placeless t) ≡ item_placeless t

@@ -63,7 +63,7 @@ use Rattle.translation.proofs.BoundOf.{AllIn, BindsAll, in_both, in_flat, tree_b
 use Rattle.translation.proofs.BoundSettled.{all_settled, jumps_bind}
 use Rattle.translation.proofs.CalledProcedures.{one_declared}
 use Rattle.translation.proofs.EndingJumps.{IsStill, macros_still, jumps_end, each_one}
-use Rattle.translation.proofs.FramesAccepted.{P, f, Unbound, named_free, graft_free, variable_unbound, scope_unbound, reserved_unbound, is_bound, old_bound, old_not_own, pc_among, pc_path, frames_stand, unset_fits}
+use Rattle.translation.proofs.FramesAccepted.{P, f, Unbound, named_free, variable_unbound, scope_unbound, reserved_unbound, is_bound, old_bound, old_not_own, pc_among, pc_path, frames_stand, unset_fits}
 use Rattle.translation.proofs.FromLabels.{from_label, bound_pass, More, NoneAgain, again_pass, UsedIn, used_pass}
 use Rattle.translation.proofs.KnownRoutines.{reversed}
 use Rattle.translation.proofs.MacrosSound.{macros_bound, in_rest, in_named, InScope, seen_in_scope}
@@ -71,21 +71,20 @@ use Rattle.translation.proofs.NamedBodies.{VariablesNamed, renames_put, among_on
 use Rattle.translation.proofs.NamesApart.{writable, kept_differs, own_differs, false_among, never, names_apart_law}
 use Rattle.translation.proofs.NamesGiven.{Bound, bound_all, bound_kept, bound_common, once, used, seen_all, bound_apart, routine_bound}
 use Rattle.translation.proofs.NamesOfRules.{not_own, turned, rules_of_names}
-use Rattle.translation.proofs.PairsApart.{pairs_law, named_one}
+use Rattle.translation.proofs.PairsApart.{pairs_law}
 use Rattle.translation.proofs.ProcedureStarts.{IsSingle, AllSingle, accepted_single}
 use Rattle.translation.proofs.RoutinesNamed.{among_before, variables_named}
-use Rattle.translation.proofs.TidySteps.{CallsFit, Called, all_fit, all_tidy, Ends, ends_pass, Written, written_pass, Placed, placed_pass, routine_placed, called_known, as_many_of, count_grafts, no_old, fit_all_lack}
-use Rattle.translation.proofs.VariableNames.{each_to, none_among, own_each, stack_each, local_among}
+use Rattle.translation.proofs.TidySteps.{CallsFit, Called, all_fit, all_tidy, Ends, ends_pass, Written, written_pass, Placed, placed_pass, routine_placed, called_known, as_many_of, no_old, fit_all_lack, count_grafts}
+use Rattle.translation.proofs.VariableNames.{each_to, none_among, own_each, stack_each, local_among, each_two}
+use Rattle.pcal_tree.proofs.GraftsRead.{free_put}
+use Rattle.pcal_tree.proofs.StepVariables.{named_one}
+use Rattle.tla_value.specs.laws.FreeNames.{Any}
 
 -- ---- small facts
 
 each_unit : (xs : List Word) → Each (λ x. Unit {0}) xs
 each_unit [] = tt
 each_unit (x ∷ xs) = (tt, each_unit xs)
-
-each_two : (A B C : Word → Type 0) → ((x : Word) → A x → B x → C x) → (xs : List Word) → Each A xs → Each B xs → Each C xs
-each_two A B C f [] h k = tt
-each_two A B C f (x ∷ xs) h k = (f x h.0 k.0, each_two A B C f xs h.1 k.1)
 
 pub one_single : (ds : List Declaration) → AllSingle ds → (d : Declaration) → OneOf d ds → IsSingle d.start
 one_single [] h d k = absurd k
@@ -201,7 +200,7 @@ module _ (o : Outside) (a : Algorithm) (h : IsAcceptedInFile o a) (values : Valu
 
     puts : PutsIn (renames A p) (λ y. Usable (use_of sight y) × IsIdentifier y) (Unbound o a h values)
     unfolding sight
-    puts = record { left = left; put = λ y at. put y at (declares (locals p) y) refl }
+    puts = record { left = left; put = λ y at. put y at (declares (locals p) y) refl; operators = λ y u. u }
       where
         not_local : (y : Word) (at : Place) (c : Bool) → declares (locals p) y ≡ c → cond c (Some (node (name (written A p y)) at no_trees)) None ≡ None → c ≡ false
         not_local y at true e q = cc
@@ -235,7 +234,7 @@ module _ (o : Outside) (a : Algorithm) (h : IsAcceptedInFile o a) (values : Valu
                 (throughout_both (BindsAll (Bound o a h values)) (BindsFree o.extended a.procedures s) (Bound o a h values) (Free o.extended a.procedures s) (whole e) (tree_bound (Bound o a h values) e b, tt)
                 (written_bare o.extended a.procedures [] (whole e) s (λ j. r j ++ []))))).0,
             tree_seen e false sight (Seen A (extra_of a) p) (seen_all o a h values p there) i,
-            graft_free (renames A p) (λ y. Usable (use_of sight y) × IsIdentifier y) (Unbound o a h values) puts e
+            free_put (renames A p) (λ y. Usable (use_of sight y) × IsIdentifier y) Any (Unbound o a h values) Any puts e
                 (named_free (λ y. Usable (use_of sight y)) e w (tree_seen e false sight (λ y. Usable (use_of sight y)) (λ y n. n) i)),
           )
 

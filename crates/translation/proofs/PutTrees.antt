@@ -1,13 +1,12 @@
--- Facts of trees with other trees put in for names: of each node, of the names and operators that they read, and of left sides.
-use Rattle.std.proofs.Common.{◌≡◌, List, [], ◌∷◌, Bool, true, Option, Some, None, inl, inr, refl, ap, subst, ◌∙◌}
+-- Facts of trees with other trees put in for names: of each node, and of left sides.
+use Rattle.std.proofs.Common.{◌≡◌, Bool, true, Option, Some, None, ap, ◌∙◌}
 use Rattle.std.proofs.lemmas.Option.{same_Some}
 use Rattle.tla_token.specs.declared.place.Place.{Place}
-use Rattle.tla_tree.specs.Tree.{Word, apply, select, Form, number, string, truth, booleans, strings, name, next, strict, operator_call, conjunction, disjunction, implication, member, if_then_else, cases, binding, local, Tree, node, Trees, no_trees, tree, Every, EveryOf, Graft, grafted_name, grafted_node, graft, grafts, seen_names}
-use Rattle.tla_value.specs.laws.FreeNames.{Or, Also, FormReads, FreeNames, FreeInParts}
+use Rattle.tla_tree.specs.Tree.{Word, apply, select, Form, number, string, truth, booleans, strings, name, next, strict, operator_call, conjunction, disjunction, implication, member, if_then_else, cases, binding, local, Tree, node, Trees, no_trees, tree, Every, EveryOf, Graft, grafted_name, grafted_node, graft, grafts}
 use Rattle.pcal_tree.specs.Expand.{placed_at, graft_left}
 use Rattle.pcal_tree.specs.Paths.{root_form, root, root_of_first}
 use Rattle.action_builder.specs.laws.Ready.{LeftIn, IsLeft, LeftFirst}
-use Rattle.translation.proofs.NamesFree.{tree_wider}
+use Rattle.pcal_tree.proofs.TargetLaws.{root_placed}
 
 -- ---- a fact of each node
 
@@ -46,56 +45,6 @@ module _ (F : Form → Place → Type 0) (g : Graft) (put : (y : Word) (at : Pla
     pub each_put : (ts : Trees) → EveryOf F ts → EveryOf F (grafts g ts)
     each_put no_trees h = tt
     each_put (tree t ts) h = (every_put t h.0, each_put ts h.1)
-
--- ---- what is read
-
-abbrev pub IfFree : (Word → Type 0) → (Word → Type 0) → Option Tree → Type 0
-IfFree N M (Some t) = FreeNames N M t
-IfFree N M None = Unit {0}
-
--- what is left of N' is of N, and what is put in reads N, and operators of M; operators of M' are of M
-pub record Puts (g : Graft) (N' M' N M : Word → Type 0) : Type 0 where
-  pub left : (y : Word) (at : Place) → N' y → g y at ≡ None → N y
-  pub put : (y : Word) (at : Place) → IfFree N M (g y at)
-  pub operators : (y : Word) → M' y → M y
-
-if_wider : (N N' M : Word → Type 0) → ((y : Word) → N y → N' y) → (o : Option Tree) → IfFree N M o → IfFree N' M o
-if_wider N N' M h (Some t) k = tree_wider N N' M h t k
-if_wider N N' M h None k = tt
-
--- under names that are bound
-puts_one : (g : Graft) (N' M' N M : Word → Type 0) (x : Word) → Puts g N' M' N M → Puts g (Or x N') M' (Or x N) M
-puts_one g N' M' N M x k = record {
-  left = λ y at n e. by y at n e;
-  put = λ y at. if_wider N (Or x N) M (λ z n. inr n) (g y at) (k.put y at);
-  operators = k.operators;
-}
-  where
-    by : (y : Word) (at : Place) → Or x N' y → g y at ≡ None → Or x N y
-    by y at (inl e) q = inl e
-    by y at (inr n) q = inr (k.left y at n q)
-
-puts_also : (g : Graft) (xs : List Word) (N' M' N M : Word → Type 0) → Puts g N' M' N M → Puts g (Also xs N') M' (Also xs N) M
-puts_also g [] N' M' N M k = k
-puts_also g (x ∷ xs) N' M' N M k = puts_also g xs (Or x N') M' (Or x N) M (puts_one g N' M' N M x k)
-
-name_put : (g : Graft) (N' M' N M : Word → Type 0) → Puts g N' M' N M → (x : Word) (at : Place) (us : Trees) → N' x → FreeInParts N M [] us → (o : Option Tree) → g x at ≡ o → FreeNames N M (grafted_name o (name x) at us)
-name_put g N' M' N M k x at us n f (Some t) q = subst (IfFree N M) q (k.put x at)
-name_put g N' M' N M k x at us n f None q = (k.left x at n q, f)
-
-node_put : (g : Graft) (N' M' N M : Word → Type 0) → Puts g N' M' N M → (m : Form) (at : Place) (us : Trees) → FormReads N' M' m → FreeInParts N M (seen_names m) us → FreeNames N M (grafted_node g m at us)
-node_put g N' M' N M k (name x) at us n f = name_put g N' M' N M k x at us n f (g x at) refl
-node_put g N' M' N M k (operator_call o) at us n f = (k.operators o n, f)
-node_put g N' M' N M k m at us n f = (tt, f)
-
-mutual
-  pub free_put : (g : Graft) (N' M' N M : Word → Type 0) → Puts g N' M' N M → (t : Tree) → FreeNames N' M' t → FreeNames N M (graft g t)
-  free_put g N' M' N M k (node m at ts) h = node_put g N' M' N M k m at (grafts g ts) h.0 (parts_put g N' M' N M k (seen_names m) ts h.1)
-
-  pub parts_put : (g : Graft) (N' M' N M : Word → Type 0) → Puts g N' M' N M → (names : List (List Word)) (ts : Trees) → FreeInParts N' M' names ts → FreeInParts N M names (grafts g ts)
-  parts_put g N' M' N M k names no_trees h = tt
-  parts_put g N' M' N M k [] (tree t ts) h = (free_put g N' M' N M k t h.0, parts_put g N' M' N M k [] ts h.1)
-  parts_put g N' M' N M k (xs ∷ names) (tree t ts) h = (free_put g (Also xs N') M' (Also xs N) M (puts_also g xs N' M' N M k) t h.0, parts_put g N' M' N M k names ts h.1)
 
 -- ---- left sides
 
@@ -173,9 +122,6 @@ module _ (g : Graft) (r : Word → Word) (put : (y : Word) (at : Place) → root
     first_root : (ts : Trees) (x : Word) → root_of_first ts ≡ Some x → root_of_first (grafts g ts) ≡ Some (r x)
     first_root no_trees x e = cc
     first_root (tree f us) x e = root_put f x e
-
-  root_placed : (at : Place) (t : Tree) → root (placed_at at t) ≡ root t
-  root_placed at (node m p ts) = refl
 
   pub side_root : (l : Tree) (x : Word) → root l ≡ Some x → root (graft_left g l) ≡ Some (r x)
   side_root (node m at ts) x e = root_placed at (graft g (node m at ts)) ∙ root_put (node m at ts) x e

@@ -17,6 +17,7 @@ use Rattle.action_builder.proofs.Main.{append_cases, in_front, behind}
 use Rattle.translation.specs.laws.StepsOnce.{set_by, set_in, set_in_some}
 use Rattle.translation.specs.laws.StepParts.{Asked, AskedOne, AskedIn, AskedSome, goes_on, Readied}
 use Rattle.translation.proofs.StepsOnce.{In}
+use Rattle.pcal_tree.proofs.GraftRuns.{graft_partner}
 
 -- each of ys is what one of xs became
 abbrev pub From : (Word → Word) → List Word → List Word → Type 0
@@ -61,23 +62,6 @@ became_more r A B xs ys h k y m = by (B y) refl m
         later false c e = e
 
 -- ---- partners and binds
-
-partner_put : (g : Graft) (b : Statements) → partner_of (graft_all g b) ≡ partner_of b
-partner_put g done = refl
-partner_put g (mark l k rest) = refl
-partner_put g (then at (goto l) rest) = refl
-partner_put g (then at return rest) = refl
-partner_put g (then at (assign ms) rest) = refl
-partner_put g (then at (await e) rest) = refl
-partner_put g (then at (print e) rest) = refl
-partner_put g (then at (assert e) rest) = refl
-partner_put g (then at skip rest) = refl
-partner_put g (then at (branch e a b) rest) = refl
-partner_put g (then at (either bs) rest) = refl
-partner_put g (then at (with bs b) rest) = refl
-partner_put g (then at (while e b) rest) = refl
-partner_put g (then at (macro m ts) rest) = refl
-partner_put g (then at (call p ts) rest) = refl
 
 kept_new : (vs : List Word) (A : Names) (bs : Binds) (items : Items) → is_old bs ≡ false → Kept vs A bs items
 kept_new vs A no_binds items h = tt
@@ -252,7 +236,7 @@ module _ (R : Asked) (r : Word → Word) (g h : Graft) (W : WrittenJumps) (U : R
     list_ready A B k here l (mark m n rest) a = fit.goes A B k m.word a
     list_ready A B k here l (then at st rest) a =
         settled_ready A B k here (label_of (graft_all g rest) l) (partner_of (graft_all g rest)) at st (settled W unlabelled l (graft_all g rest))
-        (subst (AskedOne R A st) (sym (partner_put g rest)) a.0) (λ q D d. list_ready (more A (set_by st)) D d unlabelled l rest (a.1 q))
+        (subst (AskedOne R A st) (sym (graft_partner g rest)) a.0) (λ q D d. list_ready (more A (set_by st)) D d unlabelled l rest (a.1 q))
 
     some_ready : (A B : Names) → Became r A B → (l : Word) (bs : Branches) → AskedSome R A bs
         → SomeSettled B (graft_some h (settled_some W l (graft_some g bs)))

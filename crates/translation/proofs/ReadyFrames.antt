@@ -52,10 +52,11 @@ use Rattle.translation.proofs.NamesGiven.{Bound, bound_all, once, routine_bound}
 use Rattle.translation.proofs.NamesOfRules.{rules_of_names, turned}
 use Rattle.translation.proofs.PreparedSteps.{whole, declared_again, declared_bound}
 use Rattle.translation.proofs.ReadyNames.{BoundName, unused_of, outside_unused, reserved_unused, own_global, own_apart, names_ready, unlikes}
-use Rattle.translation.proofs.RoutineReady.{named_one}
 use Rattle.translation.proofs.RoutinesNamed.{local_wanted, variables_named}
 use Rattle.translation.proofs.TidySteps.{no_old}
-use Rattle.translation.proofs.VariableNames.{one_variable, one_routine}
+use Rattle.pcal_tree.proofs.OneStand.{one_number}
+use Rattle.translation.proofs.VariableNames.{one_variable}
+use Rattle.pcal_tree.proofs.StepVariables.{named_one}
 
 -- ---- names that are bound are identifiers
 
@@ -229,12 +230,12 @@ module _ (o : Outside) (a : Algorithm) (h : IsAcceptedInFile o a) (values : Valu
 
       pub called_ready : (u : Routine) → OneOf u (routines a) → (x : Word) (q : Routine) → routine_named x (procedure_routines a) ≡ Some q → Called P u Name q
       called_ready u k x q e =
-          let m = named_one (procedure_routines a) x q e in
+          let m = named_one x (procedure_routines a) q e in
           let j = one_left q (procedure_routines a) (main_routines a a.main) m in
           record {
             names = names_ready o a h values v q j (apart_of q (inr m));
             unlike = unlikes o a h values q j;
-            same = λ n. one_routine a u q k j (eqb-true u.number q.number n);
+            same = λ n. one_number a u q k j (eqb-true u.number q.number n);
             other = λ n y z l i s. written_apart u q k j n y z l i s;
             unread = local_unused q j;
             starts = starts_read q m;
@@ -254,7 +255,7 @@ module _ (o : Outside) (a : Algorithm) (h : IsAcceptedInFile o a) (values : Valu
             unset_untitled = own_unused (codes "defaultInitValue") refl;
             unlike = unlikes o a h values u k;
             called = called_ready u k;
-            alone = λ n x p e. alone r u one n p (named_one (procedure_routines a) x p e);
+            alone = λ n x p e. alone r u one n p (named_one x (procedure_routines a) p e);
           }
         where
           alone : (r : Bool) (u : Routine) → IsRoutine a r u → r ≡ false → (p : Routine) → OneOf p (procedure_routines a) → nat_eq u.number p.number ≡ false

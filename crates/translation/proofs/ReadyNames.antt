@@ -28,10 +28,10 @@ use Rattle.translation.proofs.MacrosSound.{in_named, in_rest}
 use Rattle.translation.proofs.NamedBodies.{among_one}
 use Rattle.translation.proofs.NamesApart.{own_differs, false_among, never, writable, free, outer, kept_differs}
 use Rattle.translation.proofs.NamesGiven.{Bound, bound_kept}
-use Rattle.translation.proofs.NamesInSight.{one_reversed}
 use Rattle.translation.proofs.NamesOfRules.{Unreserved, not_own, turned}
 use Rattle.translation.proofs.RoutinesNamed.{variables_named, names_fit, local_free, among_before, one_each_of}
 use Rattle.translation.proofs.VariableNames.{none_among, each_from, vars_each, one_is_among}
+use Rattle.pcal_tree.proofs.StepVariables.{one_reverse}
 
 -- no definition of the name, so it reads nothing as one
 pub through_none : (gs : List Word) (ds : List Definition) (x : Word) → ((d : Definition) → OneOf d ds → bytes_eq d.name.word x ≡ false) → through (readings gs ds) x ≡ []
@@ -40,7 +40,7 @@ through_none gs (d ∷ older) x h =
     ap (λ (b : Bool). cond b (filter (among_looked_at (readings gs older) (used d.body (words d.params))) gs) (through (readings gs older) x)) (h d (inl refl)) ∙ through_none gs older x (λ e m. h e (inr m))
 
 pub unused_of : (a : Algorithm) (x : Word) → ((d : Definition) → OneOf d a.definitions → bytes_eq d.name.word x ≡ false) → through (readings_of a) x ≡ []
-unused_of a x h = through_none (declared a.globals) (reverse a.definitions) x (λ d m. h d (one_reversed d a.definitions m))
+unused_of a x h = through_none (declared a.globals) (reverse a.definitions) x (λ d m. h d (one_reverse d a.definitions m))
 
 among_title : (ds : List Definition) (d : Definition) (x : Word) → OneOf d ds → bytes_eq d.name.word x ≡ true → is_among (map (λ (e : Definition). e.name.word) ds) x ≡ true
 among_title [] d x m e = absurd m

@@ -1,6 +1,6 @@
 -- The actions of the written module can be written.
 use Rattle.std.proofs.Common.{◌≡◌, List, [], ◌∷◌, ◌++◌, Bool, true, false, ◌||◌, not, cond, map, reverse, Option, Some, None, inl, inr, refl, ap, subst}
-use Rattle.std.specs.Prelude.{filter, flat_map}
+use Rattle.std.specs.Prelude.{filter}
 use Rattle.std.specs.List.{AllByRecursion}
 use Rattle.tla_tree.specs.Tree.{Word, Each, Tree}
 use Rattle.tla_tree.specs.laws.Writable.{IsIdentifier, IsString, IsWritable}
@@ -30,7 +30,7 @@ use Rattle.action_builder.proofs.FitItems.{SomeFit, fit_items, graft_some_fit, i
 use Rattle.action_builder.proofs.FitStatements.{StatementsFit}
 use Rattle.action_builder.proofs.FitSettled.{IsLoose, all_settled}
 use Rattle.action_builder.proofs.FitSides as sides
-use Rattle.action_builder.proofs.FitWritten.{among_each, action_fits}
+use Rattle.action_builder.proofs.FitWritten.{action_fits}
 use Rattle.action_builder.proofs.FitJumps.{identifier_string}
 use Rattle.action_builder.proofs.FitCalls.{IsProcedure, goes_fit, calls_fit, returns_fit}
 use Rattle.action_builder.proofs.FitOwned.{owned_all}
@@ -39,20 +39,14 @@ use Rattle.translation.proofs.WritableBodies.{IfBegun, begun, IsBegun, begins}
 use Rattle.translation.proofs.NamedBodies.{open_all, named_all}
 use Rattle.translation.proofs.RoutinesNamed.{IsTitled, one_each_of, local_names, label_identifiers, variables_named, names_fit, title_free, label_name_free, label_name_string}
 use Rattle.translation.proofs.CalledProcedures.{is_called, exit_string, procedures_fit}
+use Rattle.pcal_tree.proofs.OneStand.{every_both}
+use Rattle.action_builder.proofs.Names.{each_name}
 
 -- ---- lists
 
 pub every_map : {X Y : Type 0} (Q : Y → Type 0) (f : X → Y) (xs : List X) → ((x : X) → OneOf x xs → Q (f x)) → AllByRecursion Q (map f xs)
 every_map Q f [] h = tt
 every_map Q f (x ∷ xs) h = (h x (inl refl), every_map Q f xs (λ y k. h y (inr k)))
-
-pub every_both : {X : Type 0} (Q : X → Type 0) (xs ys : List X) → AllByRecursion Q xs → AllByRecursion Q ys → AllByRecursion Q (xs ++ ys)
-every_both Q [] ys h k = k
-every_both Q (x ∷ xs) ys h k = (h.0, every_both Q xs ys h.1 k)
-
-pub every_flat : {X Y : Type 0} (Q : Y → Type 0) (f : X → List Y) (xs : List X) → ((x : X) → OneOf x xs → AllByRecursion Q (f x)) → AllByRecursion Q (flat_map f xs)
-every_flat Q f [] h = tt
-every_flat Q f (x ∷ xs) h = every_both Q (f x) (flat_map f xs) (h x (inl refl)) (every_flat Q f xs (λ y k. h y (inr k)))
 
 -- there is one
 abbrev pub IsSome : {X : Type 0} → List X → Type 0
@@ -170,7 +164,7 @@ module _ (o : Outside) (a : Algorithm) (h : IsWritableAlgorithm o a) where
       )
 
   own_identifier : (x : Word) → is_own_variable program x ≡ true → IsIdentifier x
-  own_identifier x e = among_each IsIdentifier (own_variables program) own_identifiers x e
+  own_identifier x e = each_name IsIdentifier (own_variables program) own_identifiers x e
 
   pub localised_writable : (e : Tree) → IsWritable e → IsWritable (localised program e)
   localised_writable e w =
@@ -183,8 +177,8 @@ module _ (o : Outside) (a : Algorithm) (h : IsWritableAlgorithm o a) where
   variable_identifier u k x e = by (declares a.globals x) refl e
     where
       by : (b : Bool) → declares a.globals x ≡ b → (b || declares (locals u) x) ≡ true → IsIdentifier x
-      by true q d = among_each IsIdentifier _ globals_identifiers x q
-      by false q d = among_each IsIdentifier _ (local_names o a h u k) x d
+      by true q d = each_name IsIdentifier _ globals_identifiers x q
+      by false q d = each_name IsIdentifier _ (local_names o a h u k) x d
 
   module _ (u : Routine) (k : OneOf u (routines a)) where
     statements_fit : (b : Begin) → AreWritableStatements (is_procedure a) (is_variable a u) (expanded (reverse a.macros) b.items)

@@ -1,8 +1,7 @@
 -- The formulas of fairness of the written module can be written.
-use Rattle.std.proofs.Common.{ℕ, zero, suc, List, [], ◌∷◌, Bool, true, false, length, cond, map, nat_eq, inl, inr, refl, sym, subst}
+use Rattle.std.proofs.Common.{ℕ, suc, List, [], ◌∷◌, Bool, true, false, length, cond, map, nat_eq, inl, inr, refl, sym, subst}
 use Rattle.std.specs.Prelude.{flat_map}
 use Rattle.std.specs.List.{AllByRecursion}
-use Rattle.tla_token.specs.Signs.{is_among}
 use Rattle.tla_tree.specs.Tree.{Word, Each}
 use Rattle.tla_tree.specs.laws.Writable.{IsIdentifier, IsString, IsWritable}
 use Rattle.tla_tree.proofs.SpelledTrees.{each_left, each_right}
@@ -25,16 +24,18 @@ use Rattle.action_builder.specs.WrittenNames.{with_names}
 use Rattle.action_builder.proofs.FitJumps.{identifier_string}
 use Rattle.action_builder.specs.LabelActions.{call_by}
 use Rattle.fairness.specs.MarkedLabels.{Marked, marked_in, marked, marked_some, if_left_out, if_strong, left_out_labels, strong_labels}
-use Rattle.fairness.specs.ReachedProcedures.{called_by as calls_of, reached_within, reached}
+use Rattle.fairness.specs.ReachedProcedures.{reached}
 use Rattle.fairness.specs.Demands.{Demand, all_steps, routine_steps, label_steps, demands_in, demands_of, main_demands, demands}
 use Rattle.fairness.specs.Obligations.{written_labels}
 use Rattle.fairness.specs.FairnessLines.{identifier_of, over_of, action_call, guard_of, line_of, fairness_lines}
 use Rattle.translation.specs.laws.WritableAlgorithm.{IsWritableMain, IsWritableAlgorithm}
-use Rattle.translation.proofs.RoutinesNamed.{IsTitled, label_identifiers, title_free, label_name_string, label_name_identifier}
-use Rattle.translation.proofs.RegionActions.{every_map, every_both, every_flat, one_filtered, self_name, named_writable, quoted_writable, TakersFit, procedures_in, mains_in, call_writable}
+use Rattle.translation.proofs.RoutinesNamed.{IsTitled, label_identifiers, title_free, label_name_string, label_name_identifier, all_flat}
+use Rattle.translation.proofs.RegionActions.{every_map, self_name, named_writable, quoted_writable, TakersFit, procedures_in, mains_in, call_writable}
 use Rattle.translation.proofs.RegionInit.{in_writable, listed_writable}
 use Rattle.translation.proofs.RegionNext.{at_writable}
 use Rattle.translation.proofs.RegionTakers.{takers_fit}
+use Rattle.pcal_tree.proofs.OneStand.{every_both}
+use Rattle.fairness.proofs.LinesByProcess.{reached_some}
 
 -- ---- labels with marks
 
@@ -104,10 +105,6 @@ guard_writable t f (l ∷ ls) h =
     texts [] k = tt
     texts (w ∷ ws) k = (quoted_writable w k.0, texts ws k.1)
 
-reached_procedure : (n : ℕ) (a : Algorithm) (u p : Routine) → OneOf p (reached_within n a u) → OneOf p (procedure_routines a)
-reached_procedure zero a u p h = absurd h
-reached_procedure (suc n) a u p h = one_filtered (λ q. is_among (calls_of (u ∷ reached_within n a u)) q.name.word) p (procedure_routines a) h
-
 module _ (o : Outside) (a : Algorithm) (h : IsWritableAlgorithm o a) where
   abbrev program : Program
   program = with_names o a
@@ -135,11 +132,11 @@ module _ (o : Outside) (a : Algorithm) (h : IsWritableAlgorithm o a) where
 
   module _ (titled : (u : Routine) → OneOf u (procedure_routines a) → IsTitled a a.main u) where
     each_fits : (t : Taken) → TakersFit t.takers → IsOwn t.routine → (strong : Bool) → AllByRecursion DemandFits (flat_map (demands_in t strong) (t.routine ∷ reached a t.routine))
-    each_fits t f k strong = every_flat DemandFits (demands_in t strong) (t.routine ∷ reached a t.routine) (λ u m. in_fits t f strong u (own u m))
+    each_fits t f k strong = all_flat DemandFits (demands_in t strong) (t.routine ∷ reached a t.routine) (λ u m. in_fits t f strong u (own u m))
       where
         own : (u : Routine) → OneOf u (t.routine ∷ reached a t.routine) → IsOwn u
         own u (inl e) = subst IsOwn (sym e) k
-        own u (inr m) = (let p = reached_procedure (length a.procedures) a t.routine u m in (procedures_in o a h u p, titled u p))
+        own u (inr m) = (let p = reached_some (length a.procedures) a t.routine u m in (procedures_in o a h u p, titled u p))
 
     of_fits : (t : Taken) → TakersFit t.takers → IsOwn t.routine → (f : Fairness) → AllByRecursion DemandFits (demands_of a f t)
     of_fits t f k Unfair = tt

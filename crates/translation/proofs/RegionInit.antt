@@ -27,10 +27,11 @@ use Rattle.action_builder.proofs.FitTrees.{fit_writable, writable_fits, graft_fi
 use Rattle.action_builder.proofs.FitItems.{in_place_put}
 use Rattle.translation.specs.laws.WritableAlgorithm.{is_procedure, is_variable, IsWritableStart, IsWritableDeclaration, IsWritableMain, IsWritableAlgorithm}
 use Rattle.translation.proofs.WritableBodies.{label_string}
-use Rattle.translation.proofs.RoutinesNamed.{names_fit, label_name_string}
+use Rattle.translation.proofs.RoutinesNamed.{names_fit, label_name_string, all_flat}
 use Rattle.translation.proofs.CalledProcedures.{one_declared, exit_string, renamed_writable}
-use Rattle.translation.proofs.RegionActions.{every_map, every_both, every_flat, IsSome, some_after, all_of_each, self_name, named_writable, quoted_writable, equal_writable, TakersFit, procedures_in, mains_in, localised_writable}
+use Rattle.translation.proofs.RegionActions.{every_map, IsSome, some_after, all_of_each, self_name, named_writable, quoted_writable, equal_writable, TakersFit, procedures_in, mains_in, localised_writable}
 use Rattle.translation.proofs.RegionTakers.{TakenOf, takers_fit, procedures_taken, main_taken}
+use Rattle.pcal_tree.proofs.OneStand.{every_both}
 
 -- ---- formulas
 
@@ -194,6 +195,6 @@ module _ (o : Outside) (a : Algorithm) (h : IsWritableAlgorithm o a) where
   init_writable =
       all_of_each IsWritable (init program) (some_after (globals_start a.globals) _ (some_after (flat_map (locals_start program) (taken_procedures a)) _ (some_after (flat_map (locals_start program) (taken_main a a.main)) _ (some_after (stack_start a.main (procedure_routines a)) (pc_start program ∷ []) tt))))
       (every_both IsWritable (globals_start a.globals) _ (globals_writable a.globals h.globals)
-      (every_both IsWritable (flat_map (locals_start program) (taken_procedures a)) _ (every_flat IsWritable (locals_start program) (taken_procedures a) (λ t k. locals_writable t (procedure_in t k)))
-      (every_both IsWritable (flat_map (locals_start program) (taken_main a a.main)) _ (every_flat IsWritable (locals_start program) (taken_main a a.main) (λ t k. locals_writable t (main_in t k)))
+      (every_both IsWritable (flat_map (locals_start program) (taken_procedures a)) _ (all_flat IsWritable (locals_start program) (taken_procedures a) (λ t k. locals_writable t (procedure_in t k)))
+      (every_both IsWritable (flat_map (locals_start program) (taken_main a a.main)) _ (all_flat IsWritable (locals_start program) (taken_main a a.main) (λ t k. locals_writable t (main_in t k)))
       (every_both IsWritable (stack_start a.main (procedure_routines a)) (pc_start program ∷ []) (stack_writable a.main (procedure_routines a)) (pc_start_writable, tt)))))

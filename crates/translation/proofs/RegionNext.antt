@@ -21,13 +21,14 @@ use Rattle.action_builder.specs.LabelActions.{taken_procedures, call_by}
 use Rattle.action_builder.specs.LabelActions as actions
 use Rattle.action_builder.specs.NextFormula.{all_done, ended, way_by, own_way, label_ways, main_ways, next}
 use Rattle.action_builder.specs.WrittenNames.{with_names}
-use Rattle.action_builder.proofs.FitJumps.{flipped}
 use Rattle.translation.specs.laws.WritableAlgorithm.{IsWritableMain, IsWritableAlgorithm}
 use Rattle.translation.proofs.WrittenIdentifiers.{IsFree}
-use Rattle.translation.proofs.RoutinesNamed.{IsTitled, title_free, label_name_free}
-use Rattle.translation.proofs.RegionActions.{every_map, every_both, every_flat, IsSome, some_after, some_before, some_map, labels_some, all_of_each, self_name, named_writable, quoted_writable, equal_writable, TakersFit, call_writable, mains_in}
+use Rattle.translation.proofs.RoutinesNamed.{IsTitled, title_free, label_name_free, all_flat}
+use Rattle.translation.proofs.RegionActions.{every_map, IsSome, some_after, some_before, some_map, labels_some, all_of_each, self_name, named_writable, quoted_writable, equal_writable, TakersFit, call_writable, mains_in}
 use Rattle.translation.proofs.RegionInit.{set_writable}
 use Rattle.translation.proofs.RegionTakers.{procedures_taken, main_taken, procedure_titled}
+use Rattle.pcal_tree.proofs.OneStand.{every_both}
+use Rattle.action_builder.proofs.Equal.{other-name}
 
 -- ---- the end
 
@@ -54,7 +55,7 @@ IsStep y = IsWay y × (is_terminating y ≡ false)
 
 other_name : (w : Word) → is_own w ≡ false → bytes_eq w (codes "Terminating") ≡ false
 other_name w e =
-    flipped (codes "Terminating") w
+    other-name (codes "Terminating") w
     (or_parts (bytes_eq (codes "Terminating") w) _
     (or_parts (bytes_eq (codes "Spec") w) _
     (or_parts (bytes_eq (codes "Next") w) _
@@ -99,7 +100,7 @@ module _ (o : Outside) (a : Algorithm) (h : IsWritableAlgorithm o a) where
 
   main_steps : (m : Main) → IsWritableMain m → ((u : Routine) → OneOf u (main_routines a m) → OneOf u (routines a)) → ((u : Routine) → IsTitled a m u → IsTitled a a.main u) → AllByRecursion IsStep (main_ways program m)
   main_steps (alone ss) w f g =
-      every_flat IsStep (label_ways program) (taken_main a (alone ss)) (λ t k. label_steps t (f t.routine (main_taken a (alone ss) w t k).0))
+      all_flat IsStep (label_ways program) (taken_main a (alone ss)) (λ t k. label_steps t (f t.routine (main_taken a (alone ss) w t k).0))
   main_steps (processes ps) w f g =
       every_map IsStep (own_way program) (taken_main a (processes ps))
       (λ t k. let q = main_taken a (processes ps) w t k in way_step program t t.takers q.1 q.1 (title_free o a h t.routine (g t.routine (inr q.0))))

@@ -12,8 +12,9 @@ use Rattle.pcal_tree.specs.Takers.{each_of, single, takers_of, Taken, taken_proc
 use Rattle.action_builder.specs.LabelActions.{procedure_takers, taken_procedures, label_actions, routine_actions, main_actions, actions}
 use Rattle.action_builder.specs.WrittenNames.{with_names}
 use Rattle.translation.specs.laws.WritableAlgorithm.{IsWritableMain, IsWritableAlgorithm}
-use Rattle.translation.proofs.RoutinesNamed.{IsTitled}
-use Rattle.translation.proofs.RegionActions.{every_both, every_flat, TakersFit, procedures_in, mains_in, labels_writable, routine_writable}
+use Rattle.translation.proofs.RoutinesNamed.{IsTitled, all_flat}
+use Rattle.translation.proofs.RegionActions.{TakersFit, procedures_in, mains_in, labels_writable, routine_writable}
+use Rattle.pcal_tree.proofs.OneStand.{every_both}
 
 pub takers_fit : (p : Process) → IsWritable p.identity → TakersFit (takers_of p)
 takers_fit p h = by p.several
@@ -59,14 +60,14 @@ module _ (o : Outside) (a : Algorithm) (h : IsWritableAlgorithm o a) where
 
   procedure_actions : AllByRecursion IsAction (flat_map (routine_actions program) (taken_procedures a))
   procedure_actions =
-      every_flat IsAction (routine_actions program) (taken_procedures a)
+      all_flat IsAction (routine_actions program) (taken_procedures a)
       (λ t k. let q = procedures_taken a t k in routine_writable o a h t (procedures_in o a h t.routine q.0) q.1 (procedure_titled a a.main t.routine q.0))
 
   main_all : (m : Main) → IsWritableMain m → ((u : Routine) → OneOf u (main_routines a m) → OneOf u (routines a)) → ((u : Routine) → IsTitled a m u → IsTitled a a.main u) → AllByRecursion IsAction (main_actions program m)
   main_all (alone ss) w f g =
-      every_flat IsAction (label_actions program) (taken_main a (alone ss)) (λ t k. let q = main_taken a (alone ss) w t k in labels_writable o a h t (f t.routine q.0) q.1)
+      all_flat IsAction (label_actions program) (taken_main a (alone ss)) (λ t k. let q = main_taken a (alone ss) w t k in labels_writable o a h t (f t.routine q.0) q.1)
   main_all (processes ps) w f g =
-      every_flat IsAction (routine_actions program) (taken_main a (processes ps))
+      all_flat IsAction (routine_actions program) (taken_main a (processes ps))
       (λ t k. let q = main_taken a (processes ps) w t k in routine_writable o a h t (f t.routine q.0) q.1 (g t.routine (inr q.0)))
 
   pub actions_writable : AllByRecursion IsAction (actions program)

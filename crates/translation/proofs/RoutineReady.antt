@@ -1,5 +1,5 @@
 -- A step of a routine is such that items can be written for it, where names are apart, no rule on labels and definitions is broken.
-use Rattle.std.proofs.Common.{◌≡◌, List, [], ◌∷◌, Bool, true, false, nat_eq, cond, bytes_eq, Option, Some, inl, inr, refl, sym, ap, subst, ◌∙◌}
+use Rattle.std.proofs.Common.{◌≡◌, List, [], ◌∷◌, Bool, true, false, nat_eq, cond, bytes_eq, Option, Some, refl, sym, ap, subst, ◌∙◌}
 use Rattle.std.proofs.lemmas.Bool.{both_ways}
 use Rattle.std.proofs.lemmas.Option.{same_Some}
 use Rattle.tla_tree.specs.Tree.{Word, Trees, Graft, grafts}
@@ -35,6 +35,7 @@ use Rattle.translation.proofs.PairsReady.{pair_ready}
 use Rattle.translation.proofs.ReadiedSteps.{Became, PartsFit, list_ready}
 use Rattle.translation.proofs.StepNames.{assigned_from, assignments_fine, assignments_apart, tree_fine, binds_fine, binds_new}
 use Rattle.translation.proofs.NamesFree.{AllOf}
+use Rattle.pcal_tree.proofs.StepVariables.{named_one}
 
 all_of_fresh : (ds : List Reading) (A : Names) (ns : List Name) → AllFresh ds A ns → AllOf (λ x. fresh ds A x ≡ true) ns
 all_of_fresh ds A [] h = tt
@@ -72,14 +73,6 @@ named_is (v ∷ us) x q e = by (bytes_eq v.name.word x) refl e (named_is us x q)
     by true c f k = subst (λ (w : Routine). bytes_eq w.name.word x ≡ true) (same_Some v q f) c
     by false c f k = k f
 
-pub named_one : (us : List Routine) (x : Word) (q : Routine) → routine_named x us ≡ Some q → OneOf q us
-named_one [] x q e = cc
-named_one (v ∷ us) x q e = by (bytes_eq v.name.word x) e (named_one us x q)
-  where
-    by : (b : Bool) → cond b (Some v) (routine_named x us) ≡ Some q → (routine_named x us ≡ Some q → OneOf q us) → OneOf q (v ∷ us)
-    by true f k = inl (sym (same_Some v q f))
-    by false f k = inr (k f)
-
 module _ (P : Program) (u : Routine) (N : Word → Type 0) (k : StepNames P u N) (ret : Bool) (frames : (q : Routine) → OneOf q (procedure_routines P.algorithm) → Frames P u N ret) (mine : ret ≡ true → OneOf u (procedure_routines P.algorithm)) where
   abbrev a : Algorithm
   a = P.algorithm
@@ -115,7 +108,7 @@ module _ (P : Program) (u : Routine) (N : Word → Type 0) (k : StepNames P u N)
   call_is A B b at p ts l j e q m = by j e.3 e.5
     where
       f : Frames P u N ret
-      f = frames q (named_one (procedure_routines a) p.word q m)
+      f = frames q (named_one p.word (procedure_routines a) q m)
 
       c : Called P u N q
       c = f.called p.word q m

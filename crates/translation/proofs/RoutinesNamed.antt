@@ -34,7 +34,7 @@ true_false e = cc
 
 -- ---- lists
 
-all_flat : {X Y : Type 0} (Q : Y → Type 0) (f : X → List Y) (xs : List X) → ((x : X) → OneOf x xs → AllByRecursion Q (f x)) → AllByRecursion Q (flat_map f xs)
+pub all_flat : {X Y : Type 0} (Q : Y → Type 0) (f : X → List Y) (xs : List X) → ((x : X) → OneOf x xs → AllByRecursion Q (f x)) → AllByRecursion Q (flat_map f xs)
 all_flat Q f [] h = tt
 all_flat Q f (x ∷ xs) h = every_both Q (f x) (flat_map f xs) (h x (inl refl)) (all_flat Q f xs (λ y k. h y (inr k)))
 
@@ -99,7 +99,7 @@ title_wanted a (processes ps) u (inr h) =
 
 -- ---- the names of an algorithm
 
-declared_each : (ds : List Declaration) → AllByRecursion IsWritableDeclaration ds → Each IsIdentifier (declared ds)
+pub declared_each : (ds : List Declaration) → AllByRecursion IsWritableDeclaration ds → Each IsIdentifier (declared ds)
 declared_each [] h = tt
 declared_each (d ∷ ds) h = (h.0.0, declared_each ds h.1)
 

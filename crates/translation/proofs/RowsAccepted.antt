@@ -35,7 +35,7 @@ use Rattle.translation.proofs.RowsProcedures as procedures
 use Rattle.translation.proofs.RowsStands.{add_text, add_good, add_has}
 
 -- an algorithm that the tokens of a file spell, and that breaks no rule
-accepted_by : (x : front.Text) (t : Text) (o : Option AlgorithmText) (u : Outside) → algorithm_in x ≡ o → Good p_syntax t → offences_of (walk x) ≡ [] → only_large (algorithm_offences o) ≡ true
+pub accepted_by : (x : front.Text) (t : Text) (o : Option AlgorithmText) (u : Outside) → algorithm_in x ≡ o → Good p_syntax t → offences_of (walk x) ≡ [] → only_large (algorithm_offences o) ≡ true
     → front.on_some o (λ a. Some (views (algorithm_tokens x a))) ≡ Some (spell t []) → front.on_some o (λ a. Some (tokens.algorithm_offences (algorithm_tokens x a))) ≡ Some []
     → labelled false (algorithm_of t) ≡ algorithm_of t → name_offences (algorithm_of t) u ≡ [] → label_offences (algorithm_of t) ≡ [] → length x < past_text → HasOutside (walk x) u → IsAcceptedInFile u (algorithm_of t)
 accepted_by x t (Some a) u is good fine large told rules labels_added names labels short outside = record {

@@ -196,7 +196,7 @@ both_outside : outside_read (walk kinds.file) ≡ integers
 unfolding readers
 both_outside = refl
 
-both_have : HasOutside (walk kinds.file) integers
+pub both_have : HasOutside (walk kinds.file) integers
 both_have = subst (λ (o : Outside). HasOutside (walk kinds.file) o) both_outside (has_outside (walk kinds.file))
 
 both_translated : IsWritten kinds.file kinds.translated integers (written_region false integers (algorithm_of both_text))

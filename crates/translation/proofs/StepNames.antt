@@ -1,6 +1,6 @@
 -- Under written names, and with the variables of the process at its identifier, expressions and assignments of a step are such as items can be written for.
 use Rattle.std.proofs.Common.{◌≡◌, List, [], ◌∷◌, ◌++◌, filter, Bool, true, false, ◌||◌, not, cond, bytes_eq, Option, Some, None, ◌⊎◌, inl, inr, refl, sym, ap, subst, ◌∙◌}
-use Rattle.std.proofs.lemmas.Bool.{both_ways, or_parts}
+use Rattle.std.proofs.lemmas.Bool.{both_ways, or_parts, not-true, false_from_ne_true}
 use Rattle.std.proofs.lemmas.Slice.Eq.{bytes_eq-Decides}
 use Rattle.std.specs.List.{list_any}
 use Rattle.tla_token.specs.declared.place.Place.{Place}
@@ -28,9 +28,10 @@ use Rattle.translation.specs.laws.StepNames.{name_of, Unused, StepNames}
 use Rattle.translation.specs.laws.WritableAlgorithm.{is_variable, AreWritableAssignments}
 use Rattle.translation.proofs.AskedSteps.{roots_are}
 use Rattle.translation.proofs.NamedBodies.{head_root}
-use Rattle.translation.proofs.PutTrees.{IfEvery, every_put, each_put, IfFree, Puts, free_put, parts_put, root_left, IfLeft, side_put, root_of, side_root}
+use Rattle.translation.proofs.PutTrees.{IfEvery, every_put, each_put, root_left, IfLeft, side_put, root_of, side_root}
 use Rattle.translation.proofs.ReadiedSteps.{From, Became}
 use Rattle.translation.proofs.StepsOnce as steps
+use Rattle.pcal_tree.proofs.GraftsRead.{IfFree, Puts, free_put, parts_put}
 
 -- ---- what definitions read is global
 
@@ -94,14 +95,6 @@ any_each A (x ∷ xs) h y m =
 pub negated : (b : Bool) → b ≡ false → not b ≡ true
 negated true e = cc
 negated false e = refl
-
-pub negated_back : (b : Bool) → not b ≡ true → b ≡ false
-negated_back true e = cc
-negated_back false e = refl
-
-pub not_true : (b : Bool) → (b ≡ true → ⊥) → b ≡ false
-not_true true f = absurd (f refl)
-not_true false f = refl
 
 module _ (P : Program) (u : Routine) (N : Word → Type 0) (k : StepNames P u N) where
   abbrev a : Algorithm
@@ -174,7 +167,7 @@ module _ (P : Program) (u : Routine) (N : Word → Type 0) (k : StepNames P u N)
   became_variables A B q w y b = (let z = q y b in subst (λ (x : Word). is_among vs x ≡ true) z.2 (variable_is z.0 (w z.0 z.1)))
 
   pub became_apart : (A B : Names) → Became r A B → IsWithin A V → (xs ys : List Word) → ((x : Word) → steps.In xs x → V x ≡ true) → Apart A xs → From r xs ys → Apart B ys
-  became_apart A B q w xs ys v p f y m = not_true (B y) (λ b. (let z = q y b in let t = f y m in
+  became_apart A B q w xs ys v p f y m = false_from_ne_true (B y) (λ b. (let z = q y b in let t = f y m in
       both_ways (A t.0) (p t.0 t.1) (ap A (sym (variable_apart z.0 t.0 (w z.0 z.1) (v t.0 t.1) (z.2 ∙ sym t.2))) ∙ z.1)))
 
   -- a global is assigned under its name
@@ -191,8 +184,8 @@ module _ (P : Program) (u : Routine) (N : Word → Type 0) (k : StepNames P u N)
 
   pub fresh_globals : (A B : Names) → GlobalsOf A B → (x : Word) → U A x ≡ true → U B x ≡ true
   fresh_globals A B q x e =
-      negated (list_any B (through ds x)) (any_none B (through ds x) (λ y m. not_true (B y) (λ b.
-      both_ways (A y) (any_each A (through ds x) (negated_back (list_any A (through ds x)) e) y m) (q y (through_global a x y m) b))))
+      negated (list_any B (through ds x)) (any_none B (through ds x) (λ y m. false_from_ne_true (B y) (λ b.
+      both_ways (A y) (any_each A (through ds x) (not-true (list_any A (through ds x)) e) y m) (q y (through_global a x y m) b))))
 
   pub fresh_became : (A B : Names) → Became r A B → IsWithin A V → (x : Word) → U A x ≡ true → U B x ≡ true
   fresh_became A B q w = fresh_globals A B (became_global A B q w)
@@ -275,7 +268,7 @@ module _ (P : Program) (u : Routine) (N : Word → Type 0) (k : StepNames P u N)
   )
     where
       unbound : (x : Word) → N x → B x ≡ false
-      unbound x n = not_true (B x) (λ b. both_ways (is_among vs x) (k.bound x n).0 (w x b))
+      unbound x n = false_from_ne_true (B x) (λ b. both_ways (is_among vs x) (k.bound x n).0 (w x b))
 
   pub tree_fine : (A B : Names) → Became r A B → IsWithin A V → (e : Tree) → ReadsFresh ds N A e → FineTree U B (graft h (graft g e))
   tree_fine A B q w e f = fine_of B (became_variables A B q w) (graft h (graft g e)) (own_reads B (graft g e) (named_reads A B (fresh_became A B q w) e f))

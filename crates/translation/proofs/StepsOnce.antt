@@ -124,17 +124,17 @@ IsReached (Some xs) = Unit {0}
 abbrev pub Has : Names → Path → Type 0
 Has A p = IsReached p × ((x : Word) → A x ≡ true → OnPath p x)
 
-joined_reached : (p q : Path) → IsReached p → IsReached (joined p q)
+pub joined_reached : (p q : Path) → IsReached p → IsReached (joined p q)
 joined_reached None q h = absurd h
 joined_reached (Some xs) None h = tt
 joined_reached (Some xs) (Some ys) h = tt
 
-joined_left : (p q : Path) (x : Word) → OnPath p x → OnPath (joined p q) x
+pub joined_left : (p q : Path) (x : Word) → OnPath p x → OnPath (joined p q) x
 joined_left None q x h = absurd h
 joined_left (Some xs) None x h = h
 joined_left (Some xs) (Some ys) x h = in_front xs ys x h
 
-joined_right : (p q : Path) (x : Word) → OnPath q x → OnPath (joined p q) x
+pub joined_right : (p q : Path) (x : Word) → OnPath q x → OnPath (joined p q) x
 joined_right None q x h = h
 joined_right (Some xs) None x h = absurd h
 joined_right (Some xs) (Some ys) x h = behind xs ys x h

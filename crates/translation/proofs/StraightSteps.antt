@@ -17,7 +17,6 @@ use Rattle.action_builder.specs.Assigned.{Names, more, head_of, without, heads}
 use Rattle.action_builder.specs.OwnVariables.{is_own_variable}
 use Rattle.action_builder.specs.laws.Jumps.{AllUnlike}
 use Rattle.action_builder.specs.laws.Ready.{Readable, IsWithin, LeftSides, FineSides, FineAssignments, Apart}
-use Rattle.action_builder.proofs.FitWritten.{among_each}
 use Rattle.action_builder.proofs.Main.{append_cases, in_front, behind}
 use Rattle.translation.specs.laws.FreshReads.{fresh, ReadsFresh}
 use Rattle.translation.specs.laws.StepNames.{StepNames}
@@ -26,6 +25,7 @@ use Rattle.translation.proofs.NamedBodies.{head_root}
 use Rattle.translation.proofs.PutTrees.{root_left, side_put, side_root}
 use Rattle.translation.proofs.StepNames.{GlobalsOf, own_left, own_root, without_within, own_reads, side_reads, fine_of, variable_fresh}
 use Rattle.translation.proofs.StepsOnce as steps
+use Rattle.action_builder.proofs.Names.{each_name}
 
 -- the variables that are assigned one after the other
 abbrev pub all_roots : Statements → List Word
@@ -40,7 +40,7 @@ unlike_either [] ys h = (h, λ x m n. absurd (nothing x m))
 unlike_either (z ∷ xs) ys h = (let k = unlike_either xs ys h.1 in (k.0, λ x m n. by x (bytes_eq z x) refl m n k.1))
   where
     by : (x : Word) (b : Bool) → bytes_eq z x ≡ b → (b || is_among xs x) ≡ true → steps.In ys x → ((x : Word) → steps.In xs x → steps.In ys x → ⊥) → ⊥
-    by x true e m n f = both_ways (bytes_eq z x) (among_each (λ y. bytes_eq z y ≡ false) (xs ++ ys) h.0 x (behind xs ys x n)) e
+    by x true e m n f = both_ways (bytes_eq z x) (each_name (λ y. bytes_eq z y ≡ false) (xs ++ ys) h.0 x (behind xs ys x n)) e
     by x false e m n f = f x m n
 
 module _ (P : Program) (u : Routine) (N : Word → Type 0) (k : StepNames P u N) where

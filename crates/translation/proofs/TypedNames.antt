@@ -13,7 +13,6 @@ use Rattle.pcal_tree.proofs.FreeNames.{every_map}
 use Rattle.pcal_tree.proofs.OneStand.{every_both}
 use Rattle.translation.specs.laws.WritableAlgorithm.{IsWritableDeclaration}
 use Rattle.translation.specs.laws.TypedAlgorithm.{IsTypedStatement, AreTypedStatements, AreTypedBranches, IsTypedProcedure, IsTypedProcess, IsTypedMain, IsTypedAlgorithm}
-use Rattle.translation.proofs.RegionActions.{every_both as each_both}
 use Rattle.translation.proofs.WrittenIdentifiers.{no_fairness}
 
 -- ---- labels
@@ -74,7 +73,7 @@ procedures_named : (n : ℕ) (ps : List Procedure) → AllByRecursion IsTypedPro
 procedures_named n [] h = tt
 procedures_named n (p ∷ ps) h =
     every_both IsWanted (wanted_by (procedure_routine n p)) (flat_map wanted_by (numbered procedure_routine (suc n) ps))
-    (h.0.0, within_named (procedure_routine n p) (each_both IsWritableDeclaration p.params p.variables h.0.1 h.0.2) h.0.3.1) (procedures_named (suc n) ps h.1)
+    (h.0.0, within_named (procedure_routine n p) (every_both IsWritableDeclaration p.params p.variables h.0.1 h.0.2) h.0.3.1) (procedures_named (suc n) ps h.1)
 
 processes_named : (n : ℕ) (ps : List Process) → AllByRecursion IsTypedProcess ps → AllByRecursion IsWanted (flat_map wanted_by (numbered process_routine n ps))
 processes_named n [] h = tt

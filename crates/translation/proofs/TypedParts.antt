@@ -105,11 +105,6 @@ of_definitions (more_definitions d p e ds) ts g h =
 
 -- ---- labels and statements
 
-of_colon : (c : Colon) (ts : List Token) → AreOfText (colon_tokens c ts) → AreOfText ts
-of_colon (colon p) ts h = h.1
-of_colon (colon_plus p q) ts h = h.1.1
-of_colon (colon_minus p q) ts h = h.1.1
-
 -- the labels before statements
 pub of_labels : (ls : Labels) (ts : List Token) → AreOfText (labels ls ts) → ((ss : tree.Statements) → AreTypedStatements ss → AreTypedStatements (with_labels ls ss)) × AreOfText ts
 of_labels no_labels ts h = ((λ ss k. k), h)

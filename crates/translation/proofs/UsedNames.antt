@@ -1,16 +1,16 @@
 -- The names that an expression reads free are those that it uses, which the rule on the order of initial values looks at.
-use Rattle.std.proofs.Common.{◌≡◌, List, [], ◌∷◌, ◌++◌, Bool, true, false, ◌||◌, cond, bytes_eq, ◌⊎◌, inl, inr, refl, sym, ap, ◌∙◌, arith}
+use Rattle.std.proofs.Common.{◌≡◌, List, [], ◌∷◌, ◌++◌, Bool, true, false, cond, ◌⊎◌, inl, inr, refl, arith}
 use Rattle.std.specs.List.{flat_map, list_any, AllByRecursion}
 use Rattle.std.proofs.lemmas.Bool.{or_parts}
-use Rattle.std.proofs.lemmas.Slice.Eq.{bytes_eq-Decides}
 use Rattle.tla_token.specs.declared.place.Place.{Place}
 use Rattle.tla_token.specs.Signs.{is_among}
 use Rattle.tla_tree.specs.Tree.{Word, Name, Form, name, operator_call, Tree, node, Trees, no_trees, tree, seen_names}
 use Rattle.tla_tree.specs.Shapes.{Shaped}
 use Rattle.tla_tree.specs.laws.Writable.{count, IsWritable, AreWritable}
-use Rattle.tla_value.specs.laws.FreeNames.{Or, Also, FormReads, FreeNames, FreeInParts, Any}
+use Rattle.tla_value.specs.laws.FreeNames.{Also, FormReads, FreeNames, FreeInParts, Any}
 use Rattle.pcal_tree.specs.Reads.{named, if_free, used_by_form, used, used_by_parts, Reading, looked_at}
-use Rattle.pcal_tree.proofs.CallsFine.{in_also, free_weaker}
+use Rattle.pcal_tree.proofs.CallsFine.{in_also, free_weaker, among_also}
+use Rattle.action_builder.proofs.Main.{append_cases}
 
 -- ---- lists
 
@@ -32,25 +32,9 @@ none_looked_at f R (n ∷ ns) e = ((or_parts (f n.word) _ e).0, none_looked_at f
 abbrev Around : List Word → (Word → Type 0) → Word → Type 0
 Around xs N y = (is_among xs y ≡ true) ⊎ N y
 
-among_also : (N : Word → Type 0) (xs : List Word) (y : Word) → is_among xs y ≡ true → Also xs N y
-among_also N [] y e = cc
-among_also N (x ∷ xs) y e = by (bytes_eq x y) refl (among_also (Or x N) xs y)
-  where
-    by : (b : Bool) → bytes_eq x y ≡ b → (is_among xs y ≡ true → Also xs (Or x N) y) → Also xs (Or x N) y
-    by true q h = in_also (Or x N) xs y (inl ((bytes_eq-Decides x y).0 q))
-    by false q h = h (sym (ap (λ b. b || is_among xs y) q) ∙ e)
-
-among_both : (xs ys : List Word) (y : Word) → is_among (xs ++ ys) y ≡ true → (is_among xs y ≡ true) ⊎ (is_among ys y ≡ true)
-among_both [] ys y e = inr e
-among_both (x ∷ xs) ys y e = by (bytes_eq x y) e (among_both xs ys y)
-  where
-    by : (b : Bool) → (b || is_among (xs ++ ys) y) ≡ true → (is_among (xs ++ ys) y ≡ true → (is_among xs y ≡ true) ⊎ (is_among ys y ≡ true)) → ((b || is_among xs y) ≡ true) ⊎ (is_among ys y ≡ true)
-    by true q h = inl refl
-    by false q h = h q
-
 around_also : (N : Word → Type 0) (xs ys : List Word) (y : Word) → Around (ys ++ xs) N y → Also ys (Around xs N) y
 around_also N xs ys y (inr n) = in_also (Around xs N) ys y (inr n)
-around_also N xs ys y (inl e) = by (among_both ys xs y e)
+around_also N xs ys y (inl e) = by (append_cases ys xs y e)
   where
     by : (is_among ys y ≡ true) ⊎ (is_among xs y ≡ true) → Also ys (Around xs N) y
     by (inl q) = among_also (Around xs N) ys y q

@@ -1,10 +1,10 @@
 -- The variables of the translation, one by one: globals, pc, the stack and the written names of each routine's own; those of different routines are written apart.
-use Rattle.std.proofs.Common.{◌≡◌, ℕ, suc, ◌+◌, ◌<◌, ◌≤◌, length, List, [], ◌∷◌, ◌++◌, Bool, true, false, ◌||◌, cond, bytes_eq, map, filter, ◌⊎◌, inl, inr, refl, sym, ◌∙◌, ap, subst, arith}
+use Rattle.std.proofs.Common.{◌≡◌, ℕ, suc, List, [], ◌∷◌, ◌++◌, Bool, true, false, ◌||◌, cond, bytes_eq, map, filter, ◌⊎◌, inl, inr, refl, sym, ◌∙◌, ap, subst}
 use Rattle.std.proofs.lemmas.Bool.{or_left, or_right}
 use Rattle.std.proofs.lemmas.Slice.Eq.{bytes_eq-Decides}
 use Rattle.tla_token.specs.Signs.{is_among}
 use Rattle.tla_tree.specs.Tree.{Word, Each}
-use Rattle.pcal_tree.specs.Algorithm.{locals, Procedure, Process, Main, alone, processes, Algorithm, Routine, numbered, first_procedure, first_process, procedure_routine, process_routine, alone_routine, procedure_routines, main_routines, routines}
+use Rattle.pcal_tree.specs.Algorithm.{locals, Procedure, Process, Main, alone, processes, Routine, numbered, first_procedure, procedure_routine, procedure_routines, main_routines, routines}
 use Rattle.pcal_tree.specs.Names.{variable, Want, Given, give, written_for}
 use Rattle.pcal_tree.specs.Processes.{OneOf}
 use Rattle.pcal_tree.specs.Program.{Program, written}
@@ -25,6 +25,10 @@ each_joined Q (x ∷ xs) ys h k = (h.0, each_joined Q xs ys h.1 k)
 pub each_to : (Q R : Word → Type 0) → ((x : Word) → Q x → R x) → (xs : List Word) → Each Q xs → Each R xs
 each_to Q R f [] h = tt
 each_to Q R f (x ∷ xs) h = (f x h.0, each_to Q R f xs h.1)
+
+pub each_two : (A B C : Word → Type 0) → ((x : Word) → A x → B x → C x) → (xs : List Word) → Each A xs → Each B xs → Each C xs
+each_two A B C f [] h k = tt
+each_two A B C f (x ∷ xs) h k = (f x h.0 k.0, each_two A B C f xs h.1 k.1)
 
 pub each_from : (Q : Word → Type 0) (xs : List Word) → ((x : Word) → OneOf x xs → Q x) → Each Q xs
 each_from Q [] h = tt
@@ -175,58 +179,3 @@ one_variable extended taken ws n m x y a h k e = by (looked extended taken ws n 
         let same : f.found ≡ g.found = one_given (give extended taken ws) f.found g.found a f.listed g.listed (sym f.written ∙ e ∙ g.written) in
         let at : want_of n variable x ≡ want_of m variable y = sym f.is ∙ ap (λ (u : Given). u.want) same ∙ g.is in
         (ap (λ (w : Want). w.unit) at, ap (λ (w : Want). w.word) at)
-
--- routines of one number are one
-record Spread (us : List Routine) (low high : ℕ) : Type 0 where
-  within : (u : Routine) → OneOf u us → (low ≤ u.number) × (u.number < high)
-  once : (u w : Routine) → OneOf u us → OneOf w us → u.number ≡ w.number → u ≡ w
-
-spread_numbered : {A : Type 0} (f : ℕ → A → Routine) → ((n : ℕ) (x : A) → (f n x).number ≡ n) → (n : ℕ) (xs : List A)
-    → Spread (numbered f n xs) n (n + length xs)
-spread_numbered f is n [] = record { within = λ u h. absurd h; once = λ u w h k e. absurd h }
-spread_numbered {A = A} f is n (x ∷ xs) = by (spread_numbered f is (suc n) xs)
-  where
-    rest : List Routine
-    rest = numbered f (suc n) xs
-
-    here : (u : Routine) → u ≡ f n x → u.number ≡ n
-    here u e = ap (λ (w : Routine). w.number) e ∙ is n x
-
-    inside : Spread rest (suc n) (suc n + length xs) → (u : Routine) → OneOf u (f n x ∷ rest) → (n ≤ u.number) × (u.number < n + suc (length xs))
-    inside s u (inl e) = (omega (arith, here u e), omega (arith, here u e))
-    inside s u (inr h) = (omega (arith, (s.within u h).0), omega (arith, (s.within u h).1))
-
-    equal : Spread rest (suc n) (suc n + length xs) → (u w : Routine) → OneOf u (f n x ∷ rest) → OneOf w (f n x ∷ rest) → u.number ≡ w.number → u ≡ w
-    equal s u w (inl e) (inl q) same = e ∙ sym q
-    equal s u w (inl e) (inr k) same = absurd (omega (arith, here u e, (s.within w k).0, same))
-    equal s u w (inr h) (inl q) same = absurd (omega (arith, here w q, (s.within u h).0, same))
-    equal s u w (inr h) (inr k) same = s.once u w h k same
-
-    by : Spread rest (suc n) (suc n + length xs) → Spread (f n x ∷ rest) n (n + suc (length xs))
-    by s = record { within = inside s; once = equal s }
-
-spread_main : (a : Algorithm) (m : Main) → (high : ℕ) × Spread (main_routines a m) (first_process a) high
-spread_main a (alone ss) = (suc (first_process a), record { within = λ u h. within u h; once = λ u w h k e. equal u w h k })
-  where
-    within : (u : Routine) → OneOf u (alone_routine a ss ∷ []) → (first_process a ≤ u.number) × (u.number < suc (first_process a))
-    within u (inl e) = (let n : u.number ≡ first_process a = ap (λ (w : Routine). w.number) e in (omega arith, omega arith))
-    within u (inr h) = absurd h
-
-    equal : (u w : Routine) → OneOf u (alone_routine a ss ∷ []) → OneOf w (alone_routine a ss ∷ []) → u ≡ w
-    equal u w (inl e) (inl q) = e ∙ sym q
-    equal u w (inl e) (inr k) = absurd k
-    equal u w (inr h) k = absurd h
-spread_main a (processes ps) = (first_process a + length ps, spread_numbered process_routine (λ n x. refl) (first_process a) ps)
-
-pub one_routine : (a : Algorithm) (u w : Routine) → OneOf u (routines a) → OneOf w (routines a) → u.number ≡ w.number → u ≡ w
-one_routine a u w h k e =
-    by (spread_numbered procedure_routine (λ n x. refl) (first_procedure a) a.procedures) (spread_main a a.main)
-    (one_either u (procedure_routines a) (main_routines a a.main) h) (one_either w (procedure_routines a) (main_routines a a.main) k)
-  where
-    by : Spread (procedure_routines a) (first_procedure a) (first_procedure a + length a.procedures)
-        → ((high : ℕ) × Spread (main_routines a a.main) (first_process a) high) → OneOf u (procedure_routines a) ⊎ OneOf u (main_routines a a.main)
-        → OneOf w (procedure_routines a) ⊎ OneOf w (main_routines a a.main) → u ≡ w
-    by s t (inl p) (inl q) = s.once u w p q e
-    by s t (inl p) (inr q) = absurd (omega (arith, (s.within u p).1, (t.1.within w q).0, e))
-    by s t (inr p) (inl q) = absurd (omega (arith, (s.within w q).1, (t.1.within u p).0, e))
-    by s t (inr p) (inr q) = t.1.once u w p q e

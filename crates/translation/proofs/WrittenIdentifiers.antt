@@ -17,6 +17,7 @@ use Rattle.pcal_tree.specs.laws.Apart.{Apart}
 use Rattle.pcal_tree.proofs.FreeNames.{free_is, every_map}
 use Rattle.pcal_tree.proofs.FreeWords.{given_free}
 use Rattle.pcal_tree.proofs.RoutineNames.{every_one}
+pub use Rattle.pcal_tree.proofs.RoutineNames.{one_given}
 
 clash : true ≡ false → ⊥
 clash e = cc
@@ -192,14 +193,6 @@ title_any Q (g ∷ gs) n h k = by (is_for n title g.want) (title_any Q gs n h k.
     by : (b : Bool) → Q (title_for gs n) → Q (cond b g.written (title_for gs n))
     by true f = k.0
     by false f = f
-
--- names that are given apart are of one want
-pub one_given : (gs : List Given) (g h : Given) → Apart gs → OneOf g gs → OneOf h gs → g.written ≡ h.written → g ≡ h
-one_given [] g h a k l e = absurd k
-one_given (f ∷ gs) g h a (inl p) (inl q) e = p ∙ sym q
-one_given (f ∷ gs) g h a (inl p) (inr q) e = absurd (every_one (λ d. f.written ≡ d.written → ⊥) h gs a.0 q (sym (ap (λ u. u.written) p) ∙ e))
-one_given (f ∷ gs) g h a (inr p) (inl q) e = absurd (every_one (λ d. f.written ≡ d.written → ⊥) g gs a.0 p (sym (ap (λ u. u.written) q) ∙ sym e))
-one_given (f ∷ gs) g h a (inr p) (inr q) e = one_given gs g h a.1 p q e
 
 -- different names of one role and unit are written apart
 pub one_written : (extended taken : List Word) (ws : List Want) (n : ℕ) (r : Role) (x y : Word) → Apart (give extended taken ws)

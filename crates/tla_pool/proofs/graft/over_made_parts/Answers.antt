@@ -1,4 +1,4 @@
--- Proves what is asked of `over_done`.
+-- Proves what is asked of `over_made_parts`.
 use Rattle.std.proofs.Common.{ℕ, List, [], length, ap, sym, ◌∙◌, subst, get_or, refl, arith}
 use Rattle.std.specs.Option.{IsSome}
 use Rattle.tla_tree.specs.Tree.{node, graft}
@@ -11,7 +11,7 @@ use Rattle.tla_pool.proofs.VisitLemmas.{AreDone-at}
 use Rattle.tla_pool.proofs.PoolGrown.{Keeps-same}
 use Rattle.tla_tree.proofs.PoolNumbers.{Have, Have-next, Have-length, grafted-done}
 use Rattle.tla_tree.specs.Shapes.{Shaped}
-use Rattle.tla_pool.proofs.graft.over_done.Goals as goal
+use Rattle.tla_pool.proofs.graft.over_made_parts.Goals as goal
 
 pub unwrap-requires : goal.unwrap-requires
 unwrap-requires g c =
