@@ -58,7 +58,7 @@ pub as_many_macros : (ms : List Macro) → length (macros_placeless ms) ≡ leng
 as_many_macros [] = refl
 as_many_macros (m ∷ ms) = ap suc (as_many_macros ms)
 
-as_many_procedures : (ps : List Procedure) → length (procedures_placeless ps) ≡ length ps
+pub as_many_procedures : (ps : List Procedure) → length (procedures_placeless ps) ≡ length ps
 as_many_procedures [] = refl
 as_many_procedures (p ∷ ps) = ap suc (as_many_procedures ps)
 

@@ -29,7 +29,7 @@ use Rattle.fairness.specs.FairnessLines.{identifier_of, over_of, action_call, gu
 use Rattle.translation.specs.Region.{region_of}
 use Rattle.translation.specs.laws.AcceptedLaws.{RegionPlaced}
 use Rattle.translation.proofs.BareNames.{each_one, each_same}
-use Rattle.translation.proofs.NoPlaces.{naming_bare, first_process_bare}
+use Rattle.translation.proofs.NoPlaces.{naming_bare, first_process_bare, as_many_procedures}
 use Rattle.translation.proofs.PlacelessJumps.{routine_placeless, takers_placeless, taken_placeless, taken_one, routines_bare, Q, vars_bare}
 use Rattle.translation.proofs.PlacelessUnits.{flat_bare, call_bare, process_set_bare, done_bare, ended_bare, definitions_bare, model_bare, all_actions_bare, next_bare, init_bare}
 use Rattle.translation.proofs.PlacesTwice.{region_twice}
@@ -108,12 +108,9 @@ reached_bare (suc n) g u =
     (λ i. filter (λ p. is_among ((ap (λ us. called_by (routine_placeless u ∷ us)) (reached_bare n g u) ∙ called_bare (u ∷ reached_within n g u)) i) p.name.word) (routines_bare g i))
     ∙ named_bare (called_by (u ∷ reached_within n g u)) (procedure_routines g)
 
-as_many : (ps : List Procedure) → length (procedures_placeless ps) ≡ length ps
-as_many [] = refl
-as_many (p ∷ ps) = ap suc (as_many ps)
 
 all_reached : (g : Algorithm) (u : Routine) → reached (placeless g) (routine_placeless u) ≡ map routine_placeless (reached g u)
-all_reached g u = ap (λ (n : ℕ). reached_within n (placeless g) (routine_placeless u)) (as_many g.procedures) ∙ reached_bare (length g.procedures) g u
+all_reached g u = ap (λ (n : ℕ). reached_within n (placeless g) (routine_placeless u)) (as_many_procedures g.procedures) ∙ reached_bare (length g.procedures) g u
 
 -- ---- demands
 
