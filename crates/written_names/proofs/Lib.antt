@@ -1,0 +1,4 @@
+-- That names are given as it is defined.
+pub mod FirstFree
+pub mod Given
+pub mod LookedUp
