@@ -49,7 +49,7 @@ gives_then j k l ps qs rs ws vs g h =
     }
   where
     subst_names : (extended taken : List Word) → Knows l extended (taken_after extended (taken_after extended taken ws) vs) → Knows l extended (taken_after extended taken (ws ++ vs))
-    subst_names extended taken a = record { sequences = a.sequences; tlc = a.tlc; names = λ w. a.names w ∙ sym (ap (λ l. is_among l w) (taken_later extended taken ws vs)) }
+    subst_names extended taken a = record { sequences = a.sequences; tlc = a.tlc; names = λ w. a.names w ∙ sym (ap (λ l. is_among l w) (taken_later extended taken ws vs)); tried = a.tried }
 
 pub gives_as : (j k : Known) (ps qs : Pairs) (ws vs : List Word) → ws ≡ vs → Gives j k ps qs ws → Gives j k ps qs vs
 gives_as j k ps qs ws vs e g = subst (λ l. Gives j k ps qs l) e g

@@ -2,3 +2,4 @@
 pub mod FirstFree
 pub mod Given
 pub mod LookedUp
+pub mod Steps

@@ -8,8 +8,9 @@ use Rattle.std.specs.List.{flat_map}
 use Rattle.tla_tree.specs.Tree.{Word}
 use Rattle.pcal_tree.specs.Algorithm.{Procedure, Process, Main, alone, processes, Algorithm, Naming, numbered, procedure_routine, process_routine, first_procedure, first_process}
 use Rattle.pcal_tree.specs.Names.{first_free, Role, title, variable, label, Want, wants, Given, give, same_role, is_for, written_for, title_for, naming_by, wanted, wanted_by, wanted_by_main}
+use Rattle.written_names.specs.declared.naming.UnitNames.{UnitNames}
 use Rattle.written_names.specs.Giving.{taken_after, first_named, Pairs, found, first_of}
-use Rattle.written_names.specs.Units.{UnitNames, no_names, naming_of, Asked, asked_procedure, asked_process, asked_main, asked, title_given, after_unit, after_units, IsUnit, AreUnits}
+use Rattle.written_names.specs.Units.{no_names, naming_of, Asked, asked_procedure, asked_process, asked_main, asked, title_given, after_unit, after_units, IsUnit, AreUnits}
 use Rattle.written_names.proofs.Given.{first_none}
 
 -- ---- what is found, if anything
@@ -175,7 +176,7 @@ module _ (extended : List Word) where
           local_here taken n m q (wants_from (suc n) qs) x e
           ∙ ap (first_of own) (ih ∙ ap (λ (v : UnitNames). found v.variables x) (before_all (suc n) us m (let k = eqb-true n m e in omega arith)))
           ∙ first_none own
-          ∙ sym (h.0.variables x)
+          ∙ sym (h.0.within.variables x)
       by false e ih = none_there taken n m q (wants_from (suc n) qs) variable x e ∙ ih
 
   labels_found : (taken : List Word) (n m : ℕ) (qs : List Asked) (us : List UnitNames) (x : Word) → AreUnits extended taken qs us
@@ -197,7 +198,7 @@ module _ (extended : List Word) where
           label_here taken n m q (wants_from (suc n) qs) x e
           ∙ ap (first_of own) (ih ∙ ap (λ (v : UnitNames). found v.labels x) (before_all (suc n) us m (let k = eqb-true n m e in omega arith)))
           ∙ first_none own
-          ∙ sym (h.0.labels x)
+          ∙ sym (h.0.within.labels x)
       by false e ih = none_there taken n m q (wants_from (suc n) qs) label x e ∙ ih
 
   titles_found : (taken : List Word) (n m : ℕ) (qs : List Asked) (us : List UnitNames) → AreUnits extended taken qs us

@@ -1,9 +1,12 @@
 -- Names that are given one after another, and what is known of those that are taken.
-use Rattle.std.specs.Prelude.{◌≡◌, ◌==◌, ℕ, ◌≤◌, ◌<◌, List, [], ◌∷◌, Bool, true, cond, bytes_eq, codes, Option, Some, None}
+use Rattle.std.specs.Prelude.{◌≡◌, ◌==◌, ℕ, ◌+◌, ◌^◌, ◌≤◌, ◌<◌, List, [], ◌∷◌, Bool, true, false, cond, bytes_eq, codes, Option, Some, None}
 use Rattle.std.specs.Cmp.Lexicographic.{pointwise}
 use Rattle.std.specs.Map.{lookup}
+use Rattle.std.specs.Coded as coded
+use Rattle.std.specs.Coded.{Coded}
 use Rattle.tla_token.specs.Signs.{is_among}
 use Rattle.tla_tree.specs.Tree.{Word}
+use Rattle.algorithm_limits.specs.Numbers.{Numbers, number_of}
 use Rattle.pcal_tree.specs.Names.{with_number, first_free}
 
 -- names that no look-up tells apart
@@ -31,17 +34,34 @@ first_named extended taken (w ∷ ws) x =
 
 -- ---- what is known while names are given
 
--- whether these modules are extended, and the names that are taken
+-- whether these modules are extended, the names that are taken, and a table of those that were looked at
 pub record Known : Type 0 where
   pub sequences : Bool
   pub tlc : Bool
   pub names : List Word
+  pub tried : Numbers  -- up to which number those of a word are
+
+pub known_code : Coded Known
+known_code = hlevel coded.codes
+
+-- up to its number in the table all names of a word with numbers are taken
+abbrev pub AreTried : List Word → Numbers → Type 0
+AreTried names es = (x : Word) → TakenFrom names x 1 (number_of es x + 1)
+
+-- a name with the first number that is free
+pub record IsFound (names : List Word) (x w : Word) (m : ℕ) : Type 0 where
+  pub word : w ≡ with_number x m
+  pub first : 1 ≤ m
+  pub small : m < 2 ^ 64
+  pub before : TakenFrom names x 1 m
+  pub free : is_among names w ≡ false
 
 -- so it is in a module that extends these, where these are taken
 pub record Knows (k : Known) (extended taken : List Word) : Type 0 where
   pub sequences : is_among extended (codes "Sequences") ≡ k.sequences
   pub tlc : is_among extended (codes "TLC") ≡ k.tlc
   pub names : SameNames k.names taken
+  pub tried : AreTried k.names k.tried
 
 -- words, each with its written name
 abbrev pub Pairs : Type 0

@@ -6,13 +6,8 @@ use Rattle.pcal_tree.specs.Algorithm.{Procedure, Process, Main, alone, processes
 use Rattle.pcal_tree.specs.OffencesLabels.{label_words}
 use Rattle.pcal_tree.specs.Variables.{declared}
 use Rattle.pcal_tree.specs.Names.{first_free}
+use Rattle.written_names.specs.declared.naming.UnitNames.{UnitNames}
 use Rattle.written_names.specs.Giving.{taken_after, first_named, Pairs, found}
-
--- of one routine: its own, and those of its variables and labels
-pub record UnitNames : Type 0 where
-  pub title : Word
-  pub variables : Pairs
-  pub labels : Pairs
 
 pub unit_code : Coded UnitNames
 unit_code = hlevel codes
@@ -66,10 +61,14 @@ abbrev pub after_units : List Word → List Word → List Asked → List Word
 after_units extended taken [] = taken
 after_units extended taken (q ∷ qs) = after_units extended (after_unit extended taken q) qs
 
+-- its variables and labels have theirs
+pub record IsWithin (extended taken vs ls : List Word) (u : UnitNames) : Type 0 where
+  pub variables : (x : Word) → found u.variables x ≡ first_named extended taken vs x
+  pub labels : (x : Word) → found u.labels x ≡ first_named extended (taken_after extended taken vs) ls x
+
 pub record IsUnit (extended taken : List Word) (q : Asked) (u : UnitNames) : Type 0 where
   pub title : u.title ≡ title_given extended taken q.titles
-  pub variables : (x : Word) → found u.variables x ≡ first_named extended (taken_after extended taken q.titles) q.variables x
-  pub labels : (x : Word) → found u.labels x ≡ first_named extended (taken_after extended (taken_after extended taken q.titles) q.variables) q.labels x
+  pub within : IsWithin extended (taken_after extended taken q.titles) q.variables q.labels u
 
 abbrev pub AreUnits : List Word → List Word → List Asked → List UnitNames → Type 0
 AreUnits extended taken [] [] = Unit {0}
