@@ -53,3 +53,11 @@ gives_then j k l ps qs rs ws vs g h =
 
 pub gives_as : (j k : Known) (ps qs : Pairs) (ws vs : List Word) → ws ≡ vs → Gives j k ps qs ws → Gives j k ps qs vs
 gives_as j k ps qs ws vs e g = subst (λ l. Gives j k ps qs l) e g
+
+pub gives_one : (old new : Known) (ps qs : Pairs) (x w : Word) → ((extended taken : List Word) → Knows old extended taken → w ≡ first_free extended taken x)
+    → ((extended taken : List Word) → Knows old extended taken → Knows new extended (first_free extended taken x ∷ taken))
+    → ((y : Word) → found qs y ≡ first_of (found ps y) (cond (bytes_eq x y) (Some w) None)) → Gives old new ps qs (x ∷ [])
+gives_one old new ps qs x w name known kept = record {
+  names = known;
+  pairs = λ extended taken k y. kept y ∙ ap (λ v. first_of (found ps y) (cond (bytes_eq x y) (Some v) None)) (name extended taken k);
+}

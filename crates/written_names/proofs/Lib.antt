@@ -3,3 +3,5 @@ pub mod FirstFree
 pub mod Given
 pub mod LookedUp
 pub mod Steps
+pub mod UnitWalks
+pub mod UnitLists

@@ -1,13 +1,16 @@
 -- The written names of routines, one routine after another, and the naming that looks them up.
 use Rattle.std.specs.Prelude.{◌≡◌, ℕ, suc, List, [], ◌∷◌, ◌++◌, Bool, cond, map, get_or, nat_eq, unwrap_or}
 use Rattle.std.specs.Coded.{Coded, codes}
-use Rattle.tla_tree.specs.Tree.{Word}
-use Rattle.pcal_tree.specs.Algorithm.{Procedure, Process, Main, alone, processes, Statements, Algorithm, Naming}
+use Rattle.tla_tree.specs.Tree.{Word, Tree, words}
+use Rattle.pcal_tree.specs.declared.algorithm.Stmt.{Stmt}
+use Rattle.pcal_tree.specs.InMemory.{stmt_at}
+use Rattle.algorithm_limits.specs.LabelNames.{label_names}
+use Rattle.pcal_tree.specs.Algorithm.{Name, Procedure, Process, Main, alone, processes, Statements, Algorithm, Naming}
 use Rattle.pcal_tree.specs.OffencesLabels.{label_words}
 use Rattle.pcal_tree.specs.Variables.{declared}
 use Rattle.pcal_tree.specs.Names.{first_free}
 use Rattle.written_names.specs.declared.naming.UnitNames.{UnitNames}
-use Rattle.written_names.specs.Giving.{taken_after, first_named, Pairs, found}
+use Rattle.written_names.specs.Giving.{taken_after, first_named, Known, Knows, Pairs, found, Gives}
 
 pub unit_code : Coded UnitNames
 unit_code = hlevel codes
@@ -74,3 +77,32 @@ abbrev pub AreUnits : List Word → List Word → List Asked → List UnitNames 
 AreUnits extended taken [] [] = Unit {0}
 AreUnits extended taken (q ∷ qs) (u ∷ us) = IsUnit extended taken q u × AreUnits extended (after_unit extended taken q) qs us
 AreUnits extended taken _ _ = ⊥
+
+-- ---- what code leaves
+
+-- these words of a routine got their names
+pub record NamesWithin (old new : Known) (vs ls : List Word) (u : UnitNames) : Type 0 where
+  pub names : (extended taken : List Word) → Knows old extended taken → IsWithin extended taken vs ls u
+  pub known : (extended taken : List Word) → Knows old extended taken → Knows new extended (taken_after extended (taken_after extended taken vs) ls)
+
+-- a routine got its names
+pub record NamesUnit (old new : Known) (q : Asked) (u : UnitNames) : Type 0 where
+  pub names : (extended taken : List Word) → Knows old extended taken → IsUnit extended taken q u
+  pub known : (extended taken : List Word) → Knows old extended taken → Knows new extended (after_unit extended taken q)
+
+-- routines got theirs
+pub record NamesUnits (old new : Known) (qs : List Asked) (us : List UnitNames) : Type 0 where
+  pub names : (extended taken : List Word) → Knows old extended taken → AreUnits extended taken qs us
+  pub known : (extended taken : List Word) → Knows old extended taken → Knows new extended (after_units extended taken qs)
+
+-- the labels of a statement got theirs, which come before those of the rest of its list
+pub record NamesStmt (ts : List Tree) (s : Stmt) (old new : Known) (before after : Pairs) : Type 0 where
+  pub these : List Name
+  pub ahead : (rest : Statements) → label_names (stmt_at ts s rest) ≡ these ++ label_names rest
+  pub gives : Gives old new before after (words these)
+
+-- routines got their names, which are behind those of others
+pub record AddsUnits (old new : Known) (before after : List UnitNames) (qs : List Asked) : Type 0 where
+  pub more : List UnitNames
+  pub behind : after ≡ before ++ more
+  pub gives : NamesUnits old new qs more

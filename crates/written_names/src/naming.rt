@@ -3,6 +3,7 @@
 ghost use Rattle.std.specs.Prelude.{◌≡◌, [], cond, bytes_eq, Some, None, Option, unwrap_or, OnOk};
 ghost use Rattle.tla_tree.specs.Tree.{Word};
 ghost use Rattle.written_names.specs.Giving.{found, first_of};
+ghost use Rattle.written_names.specs.Units.{naming_of};
 
 use indexmap::IndexMap;
 use std::alloc::{AllocError, Global};
@@ -71,4 +72,62 @@ pub struct UnitNames {
     pub variables: Renamed,
     /// Those of its labels.
     pub labels: Renamed,
+}
+
+/// The written names of an algorithm. Contracts see the list of those of its units, in the order of their numbers.
+#[derive(Drop)]
+pub struct Naming {
+    units: Vec<UnitNames>,
+}
+
+impl Model for Naming {
+    ghost use Rattle.std.specs.Prelude.{List};
+    ghost use Rattle.std.specs.Coded.{coded_list};
+    ghost use Rattle.written_names.specs.declared.naming.UnitNames.{UnitNames as Names};
+    ghost use Rattle.written_names.specs.Units.{unit_code};
+
+    ghost Value = { List Names };
+
+    ghost coded = { coded_list unit_code };
+
+    ghost view = { λ n. n.units.items };
+}
+
+impl Naming {
+    /// Of these units.
+    pub fn new(units: Vec<UnitNames>) -> Naming
+        ensures { result ≡ units.items }
+    {
+        Naming { units }
+    }
+
+    /// The written name of a variable or parameter of a unit; the name itself where it has no such variable.
+    pub fn local<'n>(&'n self, unit: usize, name: &'n Name) -> &'n Name
+        ensures { result.now ≡ (naming_of self.now).local unit name.now }
+    {
+        match self.units.get(unit) {
+            Some(names) => names.variables.get(name),
+            None => name,
+        }
+    }
+
+    /// The written name of a label of a unit; the name itself where it has no such label.
+    pub fn label<'n>(&'n self, unit: usize, name: &'n Name) -> &'n Name
+        ensures { result.now ≡ (naming_of self.now).label unit name.now }
+    {
+        match self.units.get(unit) {
+            Some(names) => names.labels.get(name),
+            None => name,
+        }
+    }
+
+    /// The written name of a unit; empty where it has none.
+    pub fn title(&self, unit: usize) -> &[u8]
+        ensures { result.now ≡ (naming_of self.now).title unit }
+    {
+        match self.units.get(unit) {
+            Some(names) => names.title.bytes(),
+            None => b"",
+        }
+    }
 }
