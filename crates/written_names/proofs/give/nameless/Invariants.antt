@@ -4,4 +4,4 @@ use Rattle.written_names.specs.Units.{no_names}
 use Rattle.written_names.proofs.give.nameless.Given as goal
 
 abbrev pub invariant-loop-i : goal.invariant-loop-i
-invariant-loop-i l = l.units.items ≡ replicate l.i no_names
+invariant-loop-i l = l.units.items ≡ replicate l._i no_names
