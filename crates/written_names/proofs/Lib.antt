@@ -5,3 +5,4 @@ pub mod LookedUp
 pub mod Steps
 pub mod UnitWalks
 pub mod UnitLists
+pub mod KeptWalks

@@ -1,0 +1,140 @@
+//! The names that are kept: those of globals, definitions and parameters of these and of macros, and all that are bound.
+
+ghost use Rattle.std.specs.Prelude.{◌≡◌, ◌<◌, ◌≤◌, ◌∷◌, ◌++◌, ℕ, List, [], length, map, false, IfOk, OnOk};
+ghost use Rattle.std.specs.List.{flat_map};
+ghost use Rattle.tla_tree.specs.Tree.{Tree, words};
+ghost use Rattle.tla_tree.specs.Nesting.{greatest};
+ghost use Rattle.pcal_tree.specs.InMemory.{branches_at, past_numbers, past_assignment, past_bind, past_simple, past_stmt, past_statements, past_branches, past_start, past_declaration, past_definition, past_macro, past_procedure, past_process, past_main, past_algorithm};
+ghost use Rattle.pcal_tree.specs.BoundNames.{lists_in_branches};
+ghost use Rattle.written_names.specs.Kept.{bound_words, Adds, AddsStmt, expr_words, assignment_words, bind_words, simple_words, body_words, start_words, declaration_words, global_words, definition_words, macro_words, procedure_words, process_words, main_words, algorithm_words};
+
+use algorithm_limits::bound::Bound;
+use pcal_tree::algorithm::{
+    Algorithm, Assignment, Bind, Declaration, Definition, Macro, Main, Procedure, Process, Simple,
+    Start, Stmt,
+};
+use std::alloc::{AllocError, Global};
+use tla_tree::{Name, NodeId, PlacedName};
+
+/// Names that were met, and marks of the expressions that were: the names that these bind are still to be added. So each
+/// expression is looked at once.
+#[derive(Drop)]
+pub struct Kept {
+    names: Bound,
+    marks: Vec<bool>,
+}
+
+impl Kept {
+    // A name.
+    fn name(&mut self, name: &Name) -> Result<(), AllocError>
+        ensures adds { OnOk result ((ts : List Tree) → Adds ts self.old self.new (name.now ∷ [])) }
+        ensures many { OnOk result (length self.new.marks.items ≡ length self.old.marks.items) }
+    {
+        self.names.add(name)?;
+        Ok(())
+    }
+
+    // Names.
+    fn names(&mut self, names: &[PlacedName]) -> Result<(), AllocError>
+        ensures adds { OnOk result ((ts : List Tree) → Adds ts self.old self.new (words names.now)) }
+        ensures many { OnOk result (length self.new.marks.items ≡ length self.old.marks.items) }
+    {
+        self.names.add_all(names)?;
+        Ok(())
+    }
+
+    // An expression.
+    fn expr(&mut self, e: NodeId)
+        requires { e < length self.old.marks.items }
+        ensures adds { (ts : List Tree) → Adds ts self.old self.new (expr_words ts e) }
+        ensures many { length self.new.marks.items ≡ length self.old.marks.items }
+    {
+        self.marks[e] = true;
+    }
+
+    // Expressions.
+    fn exprs(&mut self, es: &[NodeId])
+        requires { past_numbers es.now ≤ length self.old.marks.items }
+        ensures adds { (ts : List Tree) → Adds ts self.old self.new (flat_map (expr_words ts) es.now) }
+        ensures many { length self.new.marks.items ≡ length self.old.marks.items }
+    {
+        for e in es {
+            self.expr(*e);
+        }
+    }
+
+    // Left and right sides.
+    fn assignments(&mut self, list: &[Assignment])
+        requires { greatest (map past_assignment list.now) ≤ length self.old.marks.items }
+        ensures adds { (ts : List Tree) → Adds ts self.old self.new (flat_map (assignment_words ts) list.now) }
+        ensures many { length self.new.marks.items ≡ length self.old.marks.items }
+    {
+        for assignment in list {
+            self.expr(assignment.left);
+            self.expr(assignment.right);
+        }
+    }
+
+    // What a `with` names.
+    fn bind(&mut self, bind: &Bind) -> Result<(), AllocError>
+        requires { past_bind bind.now ≤ length self.old.marks.items }
+        ensures adds { OnOk result ((ts : List Tree) → Adds ts self.old self.new (bind_words ts bind.now)) }
+        ensures many { OnOk result (length self.new.marks.items ≡ length self.old.marks.items) }
+    {
+        match bind {
+            Bind::Among(name, e) => {
+                self.name(&name.name)?;
+                self.expr(*e);
+            }
+            Bind::Is(name, e) => {
+                self.name(&name.name)?;
+                self.expr(*e);
+            }
+        }
+        Ok(())
+    }
+
+    // All that a `with` names.
+    fn binds(&mut self, list: &[Bind]) -> Result<(), AllocError>
+        requires { greatest (map past_bind list.now) ≤ length self.old.marks.items }
+        ensures adds { OnOk result ((ts : List Tree) → Adds ts self.old self.new (flat_map (bind_words ts) list.now)) }
+        ensures many { OnOk result (length self.new.marks.items ≡ length self.old.marks.items) }
+    {
+        for bind in list {
+            self.bind(bind)?;
+        }
+        Ok(())
+    }
+
+    // A statement with none in it.
+    fn simple(&mut self, simple: &Simple)
+        requires { past_simple simple.now ≤ length self.old.marks.items }
+        ensures adds { (ts : List Tree) → Adds ts self.old self.new (simple_words ts simple.now) }
+        ensures many { length self.new.marks.items ≡ length self.old.marks.items }
+    {
+        match simple {
+            Simple::Assign(list) => self.assignments(list),
+            Simple::Await(e) => self.expr(*e),
+            Simple::Print(e) => self.expr(*e),
+            Simple::Assert(e) => self.expr(*e),
+            Simple::Skip => {}
+            Simple::Goto(_) => {}
+            Simple::Macro(_, es) => self.exprs(es),
+            Simple::Call(_, es) => self.exprs(es),
+            Simple::Return => {}
+        }
+    }
+
+    // A first value.
+    fn start(&mut self, start: &Start)
+        requires { past_start start.now ≤ length self.old.marks.items }
+        ensures adds { (ts : List Tree) → Adds ts self.old self.new (start_words ts start.now) }
+        ensures many { length self.new.marks.items ≡ length self.old.marks.items }
+    {
+        match start {
+            Start::Unset => {}
+            Start::Equals(e) => self.expr(*e),
+            Start::Among(e) => self.expr(*e),
+        }
+    }
+}
