@@ -15,7 +15,7 @@ use Rattle.written_names.specs.declared.kept.Kept.{Kept}
 use Rattle.written_names.specs.Kept.{bound_words, binds, bound_by, holds, Adds, expr_words}
 use Rattle.written_names.proofs.Steps.{has_is}
 
-among_both : (xs ys : List Word) (w : Word) → is_among (xs ++ ys) w ≡ (is_among xs w || is_among ys w)
+pub among_both : (xs ys : List Word) (w : Word) → is_among (xs ++ ys) w ≡ (is_among xs w || is_among ys w)
 among_both xs ys w = list_any-append (λ v. bytes_eq v w) xs ys
 
 or_nothing : (a : Bool) → a ≡ (a || false)

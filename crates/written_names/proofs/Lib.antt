@@ -6,3 +6,4 @@ pub mod Steps
 pub mod UnitWalks
 pub mod UnitLists
 pub mod KeptWalks
+pub mod KeptBodies

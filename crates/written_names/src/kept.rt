@@ -137,4 +137,137 @@ impl Kept {
             Start::Among(e) => self.expr(*e),
         }
     }
+
+    // A statement.
+    #[cycle(bodies)]
+    fn stmt(&mut self, stmt: &Stmt) -> Result<(), AllocError>
+        requires { past_stmt stmt.now ≤ length self.old.marks.items }
+        ensures adds { OnOk result ((ts : List Tree) → AddsStmt ts stmt.now self.old self.new) }
+        ensures many { OnOk result (length self.new.marks.items ≡ length self.old.marks.items) }
+    {
+        match stmt {
+            Stmt::Label(_, _) => {}
+            Stmt::Simple(_, simple) => self.simple(simple),
+            Stmt::If(_, e, then, otherwise) => {
+                self.expr(*e);
+                self.body(then)?;
+                self.body(otherwise)?;
+            }
+            Stmt::Either(_, list) => self.branches(list)?,
+            Stmt::With(_, binds, body) => {
+                self.binds(binds)?;
+                self.body(body)?;
+            }
+            Stmt::While(_, e, body) => {
+                self.expr(*e);
+                self.body(body)?;
+            }
+        }
+        Ok(())
+    }
+
+    // Branches.
+    #[cycle(bodies)]
+    fn branches(&mut self, list: &[Vec<Stmt>]) -> Result<(), AllocError>
+        requires { past_branches list.now ≤ length self.old.marks.items }
+        ensures adds { OnOk result ((ts : List Tree) → Adds ts self.old self.new (bound_words (lists_in_branches (branches_at ts list.now)))) }
+        ensures many { OnOk result (length self.new.marks.items ≡ length self.old.marks.items) }
+    {
+        for i in 0..list.len() {
+            self.body(&list[i])?;
+        }
+        Ok(())
+    }
+
+    // A list of statements. It calls itself as deep as statements are in statements.
+    #[cycle(bodies)]
+    fn body(&mut self, stmts: &[Stmt]) -> Result<(), AllocError>
+        requires { past_statements stmts.now ≤ length self.old.marks.items }
+        ensures adds { OnOk result ((ts : List Tree) → Adds ts self.old self.new (body_words ts stmts.now)) }
+        ensures many { OnOk result (length self.new.marks.items ≡ length self.old.marks.items) }
+    {
+        for stmt in stmts {
+            self.stmt(stmt)?;
+        }
+        Ok(())
+    }
+
+    // First values of variables and parameters.
+    fn starts(&mut self, list: &[Declaration])
+        requires { greatest (map past_declaration list.now) ≤ length self.old.marks.items }
+        ensures adds { (ts : List Tree) → Adds ts self.old self.new (flat_map (declaration_words ts) list.now) }
+        ensures many { length self.new.marks.items ≡ length self.old.marks.items }
+    {
+        for declaration in list {
+            self.start(&declaration.start);
+        }
+    }
+
+    // Globals.
+    fn globals(&mut self, list: &[Declaration]) -> Result<(), AllocError>
+        requires { greatest (map past_declaration list.now) ≤ length self.old.marks.items }
+        ensures adds { OnOk result ((ts : List Tree) → Adds ts self.old self.new (flat_map (global_words ts) list.now)) }
+        ensures many { OnOk result (length self.new.marks.items ≡ length self.old.marks.items) }
+    {
+        for declaration in list {
+            self.name(&declaration.name.name)?;
+            self.start(&declaration.start);
+        }
+        Ok(())
+    }
+
+    // Definitions.
+    fn definitions(&mut self, list: &[Definition]) -> Result<(), AllocError>
+        requires { greatest (map past_definition list.now) ≤ length self.old.marks.items }
+        ensures adds { OnOk result ((ts : List Tree) → Adds ts self.old self.new (flat_map (definition_words ts) list.now)) }
+        ensures many { OnOk result (length self.new.marks.items ≡ length self.old.marks.items) }
+    {
+        for definition in list {
+            self.name(&definition.name.name)?;
+            self.names(&definition.params)?;
+            self.expr(definition.body);
+        }
+        Ok(())
+    }
+
+    // Macros.
+    fn macros(&mut self, list: &[Macro]) -> Result<(), AllocError>
+        requires { greatest (map past_macro list.now) ≤ length self.old.marks.items }
+        ensures adds { OnOk result ((ts : List Tree) → Adds ts self.old self.new (flat_map (macro_words ts) list.now)) }
+        ensures many { OnOk result (length self.new.marks.items ≡ length self.old.marks.items) }
+    {
+        for one in list {
+            self.names(&one.params)?;
+            self.body(&one.body)?;
+        }
+        Ok(())
+    }
+
+    // Procedures.
+    fn procedures(&mut self, list: &[Procedure]) -> Result<(), AllocError>
+        requires { greatest (map past_procedure list.now) ≤ length self.old.marks.items }
+        ensures adds { OnOk result ((ts : List Tree) → Adds ts self.old self.new (flat_map (procedure_words ts) list.now)) }
+        ensures many { OnOk result (length self.new.marks.items ≡ length self.old.marks.items) }
+    {
+        for procedure in list {
+            self.starts(&procedure.params);
+            self.starts(&procedure.variables);
+            self.body(&procedure.body)?;
+        }
+        Ok(())
+    }
+
+    // Processes.
+    fn processes(&mut self, list: &[Process]) -> Result<(), AllocError>
+        requires { greatest (map past_process list.now) ≤ length self.old.marks.items }
+        ensures adds { OnOk result ((ts : List Tree) → Adds ts self.old self.new (flat_map (process_words ts) list.now)) }
+        ensures many { OnOk result (length self.new.marks.items ≡ length self.old.marks.items) }
+    {
+        for process in list {
+            self.expr(process.identity);
+            self.starts(&process.variables);
+            self.body(&process.body)?;
+        }
+        Ok(())
+    }
 }
