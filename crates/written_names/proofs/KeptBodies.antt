@@ -32,7 +32,7 @@ adds_same ts j k xs ys e g = record { names = λ w. g.names w ∙ ap (λ b. hold
 
 -- ---- what stands in one
 
-trees_words : (ts : List Tree) (es : List ℕ) → flat_map (expr_words ts) es ≡ bound_words (lists_in_all (trees_at ts es))
+pub trees_words : (ts : List Tree) (es : List ℕ) → flat_map (expr_words ts) es ≡ bound_words (lists_in_all (trees_at ts es))
 trees_words ts [] = refl
 trees_words ts (e ∷ es) = ap (λ l. expr_words ts e ++ l) (trees_words ts es) ∙ bound_both (lists_in (at ts e)) (lists_in_all (trees_at ts es))
 
@@ -56,7 +56,7 @@ simple_is ts (simple.Call x es) = trees_words ts es.items
 simple_is ts simple.Return = refl
 
 -- a name and its expression, before those that follow
-one_bound : (w x : Word) (ls ms : Lists) (ns rest : List Word) → is_among rest w ≡ (is_among ns w || is_among (bound_words ms) w)
+pub one_bound : (w x : Word) (ls ms : Lists) (ns rest : List Word) → is_among rest w ≡ (is_among ns w || is_among (bound_words ms) w)
     → is_among ((x ∷ bound_words ls) ++ rest) w ≡ (is_among (x ∷ ns) w || is_among (bound_words (ls ++ ms)) w)
 one_bound w x ls ms ns rest h =
     among_both (x ∷ bound_words ls) rest w

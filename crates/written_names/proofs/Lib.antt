@@ -7,3 +7,5 @@ pub mod UnitWalks
 pub mod UnitLists
 pub mod KeptWalks
 pub mod KeptBodies
+pub mod KeptSwept
+pub mod KeptWords

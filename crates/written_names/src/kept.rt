@@ -1,12 +1,16 @@
 //! The names that are kept: those of globals, definitions and parameters of these and of macros, and all that are bound.
 
-ghost use Rattle.std.specs.Prelude.{◌≡◌, ◌<◌, ◌≤◌, ◌∷◌, ◌++◌, ℕ, List, [], length, map, false, IfOk, OnOk};
+ghost use Rattle.std.specs.Prelude.{◌≡◌, ◌<◌, ◌≤◌, ◌∷◌, ◌++◌, ℕ, List, [], length, map, replicate, false, IfOk, OnOk};
 ghost use Rattle.std.specs.List.{flat_map};
-ghost use Rattle.tla_tree.specs.Tree.{Tree, words};
+ghost use Rattle.tla_token.specs.Signs.{is_among};
+ghost use Rattle.tla_tree.specs.Tree.{Tree, Word, words};
 ghost use Rattle.tla_tree.specs.Nesting.{greatest};
-ghost use Rattle.pcal_tree.specs.InMemory.{branches_at, past_numbers, past_assignment, past_bind, past_simple, past_stmt, past_statements, past_branches, past_start, past_declaration, past_definition, past_macro, past_procedure, past_process, past_main, past_algorithm};
-ghost use Rattle.pcal_tree.specs.BoundNames.{lists_in_branches};
-ghost use Rattle.written_names.specs.Kept.{bound_words, Adds, AddsStmt, expr_words, assignment_words, bind_words, simple_words, body_words, start_words, declaration_words, global_words, definition_words, macro_words, procedure_words, process_words, main_words, algorithm_words};
+ghost use Rattle.pcal_tree.specs.InMemory.{branches_at, past_numbers, past_assignment, past_bind, past_simple, past_stmt, past_statements, past_branches, past_start, past_declaration, past_definition, past_macro, past_procedure, past_process, past_main, past_algorithm, algorithm_at};
+ghost use Rattle.pcal_tree.specs.Names.{kept};
+ghost use Rattle.tla_pool.specs.FormOf.{form_of};
+ghost use Rattle.written_names.specs.Giving.{SameNames};
+ghost use Rattle.pcal_tree.specs.BoundNames.{lists_of, lists_in_branches};
+ghost use Rattle.written_names.specs.Kept.{bound_words, holds, Adds, AddsStmt, expr_words, assignment_words, bind_words, simple_words, body_words, start_words, declaration_words, global_words, definition_words, macro_words, procedure_words, process_words, main_words, algorithm_words};
 
 use algorithm_limits::bound::Bound;
 use pcal_tree::algorithm::{
@@ -14,6 +18,8 @@ use pcal_tree::algorithm::{
     Start, Stmt,
 };
 use std::alloc::{AllocError, Global};
+use tla_pool::Pool;
+use tla_pool::form::Form;
 use tla_tree::{Name, NodeId, PlacedName};
 
 /// Names that were met, and marks of the expressions that were: the names that these bind are still to be added. So each
@@ -270,4 +276,114 @@ impl Kept {
         }
         Ok(())
     }
+
+    // What runs.
+    fn main(&mut self, main: &Main) -> Result<(), AllocError>
+        requires { past_main main.now ≤ length self.old.marks.items }
+        ensures adds { OnOk result ((ts : List Tree) → Adds ts self.old self.new (main_words ts main.now)) }
+        ensures many { OnOk result (length self.new.marks.items ≡ length self.old.marks.items) }
+    {
+        match main {
+            Main::Alone(body) => self.body(body)?,
+            Main::Processes(processes) => self.processes(processes)?,
+        }
+        Ok(())
+    }
+
+    // A whole algorithm.
+    fn algorithm(&mut self, algorithm: &Algorithm) -> Result<(), AllocError>
+        requires { past_algorithm algorithm.now ≤ length self.old.marks.items }
+        ensures adds { OnOk result ((ts : List Tree) → Adds ts self.old self.new (algorithm_words ts algorithm.now)) }
+        ensures many { OnOk result (length self.new.marks.items ≡ length self.old.marks.items) }
+    {
+        self.globals(&algorithm.globals)?;
+        self.definitions(&algorithm.definitions)?;
+        self.macros(&algorithm.macros)?;
+        self.procedures(&algorithm.procedures)?;
+        self.main(&algorithm.main)?;
+        Ok(())
+    }
+
+    // Names that are listed.
+    fn listed(&mut self, names: &[Name]) -> Result<(), AllocError>
+        ensures adds { OnOk result ((ts : List Tree) → Adds ts self.old self.new names.now) }
+        ensures many { OnOk result (length self.new.marks.items ≡ length self.old.marks.items) }
+    {
+        for name in names {
+            self.name(name)?;
+        }
+        Ok(())
+    }
+
+    // The names that a form binds.
+    fn form(&mut self, form: &Form) -> Result<(), AllocError>
+        ensures adds { OnOk result ((ts : List Tree) → Adds ts self.old self.new (bound_words (lists_of (form_of form.now)))) }
+        ensures many { OnOk result (length self.new.marks.items ≡ length self.old.marks.items) }
+    {
+        match form {
+            Form::Binding(_, groups) => self.names.add_groups(groups)?,
+            Form::Local(names) => self.names.add_all(names)?,
+            _ => {}
+        }
+        Ok(())
+    }
+
+    // The names of an expression: those of its form, and its parts are marked, which have smaller numbers.
+    fn open(&mut self, pool: &Pool, e: NodeId) -> Result<(), AllocError>
+        requires there { e < length pool.now }
+        requires next { length self.old.marks.items ≡ e }
+        ensures adds { OnOk result (Adds pool.now self.old self.new (expr_words pool.now e)) }
+        ensures many { OnOk result (length self.new.marks.items ≡ length self.old.marks.items) }
+    {
+        let node = pool.node(e);
+        self.form(&node.form)?;
+        self.exprs(&node.parts);
+        Ok(())
+    }
+
+    // The names of all that is marked, from the greatest number down.
+    fn sweep(&mut self, pool: &Pool) -> Result<(), AllocError>
+        requires { length self.old.marks.items ≤ length pool.now }
+        ensures { OnOk result ((w : Word) → is_among self.new.names w ≡ holds pool.now self.old w) }
+    {
+        while let Some(marked) = self.marks.pop() {
+            if marked {
+                let e = self.marks.len();
+                self.open(pool, e)?;
+            }
+        }
+        Ok(())
+    }
+}
+
+// No name was met, and of so many expressions none is marked.
+fn none_met(alloc: Global, count: usize) -> Result<Kept, AllocError>
+    ensures { IfOk result (λ k. (k.names ≡ []) × (k.marks.items ≡ replicate count false)) }
+{
+    Ok(Kept {
+        names: Bound::new(alloc),
+        marks: vec![in alloc; false; count]?,
+    })
+}
+
+/// The names that are taken from the start: these outside, and those that an algorithm keeps.
+///
+/// # Errors
+///
+/// Only for want of memory.
+pub fn taken_names(
+    alloc: Global,
+    pool: &Pool,
+    algorithm: &Algorithm,
+    outside: &[Name],
+) -> Result<Bound, AllocError>
+    requires { past_algorithm algorithm.now ≤ length pool.now }
+    ensures { IfOk result (λ names. SameNames names (outside.now ++ kept (algorithm_at pool.now algorithm.now))) }
+{
+    let mut met = none_met(alloc, pool.len())?;
+    met.listed(outside)?;
+    met.algorithm(algorithm)?;
+    met.sweep(pool)?;
+    let Kept { names, .. } = met;
+    Ok(names)
 }
