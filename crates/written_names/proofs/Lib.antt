@@ -1,0 +1,11 @@
+-- That names are given as it is defined.
+pub mod FirstFree
+pub mod Given
+pub mod LookedUp
+pub mod Steps
+pub mod UnitWalks
+pub mod UnitLists
+pub mod KeptWalks
+pub mod KeptBodies
+pub mod KeptSwept
+pub mod KeptWords

@@ -1,0 +1,9 @@
+//! Written names: those of variables, routines and labels, told apart from all that are taken.
+#![tactic(auto)]
+
+pub mod give;
+pub mod giver;
+pub mod kept;
+pub mod naming;
+pub mod units;
+pub mod words;
