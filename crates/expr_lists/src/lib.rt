@@ -1,7 +1,6 @@
 //! Reading what forms have in lists: names with their sets, fields, paths, arms, definitions, items by columns, and what stands in brackets.
 #![tactic(auto)]
 
-pub mod on_next;
 pub mod read_arms;
 pub mod read_behind;
 pub mod read_bind;

@@ -47,14 +47,14 @@ pub fn function_in<F: Fn(&mut Pool, Context, Spot) -> Result<(Read, usize), Halt
     ensures kept { Keeps pool.old pool.new }
     ensures stands { IfOk result (λ x. Stands tokens.now pool.new s.at (suc s.left) x) }
 {
+    let (_, at) = past_mark(tokens, s, Mark::Maps)?;
+    let (a, at) = inner(pool, Context::Free, Spot { at, ..s })?;
+    let (_, at) = past_mark(tokens, Spot { at, ..s }, Mark::CloseSquare)?;
     let Bound {
         groups,
         sets,
         nesting,
     } = bound;
-    let (_, at) = past_mark(tokens, s, Mark::Maps)?;
-    let (a, at) = inner(pool, Context::Free, Spot { at, ..s })?;
-    let (_, at) = past_mark(tokens, Spot { at, ..s }, Mark::CloseSquare)?;
     let whole = function(pool, place, groups, sets, nesting, a)?;
     Ok((whole, at))
 }

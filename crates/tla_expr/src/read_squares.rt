@@ -14,7 +14,7 @@ ghost use Rattle.expr_rows.specs.MayRead.{MayRead};
 ghost use Rattle.expr_operands.specs.ShortForms.{PartedIn};
 ghost use Rattle.tla_expr.specs.ReadForms.{square_rule, mapped, squared, squared_other};
 
-use expr_lists::on_next::after_key;
+use expr_rows::on_next::after_key;
 use expr_lists::read_except::except_in;
 use expr_lists::read_function::{function_from, function_on};
 use expr_lists::read_record::record_rest;

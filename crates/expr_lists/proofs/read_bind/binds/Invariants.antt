@@ -8,16 +8,16 @@ use Rattle.expr_nodes.specs.Ahead.{ahead}
 use Rattle.expr_lists.proofs.ReadBinds.{BindsSoFar}
 use Rattle.expr_lists.proofs.read_bind.binds.Given as goal
 
-abbrev pub invariant-loop-sets : goal.invariant-loop-sets
-invariant-loop-sets g l =
+abbrev pub invariant-loop-all : goal.invariant-loop-all
+invariant-loop-all g l =
     record {
-      groups : BindsSoFar l.tokens l.pool l.s.left l.s.edge l.at (groups_of l.groups.items) l.sets.items l.nesting l.word.place (span_bytes l.tokens.bytes.items l.word.span)
+      groups : BindsSoFar l.tokens l.pool l.s.left l.s.edge l.at (groups_of l.all.groups.items) l.all.sets.items l.all.nesting l.word.place (span_bytes l.tokens.bytes.items l.word.span)
           ((whole (Some l.s.left)).binds l.s.edge l.fn.first.place (span_bytes l.tokens.bytes.items l.fn.first.span) (ahead l.tokens l.s.at));
       kept : Keeps l.fn.pool l.pool;
-      small : l.nesting ≤ l.s.left;
+      small : l.all.nesting ≤ l.s.left;
       inside : l.at ≤ length l.tokens.items.items;
       further : l.s.at ≤ l.at;
     }
 
-abbrev pub decreases-loop-sets : goal.decreases-loop-sets
-decreases-loop-sets g l = length l.tokens.items.items - l.at
+abbrev pub decreases-loop-all : goal.decreases-loop-all
+decreases-loop-all g l = length l.tokens.items.items - l.at

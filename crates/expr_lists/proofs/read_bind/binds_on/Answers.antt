@@ -1,9 +1,9 @@
 -- Proves what is asked of `binds_on`.
-use Rattle.std.proofs.Common.{◌≤◌, suc, length, arith, ap}
+use Rattle.std.proofs.Common.{◌≤◌, suc, length, [], ◌∷◌, arith, ap}
 use Rattle.std.proofs.lemmas.Result.{err_from_is_err_and}
 use Rattle.tla_token.specs.TokensSeen.{span_bytes}
 use Rattle.tla_pool.specs.FormOf.{groups_of}
-use Rattle.tla_tree.specs.Spelling.{last_bind}
+use Rattle.tla_tree.specs.Spelling.{last_bind, named}
 use Rattle.expr_nodes.specs.Ahead.{ahead}
 use Rattle.expr_nodes.specs.ReadIn.{word_seen}
 use Rattle.expr_lists.proofs.ReadBinds.{one_bound, rest_none, rest_lost, rest_later, rest_all}
@@ -14,10 +14,11 @@ pub returns-in_default-clause-read : goal.returns-in_default-clause-read
 returns-in_default-clause-read g c = λ i q h.
     let s = c.args.s in
     let x = span_bytes c.args.tokens.now.bytes.items c.args.word.span in
+    let one = c.in_ok-all.ensures in
     record {
       what = last_bind c.args.word.place x q i;
       is = rest_none s.left s.edge c.args.word.place x q i (ahead c.args.tokens.now s.at) c.in_default.ensures.none;
-      told = rw (c.in_ok-push-2.ensures.items, c.new-groups.ensures.items, c.in_ok-push.ensures.items, c.new-names.ensures.items, c.in_ok-placed.ensures, c.in_ok-push-3.ensures.items, c.new-sets.ensures.items) (one_bound c.args.word.place x q h);
+      told = rw (one.groups, one.sets, one.nesting) (one_bound c.args.word.place x q h);
     }
 
 pub returns-in_err-other-clause-read : goal.returns-in_err-other-clause-read
@@ -37,14 +38,14 @@ pub returns-clause-read : goal.returns-clause-read
 returns-clause-read g c = λ i q h.
     let v = c.args.tokens.now in
     let s = c.args.s in
-    let all = rest_all s.left s.edge c.args.word.place (span_bytes v.bytes.items c.args.word.span) q i (ahead v s.at) c.in-Some.ensures.there _ c.in-Some.ensures.rest (word_seen v.bytes.items c.in_ok-other.other) _ c.in_ok-other.ensures.value h c.in_ok-rest.ensures.kept c.in_ok-rest.ensures.read in
-    rw (c.in_ok-append.ensures.items, c.in_ok-push-2.ensures.items, c.new-groups.ensures.items, c.in_ok-push.ensures.items, c.new-names.ensures.items, c.in_ok-placed.ensures, c.in_ok-extend_from_slice.ensures.items, c.deref.ensures.value, c.in_ok-push-3.ensures.items, c.new-sets.ensures.items, c.larger.ensures) all
+    let all = c.in_ok-all-2.ensures in
+    rw (all.groups, all.sets, all.nesting) (rest_all s.left s.edge c.args.word.place (span_bytes v.bytes.items c.args.word.span) q i (ahead v s.at) c.in-Some.ensures.there _ c.in-Some.ensures.rest (word_seen v.bytes.items c.in_ok-other.other) _ c.in_ok-other.ensures.value h c.in_ok-rest.ensures.kept c.in_ok-rest.ensures.read)
 
 pub returns-clause-named : goal.returns-clause-named
 returns-clause-named g c =
-    let one : 1 ≤ length c.push.new.self.items = rw (c.in_ok-push.ensures.items, c.new-names.ensures.items) (omega arith) in
-    rw (c.in_ok-append.ensures.items, c.in_ok-push-2.ensures.items, c.new-groups.ensures.items) (first_named c.push.new.self.items (groups_of c.in_ok-rest.rest.groups.items) one c.in_ok-rest.ensures.named)
+    let x = named c.args.word.place (span_bytes c.args.tokens.now.bytes.items c.args.word.span) in
+    let one : 1 ≤ length (x ∷ []) = omega arith in
+    rw (c.in_ok-all-2.ensures.groups) (first_named (x ∷ []) (groups_of c.in_ok-rest.rest.groups.items) one c.in_ok-rest.ensures.named)
 
 pub returns-clause-as_many : goal.returns-clause-as_many
-returns-clause-as_many g c =
-    rw (c.in_ok-append.ensures.items, c.in_ok-push-2.ensures.items, c.new-groups.ensures.items, c.in_ok-extend_from_slice.ensures.items, c.deref.ensures.value, c.in_ok-push-3.ensures.items, c.new-sets.ensures.items) (ap suc c.in_ok-rest.ensures.as_many)
+returns-clause-as_many g c = rw (c.in_ok-all-2.ensures.groups, c.in_ok-all-2.ensures.sets) (ap suc c.in_ok-rest.ensures.as_many)

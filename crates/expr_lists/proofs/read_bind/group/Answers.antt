@@ -8,7 +8,7 @@ use Rattle.expr_lists.proofs.read_bind.group.Goals as goal
 
 pub loop-from-init : goal.loop-from-init
 loop-from-init g c = record {
-  names = rw (c.in_ok-push.ensures.items, c.new-names.ensures.items, c.in_ok-placed.ensures) (names_first c.args.tokens.now c.args.s.left c.args.s.edge c.args.s.at c.args.first.place (span_bytes c.args.tokens.now.bytes.items c.args.first.span));
+  names = rw (c.in_ok-keep_name.ensures, c.new-names.ensures.items) (names_first c.args.tokens.now c.args.s.left c.args.s.edge c.args.s.at c.args.first.place (span_bytes c.args.tokens.now.bytes.items c.args.first.span));
   inside = c.requires.given.there;
   further = omega arith;
 }
@@ -18,9 +18,9 @@ loop-from-preserved g c =
     let v = c.args.tokens.now in
     let s = c.args.s in
     let so_far = c.loop-from.invariant in
-    let next = names_next v s.left s.edge c.in-Some.from c.in_ok-word.behind (word_seen v.bytes.items c.in_ok-word.word) so_far.names c.in-Some.ensures.there c.in-Some.ensures.rest c.in_ok-word.ensures.value in
+    let next = names_next v s.left s.edge c.in-Some.from c.in_ok-word.past (word_seen v.bytes.items c.in_ok-word.word) so_far.names c.in-Some.ensures.there c.in-Some.ensures.rest c.in_ok-word.ensures.value in
     record {
-      names = rw (c.in_ok-push-2.ensures.items, c.in_ok-placed-2.ensures) next;
+      names = rw (c.in_ok-keep_name-2.ensures) next;
       inside = c.in_ok-word.ensures.inside;
       further = omega (arith, so_far.further, c.in-Some.ensures.further, c.in_ok-word.ensures.further);
     }
