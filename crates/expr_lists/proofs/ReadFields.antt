@@ -22,7 +22,7 @@ use Rattle.expr_nodes.proofs.MakeLemmas.{kept_in}
 use Rattle.expr_rows.specs.HasRead.{behind_mark}
 use Rattle.expr_rows.proofs.ReadLemmas.{fails_then}
 use Rattle.expr_rows.proofs.ReadLinks.{then_two}
-use Rattle.expr_lists.proofs.ReadPut.{then_gives, put_on, put_fails}
+use Rattle.expr_rows.proofs.ReadPut.{then_gives, put_on, put_fails}
 
 -- ---- one of them, and one before others
 field_alone : {ts : List Tree} {x : Read} {a : Phrase} (f : Field) (p : Place) → IsIn ts x a → AreFields ts (f.text ∷ []) (x.id ∷ []) x.shape.nesting (last_field f p a)
