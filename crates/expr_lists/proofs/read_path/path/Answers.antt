@@ -1,6 +1,5 @@
 -- Proves what is asked of `path`.
 use Rattle.std.proofs.Common.{◌≡◌, ◌+◌, ℕ, arith, subst, Some}
-use Rattle.std.proofs.lemmas.List.{map_push}
 use Rattle.std.proofs.lemmas.Result.{err_from_is_err_and}
 use Rattle.tla_tree.specs.Whole.{whole}
 use Rattle.tla_tree.proofs.PoolNumbers.{Keeps-then}

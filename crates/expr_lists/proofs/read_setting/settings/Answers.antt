@@ -1,6 +1,5 @@
 -- Proves what is asked of `settings`.
-use Rattle.std.proofs.Common.{[], ◌∷◌, ◌++◌, arith, sym, ◌∙◌, append_assoc, vec_len}
-use Rattle.std.proofs.lemmas.List.{map_push}
+use Rattle.std.proofs.Common.{[], ◌∷◌, ◌++◌, arith, sym, ◌∙◌, vec_len}
 use Rattle.std.proofs.lemmas.Result.{err_from_is_err_and}
 use Rattle.tla_pool.specs.FormOf.{steps_of, slots_of}
 use Rattle.tla_tree.specs.Tree.{Slot}
