@@ -56,9 +56,6 @@ pub moved : {us : List Tree} {t : Bool} {is js : List ℕ} {m n : ℕ} {xs : Arm
 moved {us} {t} {is} {js} {m} {n} {xs} e f h = subst (λ (ks : List ℕ). AreArms us t ks n xs) e (subst (λ (k : ℕ). AreArms us t is k xs) f h)
 
 -- tests and results in pairs, two for each arm
-pub two_more : (is : List ℕ) (i j : ℕ) → (is ++ i ∷ []) ++ j ∷ [] ≡ is ++ i ∷ j ∷ []
-two_more is i j = append_assoc is (i ∷ []) (j ∷ [])
-
 pub paired_more : (n : ℕ) → IsPaired n → IsPaired (suc (suc n))
 paired_more zero h = absurd h
 paired_more (suc n) h = h

@@ -19,8 +19,10 @@ use Rattle.expr_nodes.specs.declared.shape.Shape.{Shape}
 use Rattle.expr_nodes.specs.ReadIn.{IsIn, AreFields, Reads, Fails}
 use Rattle.expr_nodes.specs.Ahead.{ahead}
 use Rattle.expr_nodes.proofs.MakeLemmas.{kept_in}
-use Rattle.expr_rows.proofs.ReadLemmas.{fails_then, fails_on}
-use Rattle.expr_lists.proofs.ReadPut.{then_gives, put_on, put_fails}
+use Rattle.expr_rows.specs.HasRead.{behind_mark}
+use Rattle.expr_rows.proofs.ReadLemmas.{fails_then}
+use Rattle.expr_rows.proofs.ReadLinks.{then_two}
+use Rattle.expr_rows.proofs.ReadPut.{then_gives, put_on, put_fails}
 
 -- ---- one of them, and one before others
 field_alone : {ts : List Tree} {x : Read} {a : Phrase} (f : Field) (p : Place) → IsIn ts x a → AreFields ts (f.text ∷ []) (x.id ∷ []) x.shape.nesting (last_field f p a)
@@ -62,49 +64,45 @@ module _ (v : Tokens) (b e : ℕ) (m : Mark) where
       → fields_by (whole (Some b)) e m f p a q k ts ≡ then_read (a_field e (tail ts)) (λ g. (whole (Some b)).fields e m g >>= λ fs. gives (field f p a q fs))
   rest_comma f p a q k ts h = ap (λ (k : TokenView). fields_by (whole (Some b)) e m f p a q k ts) (mark_is tk.comma k h)
 
+  by_parts : (f : Field) (ts : List Token) → (whole (Some b)).fields e m f ts ≡ then_read (behind_mark (whole (Some b)) e m ts) (λ y. peek e (fields_by (whole (Some b)) e m f y.0 y.1))
+  by_parts f ts = fields_is (Some b) e m f ts ∙ then_two (a_mark e m ts) (λ p. (whole (Some b)).expr e free) (λ p a. (p, a)) (λ y. peek e (fields_by (whole (Some b)) e m f y.0 y.1))
+
   module _ {ts : List Tree} {i : ℕ} {xs : List Word} {ids : List ℕ} {n : ℕ} {f : Field} {o : Out Fields} (s : FieldsSoFar v ts b e m i xs ids n f o) where
-    pub mark_lost : (w : Halt) → Fails w (a_mark e m (ahead v i)) → Fails w o
-    mark_lost w h = put_fails w s.before _ s.is (subst (Fails w) (sym (fields_is (Some b) e m f (ahead v i))) (fails_then w (a_mark e m (ahead v i)) _ h))
+    pub part_lost : (w : Halt) → Fails w (behind_mark (whole (Some b)) e m (ahead v i)) → Fails w o
+    part_lost w h = put_fails w s.before _ s.is (subst (Fails w) (sym (by_parts f (ahead v i))) (fails_then w (behind_mark (whole (Some b)) e m (ahead v i)) (λ y. peek e (fields_by (whole (Some b)) e m f y.0 y.1)) h))
 
-    module _ (j : ℕ) (p : Place) (at : a_mark e m (ahead v i) ≡ Ok (p, ahead v j)) where
-      pub part_lost : (w : Halt) → Fails w ((whole (Some b)).expr e free (ahead v j)) → Fails w o
-      part_lost w h =
-          put_fails w s.before _ s.is
-          (subst (Fails w) (sym (fields_is (Some b) e m f (ahead v i))) (fails_on w (a_mark e m (ahead v i)) _ (p, ahead v j) at (fails_then w ((whole (Some b)).expr e free (ahead v j)) _ h)))
+    module _ {us : List Tree} {x : Read} (k : ℕ) (l : Keeps ts us) (h : Reads (λ (y : Place × Phrase). IsIn us x y.1) (ahead v k) (behind_mark (whole (Some b)) e m (ahead v i))) where
+      rest_at : (whole (Some b)).fields e m f (ahead v i) ≡ peek e (fields_by (whole (Some b)) e m f h.what.0 h.what.1) (ahead v k)
+      rest_at = by_parts f (ahead v i) ∙ ap (λ (o : Out (Place × Phrase)). then_read o (λ y. peek e (fields_by (whole (Some b)) e m f y.0 y.1))) h.is
 
-      module _ {us : List Tree} {x : Read} (k : ℕ) (l : Keeps ts us) (h : Reads (IsIn us x) (ahead v k) ((whole (Some b)).expr e free (ahead v j))) where
-        rest_at : (whole (Some b)).fields e m f (ahead v i) ≡ peek e (fields_by (whole (Some b)) e m f p h.what) (ahead v k)
-        rest_at =
-            fields_is (Some b) e m f (ahead v i)
-            ∙ ap (λ (o : Out Place). then_read o (λ p. (whole (Some b)).expr e free >>= λ a. peek e (fields_by (whole (Some b)) e m f p a))) at
-            ∙ ap (λ (o : Out Phrase). then_read o (λ a. peek e (fields_by (whole (Some b)) e m f p a))) h.is
+      pub fields_end : is_mark tk.comma (next e (ahead v k)).kind ≡ false → Reads (AreFields us (xs ++ f.text ∷ []) (ids ++ x.id ∷ []) (max n x.shape.nesting)) (ahead v k) o
+      fields_end c = record {
+        what = s.before (last_field f h.what.0 h.what.1);
+        is = s.is ∙ ap (λ (p : Out Fields). then_read p (λ fs. gives (s.before fs))) (rest_at ∙ rest_none f h.what.0 h.what.1 (next e (ahead v k)).place (next e (ahead v k)).kind (ahead v k) c);
+        told = s.others us _ _ _ _ l (field_alone f h.what.0 h.told);
+      }
 
-        pub fields_end : is_mark tk.comma (next e (ahead v k)).kind ≡ false → Reads (AreFields us (xs ++ f.text ∷ []) (ids ++ x.id ∷ []) (max n x.shape.nesting)) (ahead v k) o
-        fields_end c = record {
-          what = s.before (last_field f p h.what);
-          is = s.is ∙ ap (λ (p : Out Fields). then_read p (λ fs. gives (s.before fs))) (rest_at ∙ rest_none f p h.what (next e (ahead v k)).place (next e (ahead v k)).kind (ahead v k) c);
-          told = s.others us _ _ _ _ l (field_alone f p h.told);
-        }
+      module _ (d : ℕ) (c : is_mark tk.comma (next e (ahead v k)).kind ≡ true) (t : ahead v d ≡ tail (ahead v k)) where
+        more_at : (whole (Some b)).fields e m f (ahead v i) ≡ then_read (a_field e (ahead v d)) (λ g. (whole (Some b)).fields e m g >>= λ fs. gives (field f h.what.0 h.what.1 (next e (ahead v k)).place fs))
+        more_at =
+            rest_at ∙ rest_comma f h.what.0 h.what.1 (next e (ahead v k)).place (next e (ahead v k)).kind (ahead v k) c
+            ∙ ap (λ (ts : List Token). then_read (a_field e ts) (λ g. (whole (Some b)).fields e m g >>= λ fs. gives (field f h.what.0 h.what.1 (next e (ahead v k)).place fs))) (sym t)
 
-        module _ (d : ℕ) (c : is_mark tk.comma (next e (ahead v k)).kind ≡ true) (t : ahead v d ≡ tail (ahead v k)) where
-          more_at : (whole (Some b)).fields e m f (ahead v i) ≡ then_read (a_field e (ahead v d)) (λ g. (whole (Some b)).fields e m g >>= λ fs. gives (field f p h.what (next e (ahead v k)).place fs))
-          more_at =
-              rest_at ∙ rest_comma f p h.what (next e (ahead v k)).place (next e (ahead v k)).kind (ahead v k) c
-              ∙ ap (λ (ts : List Token). then_read (a_field e ts) (λ g. (whole (Some b)).fields e m g >>= λ fs. gives (field f p h.what (next e (ahead v k)).place fs))) (sym t)
+        pub field_lost : (w : Halt) → Fails w (a_field e (ahead v d)) → Fails w o
+        field_lost w g = put_fails w s.before _ s.is (subst (Fails w) (sym more_at) (fails_then w (a_field e (ahead v d)) _ g))
 
-          pub field_lost : (w : Halt) → Fails w (a_field e (ahead v d)) → Fails w o
-          field_lost w g = put_fails w s.before _ s.is (subst (Fails w) (sym more_at) (fails_then w (a_field e (ahead v d)) _ g))
-
-          pub fields_next : (r : ℕ) (g : Field) → a_field e (ahead v d) ≡ Ok (g, ahead v r) → FieldsSoFar v us b e m r (xs ++ f.text ∷ []) (ids ++ x.id ∷ []) (max n x.shape.nesting) g o
-          fields_next r g y =
-              let q = (next e (ahead v k)).place in
-              let on : (whole (Some b)).fields e m f (ahead v i) ≡ then_read ((whole (Some b)).fields e m g (ahead v r)) (λ fs. gives (field f p h.what q fs)) =
-              more_at ∙ ap (λ (o : Out Field). then_read o (λ g. (whole (Some b)).fields e m g >>= λ fs. gives (field f p h.what q fs))) y in
-              record {
-                before = (λ fs. s.before (field f p h.what q fs));
-                is = put_on s.before (field f p h.what q) _ s.is on;
-                others = (λ ws ys js w fs u z.
-                    let all = s.others ws _ _ _ _ (Keeps-then _ _ _ l u) (field_before f p q (kept_in u h.told) z) in
-                    let big : max n (max x.shape.nesting w) ≡ max (max n x.shape.nesting) w = omega arith in
-                    rw (append_assoc xs (f.text ∷ []) ys, append_assoc ids (x.id ∷ []) js, sym big) all);
-              }
+        pub fields_next : (r : ℕ) (g : Field) → a_field e (ahead v d) ≡ Ok (g, ahead v r) → FieldsSoFar v us b e m r (xs ++ f.text ∷ []) (ids ++ x.id ∷ []) (max n x.shape.nesting) g o
+        fields_next r g y =
+            let p = h.what.0 in
+            let a = h.what.1 in
+            let q = (next e (ahead v k)).place in
+            let on : (whole (Some b)).fields e m f (ahead v i) ≡ then_read ((whole (Some b)).fields e m g (ahead v r)) (λ fs. gives (field f p a q fs)) =
+            more_at ∙ ap (λ (o : Out Field). then_read o (λ g. (whole (Some b)).fields e m g >>= λ fs. gives (field f p a q fs))) y in
+            record {
+              before = (λ fs. s.before (field f p a q fs));
+              is = put_on s.before (field f p a q) _ s.is on;
+              others = (λ ws ys js w fs u z.
+                  let all = s.others ws _ _ _ _ (Keeps-then _ _ _ l u) (field_before f p q (kept_in u h.told) z) in
+                  let big : max n (max x.shape.nesting w) ≡ max (max n x.shape.nesting) w = omega arith in
+                  rw (append_assoc xs (f.text ∷ []) ys, append_assoc ids (x.id ∷ []) js, sym big) all);
+            }

@@ -24,7 +24,7 @@ use Rattle.expr_nodes.specs.Ahead.{ahead}
 use Rattle.expr_lists.specs.Routed.{indexed, IsSubscript, IsPath}
 use Rattle.expr_rows.proofs.ReadLemmas.{fails_then}
 use Rattle.expr_rows.proofs.ReadLinks.{then_two, open_at, open_not}
-use Rattle.expr_lists.proofs.ReadPut.{then_gives, put_on, put_fails}
+use Rattle.expr_rows.proofs.ReadPut.{then_gives, put_on, put_fails}
 
 -- ---- paths in a pool that grew, and longer ones
 pub kept_path : {old new : List Tree} {ss : List PathStep} {is : List ℕ} {n : ℕ} {p : Path} → Keeps old new → IsPath old ss is n p → IsPath new ss is n p

@@ -29,7 +29,7 @@ use Rattle.expr_lists.specs.Routed.{IsPath}
 use Rattle.expr_nodes.proofs.MakeLemmas.{kept_in}
 use Rattle.expr_rows.proofs.ReadLemmas.{fails_then}
 use Rattle.expr_lists.proofs.ReadPaths.{kept_path}
-use Rattle.expr_lists.proofs.ReadPut.{then_gives, put_on, put_fails}
+use Rattle.expr_rows.proofs.ReadPut.{then_gives, put_on, put_fails}
 
 -- ---- paths that have a step
 path_some : (p : Path) → HasPath (steps p) → is_some_path p ≡ true

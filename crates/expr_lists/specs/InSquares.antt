@@ -1,14 +1,9 @@
--- What is read in square brackets behind names, fields and `EXCEPT`.
+-- What is read in square brackets behind fields and `EXCEPT`.
 use Rattle.std.specs.Prelude.{ℕ}
 use Rattle.tla_token.specs.declared.place.Place.{Place}
-use Rattle.tla_tree.specs.Tree.{Word}
 use Rattle.tla_tree.specs.Lexical as tk
 use Rattle.tla_tree.specs.Spelling.{Field, Phrase, fields, records, except}
-use Rattle.tla_tree.specs.Reader.{Reader, Readers, ◌>>=◌, peek, ended, bind_rest, function_rest}
-
--- behind `[x`: `, y \in S |-> e]`
-abbrev pub function_of : Readers → ℕ → Place → Place → Word → Reader Phrase
-function_of d e p q x = d.binds e q x >>= λ bs. function_rest d e p bs
+use Rattle.tla_tree.specs.Reader.{Reader, Readers, ◌>>=◌, ended}
 
 -- behind `[a`: `|-> e, b |-> f]`
 abbrev pub fields_of : Readers → ℕ → Place → Field → Reader Phrase
@@ -21,7 +16,3 @@ records_of d e p f = d.fields e tk.colon f >>= λ fs. ended e tk.close_square (�
 -- behind `[f EXCEPT`: `![a] = e, !.b = f]`
 abbrev pub changed : Readers → ℕ → Place → Phrase → Place → Reader Phrase
 changed d e p a q = d.settings e >>= λ ss. ended e tk.close_square (λ s. except p a q ss s)
-
--- behind `[x \in S`: `, y \in T |-> e]`, or `|-> e]`
-abbrev pub function_behind : Readers → ℕ → Place → Place → Word → Place → Phrase → Reader Phrase
-function_behind d e p q x s a = peek e (bind_rest d e q x s a) >>= λ bs. function_rest d e p bs

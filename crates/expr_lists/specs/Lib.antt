@@ -1,4 +1,2 @@
-pub mod Grouped
 pub mod Routed
 pub mod InSquares
-pub mod InBraces

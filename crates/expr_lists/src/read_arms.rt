@@ -10,13 +10,13 @@ ghost use Rattle.expr_nodes.specs.ReadIn.{AreArms, IsIn, Told};
 ghost use Rattle.expr_rows.specs.HasRead.{one_arm};
 ghost use Rattle.expr_rows.specs.MayRead.{MayRead};
 
-use crate::on_next::{after_box, after_key};
 use crate::read_behind::behind;
 use expr_nodes::cursor::Halt;
 use expr_nodes::make::Read;
 use expr_nodes::shape::{Context, larger};
 use expr_nodes::spot::Spot;
 use expr_nodes::view::{Key, Mark};
+use expr_rows::on_next::{after_box, after_key};
 use std::alloc::Global;
 use tla_pool::Pool;
 use tla_token::{Place, Tokens};
@@ -83,9 +83,7 @@ pub fn arms<F: Fn(&mut Pool, Context, Spot) -> Result<(Read, usize), Halt>>(
     let mut at = next;
     let mut last = first.value.shape;
     let mut nesting = larger(first.test.shape.nesting, last.nesting);
-    let mut ids = Vec::new(alloc);
-    ids.push(first.test.id)?;
-    ids.push(first.value.id)?;
+    let mut ids = Vec::from_array(alloc, [first.test.id, first.value.id])?;
     while let Some(from) = after_box(tokens, Spot { at, ..s }, last) {
         if let Some(from) = after_key(tokens, Spot { at: from, ..s }, Key::Other) {
             let (c, at) = behind(tokens, inner, pool, Spot { at: from, ..s }, Mark::Arrow)?;
@@ -104,8 +102,7 @@ pub fn arms<F: Fn(&mut Pool, Context, Spot) -> Result<(Read, usize), Halt>>(
         let (a, next) = next_arm(tokens, inner, pool, Spot { at: from, ..s })?;
         at = next;
         last = a.value.shape;
-        ids.push(a.test.id)?;
-        ids.push(a.value.id)?;
+        ids.extend_from_slice(&[a.test.id, a.value.id])?;
         nesting = larger(nesting, larger(a.test.shape.nesting, last.nesting));
     }
     let other = false;

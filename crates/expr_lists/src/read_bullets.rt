@@ -10,12 +10,12 @@ ghost use Rattle.expr_nodes.specs.ReadIn.{AreItems, IsIn, Told};
 ghost use Rattle.expr_rows.specs.HasRead.{one_item};
 ghost use Rattle.expr_rows.specs.MayRead.{MayRead};
 
-use crate::on_next::{is_bullet_next, past_bullet};
 use expr_nodes::cursor::Halt;
 use expr_nodes::gather::joined;
 use expr_nodes::make::Read;
 use expr_nodes::shape::{Boxes, Context, larger};
 use expr_nodes::spot::{Spot, deeper};
+use expr_rows::on_next::{is_bullet_next, past_bullet};
 use std::alloc::Global;
 use tla_pool::Pool;
 use tla_token::{Place, Tokens};

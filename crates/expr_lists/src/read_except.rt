@@ -10,13 +10,14 @@ ghost use Rattle.expr_rows.specs.HasRead.{Stands};
 ghost use Rattle.expr_rows.specs.MayRead.{MayRead};
 ghost use Rattle.expr_lists.specs.InSquares.{changed};
 
-use crate::read_setting::settings;
+use crate::read_setting::{Settled, settings};
 use expr_nodes::cursor::Halt;
 use expr_nodes::gather::except;
 use expr_nodes::make::Read;
 use expr_nodes::shape::Context;
 use expr_nodes::spot::{Spot, past_mark};
 use expr_nodes::view::Mark;
+use expr_rows::read_row::in_front;
 use std::alloc::Global;
 use tla_pool::Pool;
 use tla_token::{Place, Tokens};
@@ -44,8 +45,12 @@ pub fn except_in<F: Fn(&mut Pool, Context, Spot) -> Result<(Read, usize), Halt>>
 {
     let (all, at) = settings(alloc, tokens, inner, pool, s, place)?;
     let (_, at) = past_mark(tokens, Spot { at, ..s }, Mark::CloseSquare)?;
-    let mut parts = Vec::from_array(alloc, [f.id])?;
-    parts.extend_from_slice(&all.ids)?;
-    let whole = except(pool, place, f, all.slots, parts, all.nesting)?;
+    let Settled {
+        slots,
+        ids,
+        nesting,
+    } = all;
+    let parts = in_front(alloc, f.id, ids)?;
+    let whole = except(pool, place, f, slots, parts, nesting)?;
     Ok((whole, at))
 }

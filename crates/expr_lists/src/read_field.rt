@@ -1,6 +1,7 @@
 //! Reading fields: `a |-> e, b |-> f`, and `a : S, b : T`.
 
-ghost use Rattle.std.specs.Prelude.{◌≡◌, ◌<◌, ◌≤◌, suc, length, IfOk, Some};
+ghost use Rattle.std.specs.Prelude.{◌≡◌, ◌<◌, ◌≤◌, ◌++◌, ◌∷◌, [], max, suc, length, IfOk, OnOk, Some};
+ghost use Rattle.tla_token.specs.TokensSeen.{span_bytes};
 ghost use Rattle.tla_tree.specs.Pool.{AllBelow, Keeps};
 ghost use Rattle.tla_tree.specs.Whole.{whole};
 ghost use Rattle.expr_nodes.specs.Ahead.{ahead};
@@ -8,12 +9,13 @@ ghost use Rattle.expr_nodes.specs.ReadIn.{AreFields, Told, field_seen};
 ghost use Rattle.expr_nodes.specs.ViewSeen.{mark_seen};
 ghost use Rattle.expr_rows.specs.MayRead.{MayRead};
 
+use crate::read_behind::behind;
 use expr_nodes::cursor::{FieldName, Halt};
 use expr_nodes::make::{Read, name_of};
 use expr_nodes::shape::{Context, larger};
-use expr_nodes::spot::{Spot, after_mark, past_field, past_mark};
+use expr_nodes::spot::{Spot, after_mark, past_field};
 use expr_nodes::view::Mark;
-use std::alloc::Global;
+use std::alloc::{AllocError, Global};
 use tla_pool::Pool;
 use tla_token::Tokens;
 use tla_tree::{NameList, NodeId};
@@ -24,6 +26,24 @@ pub struct Labelled {
     pub labels: NameList,
     pub ids: Vec<NodeId>,
     pub nesting: u32,
+}
+
+// One more field.
+fn keep(
+    alloc: Global,
+    tokens: &Tokens,
+    all: &mut Labelled,
+    field: FieldName,
+    a: Read,
+) -> Result<(), AllocError>
+    ensures labels { OnOk result (all.new.labels ≡ all.old.labels ++ span_bytes tokens.now.bytes.items field.span ∷ []) }
+    ensures ids { OnOk result (all.new.ids.items ≡ all.old.ids.items ++ a.id ∷ []) }
+    ensures nesting { OnOk result (all.new.nesting ≡ max all.old.nesting a.shape.nesting) }
+{
+    all.labels.push(name_of(alloc, tokens, field.span)?)?;
+    all.ids.push(a.id)?;
+    all.nesting = larger(all.nesting, a.shape.nesting);
+    Ok(())
 }
 
 /// `|-> e, b |-> f` behind the name of a field, or with colons: by the mark.
@@ -50,27 +70,21 @@ pub fn fields<F: Fn(&mut Pool, Context, Spot) -> Result<(Read, usize), Halt>>(
     ensures inside { IfOk result (λ x. x.1 ≤ length tokens.now.items.items) }
     ensures further { IfOk result (λ x. s.at ≤ x.1) }
 {
-    let mut labels = NameList::new(alloc);
-    let mut ids = Vec::new(alloc);
-    let mut nesting = 0;
+    let mut all = Labelled {
+        labels: NameList::new(alloc),
+        ids: Vec::new(alloc),
+        nesting: 0,
+    };
     let mut field = first;
     let mut at = s.at;
     loop {
-        let (_, from) = past_mark(tokens, Spot { at, ..s }, mark)?;
-        let (a, next) = inner(pool, Context::Free, Spot { at: from, ..s })?;
-        labels.push(name_of(alloc, tokens, field.span)?)?;
-        ids.push(a.id)?;
-        nesting = larger(nesting, a.shape.nesting);
+        let (a, next) = behind(tokens, inner, pool, Spot { at, ..s }, mark)?;
+        keep(alloc, tokens, &mut all, field, a)?;
         let Some(from) = after_mark(tokens, Spot { at: next, ..s }, Mark::Comma) else {
-            let all = Labelled {
-                labels,
-                ids,
-                nesting,
-            };
             return Ok((all, next));
         };
-        let (other, behind) = past_field(tokens, Spot { at: from, ..s })?;
+        let (other, past) = past_field(tokens, Spot { at: from, ..s })?;
         field = other;
-        at = behind;
+        at = past;
     }
 }

@@ -1,21 +1,23 @@
 //! Reading the definitions of `LET`, over a reader of their right sides.
 
-ghost use Rattle.std.specs.Prelude.{◌≡◌, ◌<◌, ◌≤◌, suc, length, IfOk, Some};
+ghost use Rattle.std.specs.Prelude.{◌≡◌, ◌<◌, ◌≤◌, ◌++◌, ◌∷◌, [], max, suc, length, IfOk, OnOk, Some};
+ghost use Rattle.tla_token.specs.TokensSeen.{span_bytes};
 ghost use Rattle.tla_tree.specs.Pool.{AllBelow, Keeps};
+ghost use Rattle.tla_tree.specs.Spelling.{named};
 ghost use Rattle.tla_tree.specs.Whole.{whole};
 ghost use Rattle.expr_nodes.specs.Ahead.{ahead};
 ghost use Rattle.expr_nodes.specs.ReadIn.{AreLocals, Told};
 ghost use Rattle.expr_rows.specs.MayRead.{MayRead};
 
-use crate::on_next::after_word;
 use crate::read_behind::behind;
-use expr_nodes::cursor::Halt;
+use expr_nodes::cursor::{Halt, Word};
 use expr_nodes::gather::placed;
 use expr_nodes::make::Read;
 use expr_nodes::shape::{Context, larger};
 use expr_nodes::spot::{Spot, past_word};
 use expr_nodes::view::Mark;
-use std::alloc::Global;
+use expr_rows::on_next::after_word;
+use std::alloc::{AllocError, Global};
 use tla_pool::Pool;
 use tla_token::Tokens;
 use tla_tree::{NodeId, PlacedName};
@@ -26,6 +28,24 @@ pub struct ManyLocals {
     pub names: Vec<PlacedName>,
     pub ids: Vec<NodeId>,
     pub nesting: u32,
+}
+
+// One more definition.
+fn keep(
+    alloc: Global,
+    tokens: &Tokens,
+    many: &mut ManyLocals,
+    word: Word,
+    a: Read,
+) -> Result<(), AllocError>
+    ensures names { OnOk result (many.new.names.items ≡ many.old.names.items ++ named word.place (span_bytes tokens.now.bytes.items word.span) ∷ []) }
+    ensures ids { OnOk result (many.new.ids.items ≡ many.old.ids.items ++ a.id ∷ []) }
+    ensures nesting { OnOk result (many.new.nesting ≡ max many.old.nesting a.shape.nesting) }
+{
+    many.names.push(placed(alloc, tokens, word)?)?;
+    many.ids.push(a.id)?;
+    many.nesting = larger(many.nesting, a.shape.nesting);
+    Ok(())
 }
 
 /// `x == e y == f`
@@ -53,23 +73,17 @@ pub fn locals<F: Fn(&mut Pool, Context, Spot) -> Result<(Read, usize), Halt>>(
 {
     let (word, from) = past_word(tokens, s)?;
     let (a, next) = behind(tokens, inner, pool, Spot { at: from, ..s }, Mark::Defines)?;
+    let mut many = ManyLocals {
+        names: Vec::new(alloc),
+        ids: Vec::new(alloc),
+        nesting: 0,
+    };
+    keep(alloc, tokens, &mut many, word, a)?;
     let mut at = next;
-    let mut nesting = a.shape.nesting;
-    let mut names = Vec::new(alloc);
-    names.push(placed(alloc, tokens, word)?)?;
-    let mut ids = Vec::new(alloc);
-    ids.push(a.id)?;
     while let Some((word, from)) = after_word(tokens, Spot { at, ..s }) {
         let (a, next) = behind(tokens, inner, pool, Spot { at: from, ..s }, Mark::Defines)?;
+        keep(alloc, tokens, &mut many, word, a)?;
         at = next;
-        names.push(placed(alloc, tokens, word)?)?;
-        ids.push(a.id)?;
-        nesting = larger(nesting, a.shape.nesting);
     }
-    let many = ManyLocals {
-        names,
-        ids,
-        nesting,
-    };
     Ok((many, at))
 }

@@ -1,7 +1,10 @@
 //! Reading the path of a setting: `[a, b].c`.
 
-ghost use Rattle.std.specs.Prelude.{◌<◌, ◌≤◌, suc, length, IfOk, Some};
+ghost use Rattle.std.specs.Prelude.{◌≡◌, ◌<◌, ◌≤◌, ◌+◌, ◌++◌, ◌∷◌, [], max, suc, length, IfOk, OnOk, Some};
+ghost use Rattle.tla_token.specs.Limits.{deepest_expression};
+ghost use Rattle.tla_token.specs.TokensSeen.{span_bytes};
 ghost use Rattle.tla_tree.specs.Pool.{Keeps};
+ghost use Rattle.tla_tree.specs.Tree.{index, field};
 ghost use Rattle.tla_tree.specs.Whole.{whole};
 ghost use Rattle.tla_pool.specs.FormOf.{steps_of};
 ghost use Rattle.expr_nodes.specs.Ahead.{ahead};
@@ -9,13 +12,13 @@ ghost use Rattle.expr_nodes.specs.ReadIn.{Told};
 ghost use Rattle.expr_rows.specs.MayRead.{MayRead};
 ghost use Rattle.expr_lists.specs.Routed.{indexed, IsSubscript, IsPath};
 
-use expr_nodes::cursor::Halt;
+use expr_nodes::cursor::{FieldName, Halt};
 use expr_nodes::make::{Read, name_of, subscript};
 use expr_nodes::shape::{Context, larger};
 use expr_nodes::spot::{Spot, after_mark, deeper, past_field, past_mark};
 use expr_nodes::view::Mark;
 use expr_rows::read_row::phrases;
-use std::alloc::Global;
+use std::alloc::{AllocError, Global};
 use tla_pool::Pool;
 use tla_pool::form::Step;
 use tla_token::Tokens;
@@ -55,6 +58,35 @@ pub fn subscript_in<F: Fn(&mut Pool, Context, Spot) -> Result<(Read, usize), Hal
     Ok((id, nesting, at))
 }
 
+// One more subscript, in which so many forms are open.
+fn indexed_by(route: &mut Route, id: NodeId, opened: u32) -> Result<(), AllocError>
+    requires { opened < deepest_expression }
+    ensures steps { OnOk result (steps_of route.new.steps.items ≡ steps_of route.old.steps.items ++ index ∷ []) }
+    ensures ids { OnOk result (route.new.ids.items ≡ route.old.ids.items ++ id ∷ []) }
+    ensures nesting { OnOk result (route.new.nesting ≡ max route.old.nesting (1 + opened)) }
+{
+    route.steps.push(Step::Index)?;
+    route.ids.push(id)?;
+    route.nesting = larger(route.nesting, 1 + opened);
+    Ok(())
+}
+
+// One more field.
+fn at_field(
+    alloc: Global,
+    tokens: &Tokens,
+    route: &mut Route,
+    name: FieldName,
+) -> Result<(), AllocError>
+    ensures steps { OnOk result (steps_of route.new.steps.items ≡ steps_of route.old.steps.items ++ field (span_bytes tokens.now.bytes.items name.span) ∷ []) }
+    ensures ids { OnOk result (route.new.ids.items ≡ route.old.ids.items) }
+    ensures nesting { OnOk result (route.new.nesting ≡ route.old.nesting) }
+{
+    let step = Step::Field(name_of(alloc, tokens, name.span)?);
+    route.steps.push(step)?;
+    Ok(())
+}
+
 /// `[a, b].c`, which may be empty.
 ///
 /// # Errors
@@ -74,31 +106,26 @@ pub fn path<F: Fn(&mut Pool, Context, Spot) -> Result<(Read, usize), Halt>>(
     ensures inside { IfOk result (λ x. x.1 ≤ length tokens.now.items.items) }
     ensures further { IfOk result (λ x. s.at ≤ x.1) }
 {
-    let mut steps = Vec::new(alloc);
-    let mut ids = Vec::new(alloc);
-    let mut nesting = 0;
+    let mut route = Route {
+        steps: Vec::new(alloc),
+        ids: Vec::new(alloc),
+        nesting: 0,
+    };
     let mut at = s.at;
     loop {
         if let Some(from) = after_mark(tokens, Spot { at, ..s }, Mark::OpenSquare) {
             let d = deeper(tokens, Spot { at, ..s }, 0)?;
             let d = Spot { at: from, ..d };
             let (id, opened, next) = subscript_in(alloc, tokens, inner, pool, d)?;
-            steps.push(Step::Index)?;
-            ids.push(id)?;
-            nesting = larger(nesting, 1 + opened);
+            indexed_by(&mut route, id, opened)?;
             at = next;
             continue;
         }
         let Some(from) = after_mark(tokens, Spot { at, ..s }, Mark::Dot) else {
-            let route = Route {
-                steps,
-                ids,
-                nesting,
-            };
             return Ok((route, at));
         };
         let (field, next) = past_field(tokens, Spot { at: from, ..s })?;
-        steps.push(Step::Field(name_of(alloc, tokens, field.span)?))?;
+        at_field(alloc, tokens, &mut route, field)?;
         at = next;
     }
 }

@@ -1,7 +1,6 @@
-//! Reading `IF` and prefix operators from their first token on, over a reader of the expressions in them.
+//! Reading prefix operators from their first token on, over a reader of the expressions in them.
 
-ghost use Rattle.std.specs.Prelude.{◌≡◌, suc, true, Some};
-ghost use Rattle.tla_tree.specs.Lexical as tk;
+ghost use Rattle.std.specs.Prelude.{◌≡◌, true, Some};
 ghost use Rattle.tla_tree.specs.Rank.{is_prefix};
 ghost use Rattle.tla_tree.specs.Reader as reader;
 ghost use Rattle.tla_tree.specs.Whole.{whole};
@@ -12,60 +11,13 @@ ghost use Rattle.expr_rows.specs.MayRead.{MayRead};
 
 use crate::read_plain::operand_in;
 use expr_nodes::cursor::Halt;
-use expr_nodes::make::{Read, choice};
+use expr_nodes::make::Read;
 use expr_nodes::shape::Context;
-use expr_nodes::spot::{Spot, after, deeper, past_key};
-use expr_nodes::view::Key;
+use expr_nodes::spot::{Spot, after, deeper};
 use std::alloc::Global;
 use tla_pool::Pool;
 use tla_token::{Place, Tokens};
 use tla_tree::Op;
-
-/// `IF a THEN b ELSE c`, behind the `IF` at a place.
-///
-/// # Errors
-///
-/// The rule by which it is refused, and how many tokens are left from there on; or want of memory.
-pub fn choice_from<F: Fn(&mut Pool, Context, Spot) -> Result<(Read, usize), Halt>>(
-    alloc: Global,
-    tokens: &Tokens,
-    inner: &F,
-    pool: &mut Pool,
-    s: Spot,
-    place: Place,
-) -> Result<(Read, usize), Halt>
-    requires given { MayRead tokens.now s (suc s.left) (F.pre inner.now) (F.post inner.now) }
-    ensures { HasRead tokens.now pool.old pool.new s.at (suc s.left) result (reader.choice_from (whole (Some s.left)) s.edge place (ahead tokens.now s.at)) }
-{
-    let (a, at) = inner(pool, Context::Free, s)?;
-    let (_, at) = past_key(tokens, Spot { at, ..s }, Key::Then)?;
-    let (b, at) = inner(pool, Context::Free, Spot { at, ..s })?;
-    let (_, at) = past_key(tokens, Spot { at, ..s }, Key::Else)?;
-    let (c, at) = inner(pool, Context::Free, Spot { at, ..s })?;
-    let whole = choice(alloc, pool, place, a, b, c)?;
-    Ok((whole, at))
-}
-
-/// `IF a THEN b ELSE c`, the next token being the `IF`, at a place.
-///
-/// # Errors
-///
-/// The rule by which it is refused, and how many tokens are left from there on; or want of memory.
-pub fn if_then_else<F: Fn(&mut Pool, Context, Spot) -> Result<(Read, usize), Halt>>(
-    alloc: Global,
-    tokens: &Tokens,
-    inner: &F,
-    pool: &mut Pool,
-    s: Spot,
-    place: Place,
-) -> Result<(Read, usize), Halt>
-    requires given { MayRead tokens.now s s.left (F.pre inner.now) (F.post inner.now) }
-    ensures { HasRead tokens.now pool.old pool.new s.at s.left result (reader.keyed (reader.room whole (Some s.left)) s.edge place tk.if_key (ahead tokens.now s.at)) }
-{
-    let d = deeper(tokens, s, 0)?;
-    let from = after(tokens, s);
-    choice_from(alloc, tokens, inner, pool, Spot { at: from, ..d }, place)
-}
 
 /// A prefix operator whose operand may be more than a short form, its sign being the next token, at a place.
 ///

@@ -3,6 +3,8 @@ pub mod ReadSteps
 pub mod ReadCode
 pub mod ReadRows
 pub mod ReadLinks
+pub mod ReadPut
+pub mod ReadCounts
 pub mod ReadGrown
 pub mod ReadNames
 pub mod ReadPrimaries

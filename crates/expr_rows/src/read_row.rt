@@ -1,6 +1,6 @@
 //! Reading expressions in a row.
 
-ghost use Rattle.std.specs.Prelude.{◌<◌, ◌≤◌, suc, length, IfOk, Some};
+ghost use Rattle.std.specs.Prelude.{◌≡◌, ◌<◌, ◌≤◌, ◌∷◌, suc, length, IfOk, Some};
 ghost use Rattle.tla_tree.specs.Pool.{AllBelow, Keeps};
 ghost use Rattle.tla_tree.specs.Whole.{whole};
 ghost use Rattle.expr_nodes.specs.Ahead.{ahead};
@@ -12,7 +12,7 @@ use expr_nodes::make::{Read, Row};
 use expr_nodes::shape::{Context, larger};
 use expr_nodes::spot::{Spot, after_mark};
 use expr_nodes::view::Mark;
-use std::alloc::Global;
+use std::alloc::{AllocError, Global};
 use tla_pool::Pool;
 use tla_token::Tokens;
 use tla_tree::NodeId;
@@ -22,6 +22,19 @@ use tla_tree::NodeId;
 pub struct Many {
     pub ids: Vec<NodeId>,
     pub row: Row,
+}
+
+/// A number before others.
+///
+/// # Errors
+///
+/// Only for want of memory.
+pub fn in_front(alloc: Global, first: NodeId, rest: Vec<NodeId>) -> Result<Vec<NodeId>, AllocError>
+    ensures { IfOk result (λ ids. ids.items ≡ first ∷ rest.items) }
+{
+    let mut ids = Vec::from_array(alloc, [first])?;
+    ids.extend_from_slice(&rest)?;
+    Ok(ids)
 }
 
 /// `a, b, c`

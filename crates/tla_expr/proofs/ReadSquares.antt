@@ -14,7 +14,8 @@ use Rattle.tla_tree.proofs.SoundTokens.{mark_is}
 use Rattle.expr_nodes.specs.declared.shape.Shape.{Shape}
 use Rattle.expr_nodes.specs.ShapeOf.{shape_of}
 use Rattle.expr_rows.specs.HasRead.{mapped_to}
-use Rattle.expr_lists.specs.InSquares.{changed, function_behind}
+use Rattle.expr_binders.specs.Functions.{function_behind}
+use Rattle.expr_lists.specs.InSquares.{changed}
 use Rattle.tla_expr.specs.ReadForms.{square_rule}
 use Rattle.expr_rows.proofs.ReadLinks.{open_at}
 use Rattle.tla_expr.proofs.ReadMembers.{fits_yes, fits_no}

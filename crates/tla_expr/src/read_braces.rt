@@ -14,8 +14,8 @@ ghost use Rattle.expr_rows.specs.MayRead.{MayRead};
 ghost use Rattle.tla_expr.specs.ReadForms.{braced, braced_other};
 
 use crate::read_member::member_in;
-use expr_lists::read_image::image_in;
-use expr_lists::read_set::set_in;
+use expr_binders::read_image::image_in;
+use expr_binders::read_set::set_in;
 use expr_nodes::cursor::{Halt, Word, is_sign};
 use expr_nodes::make::{Read, empty_set};
 use expr_nodes::shape::Context;

@@ -13,8 +13,8 @@ ghost use Rattle.expr_rows.specs.MayRead.{MayRead};
 ghost use Rattle.expr_operands.specs.ShortForms.{PartedIn};
 ghost use Rattle.tla_expr.specs.ReadForms.{deep_rule, membered};
 
-use expr_lists::read_brace::filter_in;
-use expr_lists::read_set::set_in;
+use expr_binders::read_brace::filter_in;
+use expr_binders::read_set::set_in;
 use expr_nodes::cursor::{Halt, Word, is_mark};
 use expr_nodes::make::Read;
 use expr_nodes::shape::Context;

@@ -1,10 +1,10 @@
 -- Proves what is asked of `arms`.
-use Rattle.std.proofs.Common.{◌≡◌, ℕ, suc, max, List, [], ◌∷◌, ◌++◌, length, arith, sym, ap, ◌∙◌, subst}
+use Rattle.std.proofs.Common.{◌≡◌, ℕ, suc, max, List, [], ◌∷◌, ◌++◌, length, length-append, arith, sym, ap, ◌∙◌, subst}
 use Rattle.std.proofs.lemmas.Result.{err_from_is_err_and}
 use Rattle.tla_tree.specs.Shapes.{IsPaired}
 use Rattle.tla_tree.specs.Pool.{AllBelow}
 use Rattle.tla_tree.proofs.PoolNumbers.{Keeps-then}
-use Rattle.expr_lists.proofs.ReadArms.{ArmsSoFar, moved, arms_first, arms_next, arms_fails, arms_end, other_fails, other_end, two_more, paired_more}
+use Rattle.expr_lists.proofs.ReadArms.{ArmsSoFar, moved, arms_first, arms_next, arms_fails, arms_end, other_fails, other_end, paired_more}
 use Rattle.expr_lists.proofs.read_arms.arms.Goals as goal
 
 pub loop-from-init : goal.loop-from-init
@@ -12,7 +12,7 @@ loop-from-init g c =
     let s = c.args.s in
     let one = c.in_ok-first.ensures in
     let x = c.in_ok-first.first in
-    let items : c.push-2.new.self.items ≡ x.test.id ∷ x.value.id ∷ [] = c.in_ok-push-2.ensures.items ∙ ap (λ (is : List ℕ). is ++ x.value.id ∷ []) (c.in_ok-push.ensures.items ∙ ap (λ (is : List ℕ). is ++ x.test.id ∷ []) c.new-ids.ensures.items) in
+    let items : c.in_ok-ids.ids.items ≡ x.test.id ∷ x.value.id ∷ [] = c.in_ok-ids.ensures.items in
     record {
       row = rw (items, c.larger-nesting.ensures) (arms_first c.args.tokens.now s.left s.edge s.at c.in_ok-first.next one.read);
       kept = one.kept;
@@ -29,14 +29,12 @@ loop-from-preserved g c =
     let so = c.loop-from.invariant in
     let x = c.in_ok-a.a in
     let is = c.loop-from.ids.items in
-    let first : c.push-in-Some.new.self.items ≡ is ++ x.test.id ∷ [] = c.in_ok-push-4.ensures.items in
-    let second : c.push-in-Some-2.new.self.items ≡ c.push-in-Some.new.self.items ++ x.value.id ∷ [] = c.in_ok-push-5.ensures.items in
-    let items : c.push-in-Some-2.new.self.items ≡ is ++ x.test.id ∷ x.value.id ∷ [] = second ∙ ap (λ (js : List ℕ). js ++ x.value.id ∷ []) first ∙ two_more is x.test.id x.value.id in
+    let items : c.extend_from_slice.new.self.items ≡ is ++ x.test.id ∷ x.value.id ∷ [] = c.in_ok-extend_from_slice.ensures.items in
     let nesting : c.larger-nesting-in-Some.result ≡ max c.loop-from.nesting (max x.test.shape.nesting x.value.shape.nesting) = c.larger-nesting-in-Some.ensures ∙ ap (max c.loop-from.nesting) c.larger.ensures in
-    let size : length c.push-in-Some-2.new.self.items ≡ suc (suc (length is)) = omega (arith, c.in_ok-push-4.ensures.len, c.in_ok-push-5.ensures.len) in
+    let size : length c.extend_from_slice.new.self.items ≡ suc (suc (length is)) = ap length items ∙ length-append is (x.test.id ∷ x.value.id ∷ []) ∙ omega arith in
     let next = arms_next c.args.tokens.now s.left s.edge s.at c.loop-from.at so.row c.in-Some.ensures.there c.in-Some.from c.in-Some.ensures.rest c.in_default-after_key.ensures.none c.in_ok-a.next one.kept one.read in
     record {
-      row = subst (λ (n : ℕ). ArmsSoFar c.args.tokens.now c.next_arm-in-Some.new.pool s.left s.edge s.at c.in_ok-a.next c.push-in-Some-2.new.self.items n x.value.shape) (sym nesting)
+      row = subst (λ (n : ℕ). ArmsSoFar c.args.tokens.now c.next_arm-in-Some.new.pool s.left s.edge s.at c.in_ok-a.next c.extend_from_slice.new.self.items n x.value.shape) (sym nesting)
           (subst (λ (js : List ℕ). ArmsSoFar c.args.tokens.now c.next_arm-in-Some.new.pool s.left s.edge s.at c.in_ok-a.next js (max c.loop-from.nesting (max x.test.shape.nesting x.value.shape.nesting)) x.value.shape) (sym items) next);
       kept = Keeps-then _ _ _ so.kept one.kept;
       paired = subst IsPaired (sym size) (paired_more (length is) so.paired);
@@ -61,13 +59,13 @@ pub returns-in-Some-after_key-clause-read : goal.returns-in-Some-after_key-claus
 returns-in-Some-after_key-clause-read g c =
     let s = c.args.s in
     let last = other_end c.args.tokens.now s.left s.edge s.at c.loop-from.at c.loop-from.invariant.row c.in-Some.ensures.there c.in-Some.from c.in-Some.ensures.rest c.in-Some-after_key.ensures.there c.in-Some-after_key.from c.in-Some-after_key.ensures.rest c.in_ok-c.at c.in_ok-c.ensures.kept c.in_ok-c.ensures.read in
-    record { what = last.what; is = last.is; told = moved (sym c.in_ok-push-3.ensures.items) (sym c.larger-nesting-in-Some-after_key.ensures) last.told }
+    record { what = last.what; is = last.is; told = moved (sym c.in_ok-push.ensures.items) (sym c.larger-nesting-in-Some-after_key.ensures) last.told }
 
 pub returns-in-Some-after_key-clause-below : goal.returns-in-Some-after_key-clause-below
 returns-in-Some-after_key-clause-below g c =
     let s = c.args.s in
     let last = other_end c.args.tokens.now s.left s.edge s.at c.loop-from.at c.loop-from.invariant.row c.in-Some.ensures.there c.in-Some.from c.in-Some.ensures.rest c.in-Some-after_key.ensures.there c.in-Some-after_key.from c.in-Some-after_key.ensures.rest c.in_ok-c.at c.in_ok-c.ensures.kept c.in_ok-c.ensures.read in
-    subst (λ (is : List ℕ). AllBelow (length c.behind.new.pool) is) (sym c.in_ok-push-3.ensures.items) last.told.below
+    subst (λ (is : List ℕ). AllBelow (length c.behind.new.pool) is) (sym c.in_ok-push.ensures.items) last.told.below
 
 pub returns-clause-read : goal.returns-clause-read
 returns-clause-read g c = arms_end c.args.tokens.now c.args.s.left c.args.s.edge c.args.s.at c.loop-from.at c.loop-from.invariant.row c.in_default.ensures.none

@@ -8,16 +8,16 @@ use Rattle.expr_nodes.specs.ViewSeen.{mark_seen}
 use Rattle.expr_lists.proofs.ReadFields.{FieldsSoFar}
 use Rattle.expr_lists.proofs.read_field.fields.Given as goal
 
-abbrev pub invariant-loop-ids : goal.invariant-loop-ids
-invariant-loop-ids g l =
+abbrev pub invariant-loop-all : goal.invariant-loop-all
+invariant-loop-all g l =
     record {
-      fields : FieldsSoFar l.tokens l.pool l.s.left l.s.edge (mark_seen l.mark) l.at l.labels l.ids.items l.nesting (field_seen l.tokens.bytes.items l.field)
+      fields : FieldsSoFar l.tokens l.pool l.s.left l.s.edge (mark_seen l.mark) l.at l.all.labels l.all.ids.items l.all.nesting (field_seen l.tokens.bytes.items l.field)
           ((whole (Some l.s.left)).fields l.s.edge (mark_seen l.mark) (field_seen l.tokens.bytes.items l.fn.first) (ahead l.tokens l.s.at));
       kept : Keeps l.fn.pool l.pool;
-      small : l.nesting ≤ l.s.left;
+      small : l.all.nesting ≤ l.s.left;
       inside : l.at ≤ length l.tokens.items.items;
       further : l.s.at ≤ l.at;
     }
 
-abbrev pub decreases-loop-ids : goal.decreases-loop-ids
-decreases-loop-ids g l = length l.tokens.items.items - l.at
+abbrev pub decreases-loop-all : goal.decreases-loop-all
+decreases-loop-all g l = length l.tokens.items.items - l.at

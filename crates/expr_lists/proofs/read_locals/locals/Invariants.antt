@@ -7,11 +7,11 @@ use Rattle.expr_lists.proofs.read_locals.locals.Given as goal
 abbrev pub invariant-loop-word : goal.invariant-loop-word
 invariant-loop-word g l =
     record {
-      row : LocalsSoFar l.tokens l.pool l.s.left l.s.edge l.s.at l.at l.names.items l.ids.items l.nesting;
+      row : LocalsSoFar l.tokens l.pool l.s.left l.s.edge l.s.at l.at l.many.names.items l.many.ids.items l.many.nesting;
       kept : Keeps l.fn.pool l.pool;
-      some : 1 ≤ length l.names.items;
-      as_many : length l.ids.items ≡ length l.names.items;
-      small : l.nesting ≤ l.s.left;
+      some : 1 ≤ length l.many.names.items;
+      as_many : length l.many.ids.items ≡ length l.many.names.items;
+      small : l.many.nesting ≤ l.s.left;
       inside : l.at ≤ length l.tokens.items.items;
       further : l.s.at ≤ l.at;
     }

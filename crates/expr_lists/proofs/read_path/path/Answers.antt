@@ -1,6 +1,5 @@
 -- Proves what is asked of `path`.
 use Rattle.std.proofs.Common.{◌≡◌, ◌+◌, ℕ, arith, subst, Some}
-use Rattle.std.proofs.lemmas.List.{map_push}
 use Rattle.std.proofs.lemmas.Result.{err_from_is_err_and}
 use Rattle.tla_tree.specs.Whole.{whole}
 use Rattle.tla_tree.proofs.PoolNumbers.{Keeps-then}
@@ -13,7 +12,7 @@ use Rattle.expr_lists.proofs.read_path.path.Goals as goal
 
 pub loop-from-init : goal.loop-from-init
 loop-from-init g c = record {
-  path = rw (c.new-steps.ensures.items, c.new-ids.ensures.items) (path_first c.args.tokens.now c.args.s.left c.args.s.edge c.args.pool.now c.args.s.at);
+  path = rw (c.new.ensures.items, c.new-2.ensures.items) (path_first c.args.tokens.now c.args.s.left c.args.s.edge c.args.pool.now c.args.s.at);
   kept = same_pool;
   small = omega arith;
   inside = c.requires.given.there;
@@ -27,13 +26,14 @@ loop-from-preserved-in-Some g c =
     let d = c.in_ok-d.d in
     let so_far = c.loop-from.invariant in
     let one = c.in_ok-id.ensures in
+    let more = c.in_ok-indexed_by.ensures in
     let l : d.left + 1 ≡ s.left = omega (arith, c.in_ok-d.ensures.left) in
     let read = subst (λ (e : ℕ). Reads (λ a. IsSubscript c.subscript_in.new.pool c.in_ok-id.id c.in_ok-id.opened a.0) (ahead v c.in_ok-id.next) (indexed (whole (Some d.left)) e (ahead v c.in-Some.from))) c.in_ok-d.ensures.edge one.read in
     let next = path_index v s.left s.edge so_far.path c.in-Some.ensures.there d.left c.in-Some.from l c.in-Some.ensures.rest c.in_ok-id.id c.in_ok-id.next c.in_ok-id.opened one.kept read in
     record {
-      path = rw (c.in_ok-push.ensures.items, map_push, c.in_ok-push-2.ensures.items, c.larger-nesting.ensures) next;
+      path = rw (more.steps, more.ids, more.nesting) next;
       kept = Keeps-then _ _ _ so_far.kept one.kept;
-      small = grind (arith, c.larger-nesting.ensures, so_far.small, one.small, l);
+      small = omega (arith, more.nesting, so_far.small, one.small, l);
       inside = one.inside;
       further = omega (arith, so_far.further, c.in-Some.ensures.further, one.further);
     }
@@ -43,11 +43,12 @@ loop-from-preserved g c =
     let v = c.args.tokens.now in
     let s = c.args.s in
     let so_far = c.loop-from.invariant in
+    let more = c.in_ok-at_field.ensures in
     let next = path_field v s.left s.edge so_far.path c.in-Some-after_mark.from c.in-Some-after_mark.ensures.there c.in-Some-after_mark.ensures.rest c.in_ok-field.next (field_seen v.bytes.items c.in_ok-field.field) c.in_ok-field.ensures.value in
     record {
-      path = rw (c.in_ok-push-3.ensures.items, map_push, c.in_ok-name_of.ensures) next;
+      path = rw (more.steps, more.ids, more.nesting) next;
       kept = so_far.kept;
-      small = so_far.small;
+      small = omega (arith, more.nesting, so_far.small);
       inside = c.in_ok-field.ensures.inside;
       further = omega (arith, so_far.further, c.in-Some-after_mark.ensures.further, c.in_ok-field.ensures.further);
     }

@@ -10,9 +10,9 @@ use Rattle.expr_lists.proofs.read_path.path.Given as goal
 abbrev pub invariant-loop-from : goal.invariant-loop-from
 invariant-loop-from g l =
     record {
-      path : PathSoFar l.tokens l.pool l.s.left l.s.edge l.at (steps_of l.steps.items) l.ids.items l.nesting ((whole (Some l.s.left)).path l.s.edge (ahead l.tokens l.s.at));
+      path : PathSoFar l.tokens l.pool l.s.left l.s.edge l.at (steps_of l.route.steps.items) l.route.ids.items l.route.nesting ((whole (Some l.s.left)).path l.s.edge (ahead l.tokens l.s.at));
       kept : Keeps l.fn.pool l.pool;
-      small : l.nesting ≤ l.s.left;
+      small : l.route.nesting ≤ l.s.left;
       inside : l.at ≤ length l.tokens.items.items;
       further : l.s.at ≤ l.at;
     }

@@ -7,16 +7,16 @@ use Rattle.expr_nodes.specs.Ahead.{ahead}
 use Rattle.expr_lists.proofs.ReadSettings.{SettingsSoFar, MayHavePaths}
 use Rattle.expr_lists.proofs.read_setting.settings.Given as goal
 
-abbrev pub invariant-loop-ids : goal.invariant-loop-ids
-invariant-loop-ids g l =
+abbrev pub invariant-loop-all : goal.invariant-loop-all
+invariant-loop-all g l =
     record {
-      settings : SettingsSoFar l.tokens l.pool l.s.left l.s.edge l.place l.at (slots_of l.slots.items) l.ids.items l.nesting ((whole (Some l.s.left)).settings l.s.edge (ahead l.tokens l.s.at));
+      settings : SettingsSoFar l.tokens l.pool l.s.left l.s.edge l.place l.at (slots_of l.all.slots.items) l.all.ids.items l.all.nesting ((whole (Some l.s.left)).settings l.s.edge (ahead l.tokens l.s.at));
       kept : Keeps l.fn.pool l.pool;
-      paths : MayHavePaths (slots_of l.slots.items);
-      small : l.nesting ≤ l.s.left;
+      paths : MayHavePaths (slots_of l.all.slots.items);
+      small : l.all.nesting ≤ l.s.left;
       inside : l.at ≤ length l.tokens.items.items;
       further : l.s.at ≤ l.at;
     }
 
-abbrev pub decreases-loop-ids : goal.decreases-loop-ids
-decreases-loop-ids g l = length l.tokens.items.items - l.at
+abbrev pub decreases-loop-all : goal.decreases-loop-all
+decreases-loop-all g l = length l.tokens.items.items - l.at

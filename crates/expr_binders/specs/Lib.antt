@@ -1,0 +1,3 @@
+pub mod Grouped
+pub mod Functions
+pub mod InBraces
