@@ -1,5 +1,5 @@
 -- Proves that labels get their names, in the order of the text.
-use Rattle.std.proofs.Common.{List, [], ◌∷◌, Vec, Global, sym, ap, subst, ◌∙◌, arith}
+use Rattle.std.proofs.Common.{List, [], ◌∷◌, Vec, Global, sym, ap, subst, arith}
 use Rattle.std.proofs.lemmas.Result.{on_ok_weaker}
 use Rattle.tla_tree.specs.Tree.{Name, words}
 use Rattle.tla_tree.proofs.PoolNumbers.{past_at}
