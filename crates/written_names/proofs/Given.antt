@@ -1,9 +1,9 @@
 -- Words that get names after others.
-use Rattle.std.proofs.Common.{◌≡◌, ◌==◌, ℕ, List, [], ◌∷◌, ◌++◌, Bool, true, false, ◌||◌, cond, bytes_eq, Option, Some, None, refl, sym, ◌∙◌, ap, subst, append-nil}
+use Rattle.std.proofs.Common.{◌≡◌, List, [], ◌∷◌, ◌++◌, Bool, true, false, cond, bytes_eq, Option, Some, None, refl, sym, ◌∙◌, ap, subst}
 use Rattle.tla_token.specs.Signs.{is_among}
 use Rattle.tla_tree.specs.Tree.{Word}
 use Rattle.pcal_tree.specs.Names.{first_free}
-use Rattle.written_names.specs.Giving.{SameNames, taken_after, first_named, Known, Knows, Pairs, found, first_of, Gives}
+use Rattle.written_names.specs.Giving.{taken_after, first_named, Known, Knows, Pairs, found, first_of, Gives}
 
 pub taken_later : (extended taken ws vs : List Word) → taken_after extended taken (ws ++ vs) ≡ taken_after extended (taken_after extended taken ws) vs
 taken_later extended taken [] vs = refl

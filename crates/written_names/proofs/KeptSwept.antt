@@ -1,14 +1,13 @@
 -- That the names of all marked expressions are added, from the greatest number down; and what is known at the start and in the end.
-use Rattle.std.proofs.Common.{◌≡◌, ℕ, zero, suc, ◌+◌, ◌<◌, ◌≤◌, List, [], ◌∷◌, ◌++◌, length, map, replicate, take, get_or, Bool, true, false, ◌&&◌, ◌||◌, refl, sym, ap, subst, ◌∙◌, arith, append-nil}
+use Rattle.std.proofs.Common.{◌≡◌, ℕ, zero, suc, ◌+◌, ◌<◌, ◌≤◌, List, [], ◌∷◌, ◌++◌, length, replicate, take, get_or, Bool, true, false, ◌&&◌, ◌||◌, refl, sym, ap, ◌∙◌, arith, append-nil}
 use Rattle.std.specs.List.{flat_map}
-use Rattle.std.proofs.lemmas.List.{take_more, take_all, map-append}
-use Rattle.std.proofs.lemmas.Grind.{flat_map-append}
+use Rattle.std.proofs.lemmas.List.{take_more, map-append}
 use Rattle.tla_token.specs.Signs.{is_among}
 use Rattle.tla_token.specs.declared.place.Place.{Place}
 use Rattle.tla_tree.specs.declared.op.Binder.{Binder}
 use Rattle.tla_tree.specs.Tree.{Name, Word, Form, binding, local, Tree, node, words}
 use Rattle.tla_tree.specs.Pool.{at, trees_at}
-use Rattle.pcal_tree.specs.BoundNames.{Lists, all_of, lists_of, lists_in}
+use Rattle.pcal_tree.specs.BoundNames.{all_of, lists_of, lists_in}
 use Rattle.pcal_tree.proofs.SetLaws.{or_both}
 use Rattle.written_names.specs.declared.kept.Kept.{Kept}
 use Rattle.written_names.specs.Giving.{SameNames}

@@ -1,6 +1,6 @@
 -- That names are added part by part.
-use Rattle.std.proofs.Common.{◌≡◌, ℕ, zero, suc, ◌+◌, ◌<◌, ◌≤◌, List, [], ◌∷◌, ◌++◌, length, map, take, drop, get_or, slice_index_or, set, Bool, true, false, ◌&&◌, ◌||◌, bytes_eq, refl, sym, ap, subst, ◌∙◌, append-nil, arith}
-use Rattle.std.specs.List.{flat_map, list_any}
+use Rattle.std.proofs.Common.{◌≡◌, ℕ, zero, suc, ◌+◌, ◌<◌, ◌≤◌, List, [], ◌∷◌, ◌++◌, length, map, take, get_or, slice_index_or, set, Bool, true, false, ◌&&◌, ◌||◌, bytes_eq, refl, sym, ap, subst, ◌∙◌, append-nil, arith}
+use Rattle.std.specs.List.{flat_map}
 use Rattle.std.proofs.lemmas.List.{take_more, take_all}
 use Rattle.std.proofs.lemmas.List.Folds.{list_any-append}
 use Rattle.std.proofs.lemmas.Grind.{flat_map-append}
@@ -10,9 +10,8 @@ use Rattle.tla_tree.specs.Pool.{at}
 use Rattle.tla_tree.specs.Nesting.{greatest}
 use Rattle.pcal_tree.proofs.SetLaws.{or_both}
 use Rattle.algorithm_limits.specs.DepthsIn.{Hides}
-use Rattle.algorithm_limits.proofs.Tables.{equal, same_test}
 use Rattle.written_names.specs.declared.kept.Kept.{Kept}
-use Rattle.written_names.specs.Kept.{bound_words, binds, bound_by, holds, Adds, expr_words}
+use Rattle.written_names.specs.Kept.{binds, bound_by, holds, Adds, expr_words}
 use Rattle.written_names.proofs.Steps.{has_is}
 
 pub among_both : (xs ys : List Word) (w : Word) → is_among (xs ++ ys) w ≡ (is_among xs w || is_among ys w)

@@ -1,9 +1,9 @@
 -- The names of an algorithm in memory are those that its definition keeps, in another order.
-use Rattle.std.proofs.Common.{◌≡◌, ℕ, List, [], ◌∷◌, ◌++◌, map, Bool, true, false, ◌||◌, bytes_eq, refl, sym, ap, ◌∙◌, append-nil, append_assoc}
+use Rattle.std.proofs.Common.{◌≡◌, List, [], ◌∷◌, ◌++◌, map, Bool, true, false, ◌||◌, refl, sym, ap, ◌∙◌, append_assoc}
 use Rattle.std.specs.List.{flat_map}
 use Rattle.std.proofs.lemmas.Grind.{flat_map-append}
 use Rattle.tla_token.specs.Signs.{is_among}
-use Rattle.tla_tree.specs.Tree.{Name, Word, Tree, words}
+use Rattle.tla_tree.specs.Tree.{Word, Tree, words}
 use Rattle.tla_tree.specs.Pool.{at}
 use Rattle.pcal_tree.specs.declared.algorithm.Start as code_start
 use Rattle.pcal_tree.specs.declared.algorithm.Start.TheVariants as start
@@ -16,8 +16,8 @@ use Rattle.pcal_tree.specs.declared.algorithm.Main.{Main}
 use Rattle.pcal_tree.specs.declared.algorithm.Main.TheVariants as main
 use Rattle.pcal_tree.specs.declared.algorithm.Algorithm.{Algorithm}
 use Rattle.pcal_tree.specs.Algorithm as tree
-use Rattle.pcal_tree.specs.InMemory.{start_at, declaration_at, declarations_at, definition_at, definitions_at, macro_at, procedure_at, process_at, main_at, algorithm_at, statements_at}
-use Rattle.pcal_tree.specs.BoundNames.{Lists, all_of, lists_in, lists_in_body, lists_in_start, lists_in_declared, lists_in_procedure, lists_in_process, lists_in_main, bound_lists}
+use Rattle.pcal_tree.specs.InMemory.{start_at, declarations_at, definitions_at, macro_at, procedure_at, process_at, main_at, algorithm_at, statements_at}
+use Rattle.pcal_tree.specs.BoundNames.{Lists, lists_in, lists_in_body, lists_in_start, lists_in_declared, lists_in_procedure, lists_in_process, lists_in_main}
 use Rattle.pcal_tree.specs.Variables.{declared}
 use Rattle.pcal_tree.specs.Names.{kept}
 use Rattle.pcal_tree.proofs.SetLaws.{or_both, or_mixed}

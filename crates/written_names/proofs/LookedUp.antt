@@ -6,11 +6,11 @@ use Rattle.pcal_tree.specs.OffencesLabels.{label_words}
 use Rattle.pcal_tree.specs.Variables.{declared}
 use Rattle.std.specs.List.{flat_map}
 use Rattle.tla_tree.specs.Tree.{Word}
-use Rattle.pcal_tree.specs.Algorithm.{Procedure, Process, Main, alone, processes, Algorithm, Naming, numbered, procedure_routine, process_routine, first_procedure, first_process}
+use Rattle.pcal_tree.specs.Algorithm.{Procedure, Process, Main, alone, processes, Algorithm, numbered, procedure_routine, process_routine, first_procedure, first_process}
 use Rattle.pcal_tree.specs.Names.{first_free, Role, title, variable, label, Want, wants, Given, give, same_role, is_for, written_for, title_for, naming_by, wanted, wanted_by, wanted_by_main}
 use Rattle.written_names.specs.declared.naming.UnitNames.{UnitNames}
-use Rattle.written_names.specs.Giving.{taken_after, first_named, Pairs, found, first_of}
-use Rattle.written_names.specs.Units.{no_names, naming_of, Asked, asked_procedure, asked_process, asked_main, asked, title_given, after_unit, after_units, IsUnit, AreUnits}
+use Rattle.written_names.specs.Giving.{taken_after, first_named, found, first_of}
+use Rattle.written_names.specs.Units.{no_names, naming_of, Asked, asked_procedure, asked_process, asked_main, asked, title_given, after_unit, AreUnits}
 use Rattle.written_names.proofs.Given.{first_none}
 
 -- ---- what is found, if anything

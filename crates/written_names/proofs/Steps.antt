@@ -1,8 +1,7 @@
 -- What is known of names stays known when one more is given, and the first name of a word is the one that is kept.
-use Rattle.std.proofs.Common.{◌≡◌, ◌==◌, ℕ, suc, ◌+◌, ◌<◌, ◌≤◌, ◌^◌, nat_lt, nat_eq, List, [], ◌∷◌, ◌++◌, Bool, true, false, ◌||◌, cond, bytes_eq, Option, Some, None, is_some, refl, sym, ◌∙◌, ap, subst, arith, true≢false, ltb-true, ltb-false}
+use Rattle.std.proofs.Common.{◌≡◌, ℕ, ◌+◌, nat_lt, List, [], ◌∷◌, Bool, true, false, ◌||◌, cond, bytes_eq, Option, Some, None, is_some, refl, sym, ◌∙◌, ap, subst, arith, true≢false, ltb-true, ltb-false}
 use Rattle.std.specs.Prelude.{if◌then◌else◌}
 use Rattle.std.specs.List.{list_any}
-use Rattle.std.specs.Map.{lookup}
 use Rattle.std.proofs.lemmas.Slice.Eq.{bytes_eq-Decides}
 use Rattle.std.proofs.lemmas.List.Folds.{list_any-append}
 use Rattle.indexmap.specs.IndexMap.{insert_entry}
@@ -14,7 +13,7 @@ use Rattle.pcal_tree.proofs.SetLaws.{any_same}
 use Rattle.algorithm_limits.specs.Numbers as numbers
 use Rattle.algorithm_limits.specs.Numbers.{Numbers, number_of}
 use Rattle.algorithm_limits.specs.DepthsIn.{Hides}
-use Rattle.algorithm_limits.proofs.Tables.{equal, equal_is, same_test, number_of_with}
+use Rattle.algorithm_limits.proofs.Tables.{equal, same_test, number_of_with}
 use Rattle.written_names.specs.Giving.{SameNames, TakenFrom, AreTried, IsFound, Known, Knows, Pairs, found, first_of}
 use Rattle.written_names.proofs.FirstFree.{numbered_free, plain_free}
 

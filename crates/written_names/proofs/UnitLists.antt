@@ -1,5 +1,5 @@
 -- Routines that get their names one after another.
-use Rattle.std.proofs.Common.{◌≡◌, ℕ, ◌+◌, ◌<◌, ◌≤◌, List, [], ◌∷◌, ◌++◌, length, map, take, drop, get_or, replicate, refl, sym, ap, subst, ◌∙◌, append-nil, append_assoc}
+use Rattle.std.proofs.Common.{◌≡◌, ℕ, ◌+◌, ◌<◌, ◌≤◌, List, [], ◌∷◌, ◌++◌, length, map, take, get_or, replicate, refl, sym, ap, subst, ◌∙◌, append-nil, append_assoc}
 use Rattle.std.proofs.lemmas.List.{take_more, take_all, map-append, length-map}
 use Rattle.tla_tree.specs.Tree.{Word, Tree}
 use Rattle.pcal_tree.specs.declared.algorithm.Algorithm as code
@@ -8,7 +8,7 @@ use Rattle.pcal_tree.specs.InMemory.{procedure_at, macro_at, main_at, algorithm_
 use Rattle.pcal_tree.specs.Names.{give, wanted, naming_by}
 use Rattle.written_names.specs.declared.naming.UnitNames.{UnitNames}
 use Rattle.written_names.specs.Giving.{Known, Knows}
-use Rattle.written_names.specs.Units.{no_names, naming_of, Asked, asked_procedure, asked_main, asked, after_unit, after_units, IsUnit, AreUnits, NamesUnit, NamesUnits, AddsUnits}
+use Rattle.written_names.specs.Units.{no_names, naming_of, Asked, asked_procedure, asked_main, asked, after_unit, after_units, AreUnits, NamesUnit, AddsUnits}
 use Rattle.written_names.proofs.LookedUp.{naming_is, wanted_is}
 
 after_both : (extended taken : List Word) (qs rs : List Asked) → after_units extended taken (qs ++ rs) ≡ after_units extended (after_units extended taken qs) rs

@@ -1,5 +1,5 @@
 -- Names that the labels of each kind of statement get, and those of a whole routine.
-use Rattle.std.proofs.Common.{◌≡◌, ℕ, ◌+◌, ◌<◌, ◌≤◌, List, [], ◌∷◌, ◌++◌, length, map, take, drop, get_or, Vec, Global, refl, sym, ap, subst, ◌∙◌, append-nil, append_assoc, Bool, false}
+use Rattle.std.proofs.Common.{◌≡◌, ℕ, ◌+◌, ◌<◌, ◌≤◌, List, [], ◌∷◌, ◌++◌, length, map, take, drop, get_or, Vec, Global, refl, sym, ap, subst, ◌∙◌, Bool, false}
 use Rattle.std.proofs.lemmas.Simd.{map-map}
 use Rattle.std.proofs.lemmas.List.{drop_more, drop_all, take_more, take_all, map-append}
 use Rattle.tla_tree.specs.Tree.{Word, Tree, words}
@@ -14,8 +14,8 @@ use Rattle.pcal_tree.specs.declared.algorithm.Stmt.TheVariants.{Label, Simple, I
 use Rattle.pcal_tree.specs.declared.algorithm.Declaration.{Declaration}
 use Rattle.pcal_tree.specs.declared.algorithm.Procedure as code_procedure
 use Rattle.pcal_tree.specs.declared.algorithm.Process as code_process
-use Rattle.pcal_tree.specs.Algorithm.{Name, Statement, branch, either, with, while, Statements, done, then, mark, Branches}
-use Rattle.pcal_tree.specs.InMemory.{span_of, simple_at, binds_at, Before, stmt_at, statements_at, branches_at, declarations_at, declaration_at, procedure_at, process_at}
+use Rattle.pcal_tree.specs.Algorithm.{Name, branch, either, with, while, Statements, then, mark}
+use Rattle.pcal_tree.specs.InMemory.{span_of, simple_at, binds_at, Before, stmt_at, statements_at, branches_at, declarations_at, procedure_at, process_at}
 use Rattle.pcal_tree.specs.OffencesLabels.{Label as Counted, labels, label_words}
 use Rattle.pcal_tree.specs.Variables.{declared}
 use Rattle.pcal_tree.proofs.InMemoryEach.{label_at, simple_in_list_at, if_at, either_at, with_at, while_at}
@@ -24,8 +24,8 @@ use Rattle.algorithm_limits.specs.LabelNames.{names_of_one, label_names, names_o
 use Rattle.algorithm_limits.proofs.LabelWalks.{named}
 use Rattle.pcal_tree.specs.Names.{first_free}
 use Rattle.written_names.specs.declared.naming.UnitNames.{UnitNames}
-use Rattle.written_names.specs.Giving.{taken_after, Known, Knows, Pairs, found, Gives}
-use Rattle.written_names.specs.Units.{Asked, asked_procedure, asked_process, asked_alone, IsWithin, NamesWithin, NamesUnit, NamesStmt}
+use Rattle.written_names.specs.Giving.{taken_after, Known, Knows, Pairs, Gives}
+use Rattle.written_names.specs.Units.{asked_procedure, asked_process, IsWithin, NamesWithin, NamesUnit, NamesStmt}
 use Rattle.written_names.proofs.Given.{gives_none, gives_then, gives_as}
 
 -- ---- declarations

@@ -1,5 +1,5 @@
 -- The written names of routines, one routine after another, and the naming that looks them up.
-use Rattle.std.specs.Prelude.{◌≡◌, ℕ, suc, List, [], ◌∷◌, ◌++◌, Bool, cond, map, get_or, nat_eq, unwrap_or}
+use Rattle.std.specs.Prelude.{◌≡◌, List, [], ◌∷◌, ◌++◌, map, get_or, unwrap_or}
 use Rattle.std.specs.Coded.{Coded, codes}
 use Rattle.tla_tree.specs.Tree.{Word, Tree, words}
 use Rattle.pcal_tree.specs.declared.algorithm.Stmt.{Stmt}

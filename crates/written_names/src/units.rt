@@ -165,11 +165,7 @@ pub fn process_names(
 /// # Errors
 ///
 /// Only for want of memory.
-pub fn alone_names(
-    alloc: Global,
-    giver: &mut Giver,
-    body: &[Stmt],
-) -> Result<UnitNames, AllocError>
+pub fn alone_names(alloc: Global, giver: &mut Giver, body: &[Stmt]) -> Result<UnitNames, AllocError>
     ensures { IfOk result (λ u. (ts : List Tree) → NamesUnit giver.old giver.new (asked_alone (statements_at ts body.now)) u) }
 {
     names_within(alloc, giver, Name::new(Vec::new(alloc)), &[], &[], body)

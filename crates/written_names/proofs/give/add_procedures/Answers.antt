@@ -1,5 +1,5 @@
 -- Proves that those that were passed have their names.
-use Rattle.std.proofs.Common.{map, sym, subst}
+use Rattle.std.proofs.Common.{sym, subst}
 use Rattle.std.proofs.lemmas.Simd.{map-map}
 use Rattle.pcal_tree.specs.InMemory.{procedure_at}
 use Rattle.written_names.specs.Units.{asked_procedure, AddsUnits}

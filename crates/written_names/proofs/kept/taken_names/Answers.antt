@@ -1,5 +1,5 @@
 -- Proves that the names are those that are taken from the start.
-use Rattle.std.proofs.Common.{◌++◌, ◌||◌, ◌∙◌, ap, sym}
+use Rattle.std.proofs.Common.{◌||◌, ◌∙◌, ap, sym}
 use Rattle.tla_token.specs.Signs.{is_among}
 use Rattle.pcal_tree.specs.Names.{kept}
 use Rattle.pcal_tree.specs.InMemory.{algorithm_at}

@@ -1,5 +1,5 @@
 -- Proves that labels get their names, in the order of the text.
-use Rattle.std.proofs.Common.{List, [], ◌∷◌, Vec, Global, sym, ap, subst, ◌∙◌, arith}
+use Rattle.std.proofs.Common.{List, [], ◌∷◌, Vec, Global, sym, ap, subst, arith}
 use Rattle.std.proofs.lemmas.Result.{on_ok_weaker}
 use Rattle.tla_tree.specs.Tree.{Name, words}
 use Rattle.tla_tree.proofs.PoolNumbers.{past_at}
@@ -46,9 +46,9 @@ name_statements-returns t c = λ ts. c.loop-stmt.invariant ts c.loop-stmt.giver 
 pub name_stmt-returns-in-Label : goal.name_stmt-returns-in-Label
 name_stmt-returns-in-Label t c =
     on_ok_weaker c.name_one.result (λ g ts.
-        subst (λ (z : Stmt). NamesStmt ts z c.args.giver.now c.name_one.new.giver c.args.into.now c.name_one.new.into) (sym c.in-Label.is)
-        (label_named ts c.args.giver.now c.name_one.new.giver c.args.into.now c.name_one.new.into c.in-Label.name c.in-Label.field-1
-        (gives_as c.args.giver.now c.name_one.new.giver c.args.into.now c.name_one.new.into _ _ (ap (λ (x : Name). x.word ∷ []) c.name.view_is) g)))
+    subst (λ (z : Stmt). NamesStmt ts z c.args.giver.now c.name_one.new.giver c.args.into.now c.name_one.new.into) (sym c.in-Label.is)
+    (label_named ts c.args.giver.now c.name_one.new.giver c.args.into.now c.name_one.new.into c.in-Label.name c.in-Label.field-1
+    (gives_as c.args.giver.now c.name_one.new.giver c.args.into.now c.name_one.new.into _ _ (ap (λ (x : Name). x.word ∷ []) c.name.view_is) g)))
     c.name_one.ensures
 
 pub name_stmt-returns-in-Simple : goal.name_stmt-returns-in-Simple
@@ -59,32 +59,32 @@ name_stmt-returns-in-Simple t c = λ ts.
 pub name_stmt-returns-in_ok-name_statements-in-If : goal.name_stmt-returns-in_ok-name_statements-in-If
 name_stmt-returns-in_ok-name_statements-in-If t c =
     on_ok_weaker c.name_statements-in-If.result (λ g ts.
-        subst (λ (z : Stmt). NamesStmt ts z c.args.giver.now c.name_statements-in-If.new.giver c.args.into.now c.name_statements-in-If.new.into) (sym c.in-If.is)
-        (if_named ts c.args.giver.now c.name_statements.new.giver c.name_statements-in-If.new.giver c.args.into.now c.name_statements.new.into c.name_statements-in-If.new.into c.in-If.field-0 c.in-If.field-1 c.in-If.then c.in-If.otherwise
-        (gives_as c.args.giver.now c.name_statements.new.giver c.args.into.now c.name_statements.new.into _ _ (ap (λ (ys : List Stmt). words (label_names (statements_at ts ys))) c.deref.ensures.value) (c.in_ok-name_statements-in-If.ensures ts))
-        (gives_as c.name_statements.new.giver c.name_statements-in-If.new.giver c.name_statements.new.into c.name_statements-in-If.new.into _ _ (ap (λ (ys : List Stmt). words (label_names (statements_at ts ys))) c.deref-in-If.ensures.value) (g ts))))
+    subst (λ (z : Stmt). NamesStmt ts z c.args.giver.now c.name_statements-in-If.new.giver c.args.into.now c.name_statements-in-If.new.into) (sym c.in-If.is)
+    (if_named ts c.args.giver.now c.name_statements.new.giver c.name_statements-in-If.new.giver c.args.into.now c.name_statements.new.into c.name_statements-in-If.new.into c.in-If.field-0 c.in-If.field-1 c.in-If.then c.in-If.otherwise
+    (gives_as c.args.giver.now c.name_statements.new.giver c.args.into.now c.name_statements.new.into _ _ (ap (λ (ys : List Stmt). words (label_names (statements_at ts ys))) c.deref.ensures.value) (c.in_ok-name_statements-in-If.ensures ts))
+    (gives_as c.name_statements.new.giver c.name_statements-in-If.new.giver c.name_statements.new.into c.name_statements-in-If.new.into _ _ (ap (λ (ys : List Stmt). words (label_names (statements_at ts ys))) c.deref-in-If.ensures.value) (g ts))))
     c.name_statements-in-If.ensures
 
 pub name_stmt-returns-in-Either : goal.name_stmt-returns-in-Either
 name_stmt-returns-in-Either t c =
     on_ok_weaker c.name_branches.result (λ g ts.
-        subst (λ (z : Stmt). NamesStmt ts z c.args.giver.now c.name_branches.new.giver c.args.into.now c.name_branches.new.into) (sym c.in-Either.is)
-        (either_named ts c.args.giver.now c.name_branches.new.giver c.args.into.now c.name_branches.new.into c.in-Either.field-0 c.in-Either.list
-        (gives_as c.args.giver.now c.name_branches.new.giver c.args.into.now c.name_branches.new.into _ _ (ap (λ (ys : List (Vec Stmt Global)). words (names_of_some (branches_at ts ys))) c.deref-in-Either.ensures.value) (g ts))))
+    subst (λ (z : Stmt). NamesStmt ts z c.args.giver.now c.name_branches.new.giver c.args.into.now c.name_branches.new.into) (sym c.in-Either.is)
+    (either_named ts c.args.giver.now c.name_branches.new.giver c.args.into.now c.name_branches.new.into c.in-Either.field-0 c.in-Either.list
+    (gives_as c.args.giver.now c.name_branches.new.giver c.args.into.now c.name_branches.new.into _ _ (ap (λ (ys : List (Vec Stmt Global)). words (names_of_some (branches_at ts ys))) c.deref-in-Either.ensures.value) (g ts))))
     c.name_branches.ensures
 
 pub name_stmt-returns-in-With : goal.name_stmt-returns-in-With
 name_stmt-returns-in-With t c =
     on_ok_weaker c.name_statements-in-With.result (λ g ts.
-        subst (λ (z : Stmt). NamesStmt ts z c.args.giver.now c.name_statements-in-With.new.giver c.args.into.now c.name_statements-in-With.new.into) (sym c.in-With.is)
-        (with_named ts c.args.giver.now c.name_statements-in-With.new.giver c.args.into.now c.name_statements-in-With.new.into c.in-With.field-0 c.in-With.field-1 c.in-With.body
-        (gives_as c.args.giver.now c.name_statements-in-With.new.giver c.args.into.now c.name_statements-in-With.new.into _ _ (ap (λ (ys : List Stmt). words (label_names (statements_at ts ys))) c.deref-in-With.ensures.value) (g ts))))
+    subst (λ (z : Stmt). NamesStmt ts z c.args.giver.now c.name_statements-in-With.new.giver c.args.into.now c.name_statements-in-With.new.into) (sym c.in-With.is)
+    (with_named ts c.args.giver.now c.name_statements-in-With.new.giver c.args.into.now c.name_statements-in-With.new.into c.in-With.field-0 c.in-With.field-1 c.in-With.body
+    (gives_as c.args.giver.now c.name_statements-in-With.new.giver c.args.into.now c.name_statements-in-With.new.into _ _ (ap (λ (ys : List Stmt). words (label_names (statements_at ts ys))) c.deref-in-With.ensures.value) (g ts))))
     c.name_statements-in-With.ensures
 
 pub name_stmt-returns-in-While : goal.name_stmt-returns-in-While
 name_stmt-returns-in-While t c =
     on_ok_weaker c.name_statements-in-While.result (λ g ts.
-        subst (λ (z : Stmt). NamesStmt ts z c.args.giver.now c.name_statements-in-While.new.giver c.args.into.now c.name_statements-in-While.new.into) (sym c.in-While.is)
-        (while_named ts c.args.giver.now c.name_statements-in-While.new.giver c.args.into.now c.name_statements-in-While.new.into c.in-While.field-0 c.in-While.field-1 c.in-While.body
-        (gives_as c.args.giver.now c.name_statements-in-While.new.giver c.args.into.now c.name_statements-in-While.new.into _ _ (ap (λ (ys : List Stmt). words (label_names (statements_at ts ys))) c.deref-in-While.ensures.value) (g ts))))
+    subst (λ (z : Stmt). NamesStmt ts z c.args.giver.now c.name_statements-in-While.new.giver c.args.into.now c.name_statements-in-While.new.into) (sym c.in-While.is)
+    (while_named ts c.args.giver.now c.name_statements-in-While.new.giver c.args.into.now c.name_statements-in-While.new.into c.in-While.field-0 c.in-While.field-1 c.in-While.body
+    (gives_as c.args.giver.now c.name_statements-in-While.new.giver c.args.into.now c.name_statements-in-While.new.into _ _ (ap (λ (ys : List Stmt). words (label_names (statements_at ts ys))) c.deref-in-While.ensures.value) (g ts))))
     c.name_statements-in-While.ensures

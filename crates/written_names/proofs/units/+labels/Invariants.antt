@@ -1,5 +1,5 @@
 -- Why the calls that name labels end, and what their loops keep: what is left of a list still gives the whole.
-use Rattle.std.proofs.Common.{◌≡◌, ◌+◌, ◌*◌, List, drop}
+use Rattle.std.proofs.Common.{◌+◌, ◌*◌, List, drop}
 use Rattle.tla_tree.specs.Tree.{Tree, words}
 use Rattle.pcal_tree.specs.InMemory.{statements_at, branches_at}
 use Rattle.pcal_tree.proofs.StatementHeights.{height, heights, branch_heights}

@@ -9,8 +9,11 @@ use Rattle.written_names.proofs.UnitWalks.{within_all}
 use Rattle.written_names.proofs.units.names_within.Goals as goal
 
 pub returns : goal.returns
-returns c = (refl, λ ts.
-    within_all c.args.giver.now c.name_declared.new.giver c.name_declared-2.new.giver c.name_statements.new.giver (declared_names c.args.params.now) (declared_names c.args.variables.now) (label_names (statements_at ts c.args.body.now)) _ c.name_declared.new.into
-    (subst (λ (z : Pairs). Gives c.args.giver.now c.name_declared.new.giver z c.name_declared.new.into (words (declared_names c.args.params.now))) c.new-names.ensures c.in_ok-name_declared.ensures)
-    c.in_ok-name_declared-2.ensures
-    (subst (λ (z : Pairs). Gives c.name_declared-2.new.giver c.name_statements.new.giver z c.name_statements.new.into (words (label_names (statements_at ts c.args.body.now)))) c.new-labels.ensures (c.in_ok-name_statements.ensures ts)))
+returns c = (
+  refl,
+  λ ts.
+      within_all c.args.giver.now c.name_declared.new.giver c.name_declared-2.new.giver c.name_statements.new.giver (declared_names c.args.params.now) (declared_names c.args.variables.now) (label_names (statements_at ts c.args.body.now)) _ c.name_declared.new.into
+      (subst (λ (z : Pairs). Gives c.args.giver.now c.name_declared.new.giver z c.name_declared.new.into (words (declared_names c.args.params.now))) c.new-names.ensures c.in_ok-name_declared.ensures)
+      c.in_ok-name_declared-2.ensures
+      (subst (λ (z : Pairs). Gives c.name_declared-2.new.giver c.name_statements.new.giver z c.name_statements.new.into (words (label_names (statements_at ts c.args.body.now)))) c.new-labels.ensures (c.in_ok-name_statements.ensures ts)),
+)

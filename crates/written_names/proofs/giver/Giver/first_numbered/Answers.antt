@@ -1,5 +1,5 @@
 -- Proves that the first number that is free is found.
-use Rattle.std.proofs.Common.{◌≡◌, ◌+◌, ◌∙◌, arith}
+use Rattle.std.proofs.Common.{◌+◌, ◌∙◌, arith}
 use Rattle.written_names.proofs.Steps.{is_known, up_to_number, one_more_taken}
 use Rattle.written_names.proofs.giver.Giver.first_numbered.Goals as goal
 

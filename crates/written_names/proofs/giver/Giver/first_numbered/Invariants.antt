@@ -1,5 +1,5 @@
 -- What is kept while numbers are tried: the names with those before are taken.
-use Rattle.std.proofs.Common.{◌≡◌, ◌+◌}
+use Rattle.std.proofs.Common.{◌+◌}
 use Rattle.written_names.specs.Giving.{AreTried, TakenFrom}
 use Rattle.written_names.proofs.giver.Giver.first_numbered.Given as goal
 

@@ -1,5 +1,5 @@
 -- Proves that a word gets the first name that is free, which is taken then.
-use Rattle.std.proofs.Common.{◌≡◌, refl, sym, ap, subst, ◌∙◌}
+use Rattle.std.proofs.Common.{refl, sym, ap, subst, ◌∙◌}
 use Rattle.tla_tree.specs.Tree.{Word}
 use Rattle.algorithm_limits.specs.Numbers.{with_number}
 use Rattle.pcal_tree.specs.Names.{is_taken as is_taken_of}

@@ -1,5 +1,5 @@
 -- Proves that a name is taken as it is defined.
-use Rattle.std.proofs.Common.{◌≡◌, sym, ap, ◌∙◌}
+use Rattle.std.proofs.Common.{sym, ap, ◌∙◌}
 use Rattle.written_names.specs.Giving.{Known}
 use Rattle.written_names.proofs.Steps.{is_known, not_word}
 use Rattle.written_names.proofs.giver.Giver.is_taken.Goals as goal

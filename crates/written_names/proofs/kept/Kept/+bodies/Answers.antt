@@ -49,9 +49,10 @@ pub branches-returns-clause-adds : goal.branches-returns-clause-adds
 branches-returns-clause-adds t c = λ ts. c.loop-i.invariant.rest ts c.loop-i.self (branches_over ts c.loop-i.self c.args.list.now c.loop-i.i c.loop-i-test.false)
 
 pub stmt-branches-requires : goal.stmt-branches-requires
-stmt-branches-requires t c =
-    (omega (arith, either_height c.in-Either.field-0 c.in-Either.list, ap branch_heights c.deref-in-Either.ensures.value, ap height c.in-Either.is, c.decreases),
-    omega (arith, past_either c.in-Either.field-0 c.in-Either.list, ap past_branches c.deref-in-Either.ensures.value, ap past_stmt c.in-Either.is, c.requires))
+stmt-branches-requires t c = (
+  omega (arith, either_height c.in-Either.field-0 c.in-Either.list, ap branch_heights c.deref-in-Either.ensures.value, ap height c.in-Either.is, c.decreases),
+  omega (arith, past_either c.in-Either.field-0 c.in-Either.list, ap past_branches c.deref-in-Either.ensures.value, ap past_stmt c.in-Either.is, c.requires),
+)
 
 pub stmt-returns-in-Simple-clause-adds : goal.stmt-returns-in-Simple-clause-adds
 stmt-returns-in-Simple-clause-adds t c = λ ts.

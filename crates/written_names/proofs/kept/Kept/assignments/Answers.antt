@@ -1,7 +1,7 @@
 -- Proves that the names of assignments are added.
 use Rattle.std.proofs.Common.{arith, ◌∙◌}
 use Rattle.pcal_tree.specs.InMemory.{past_assignment}
-use Rattle.written_names.specs.Kept.{expr_words, assignment_words}
+use Rattle.written_names.specs.Kept.{assignment_words}
 use Rattle.written_names.proofs.KeptWalks.{past_item, adds_then, adds_item, adds_all}
 use Rattle.written_names.proofs.kept.Kept.assignments.Goals as goal
 

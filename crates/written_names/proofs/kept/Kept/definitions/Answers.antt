@@ -1,5 +1,5 @@
 -- Proves that definitions, their parameters and the names of their bodies are added.
-use Rattle.std.proofs.Common.{◌≤◌, ◌<◌, length, arith, sym, ap, subst, ◌∙◌}
+use Rattle.std.proofs.Common.{◌<◌, length, arith, sym, ap, subst, ◌∙◌}
 use Rattle.tla_tree.specs.Tree.{words}
 use Rattle.tla_tree.proofs.PoolNumbers.{past_at}
 use Rattle.pcal_tree.specs.declared.algorithm.Definition.{Definition}

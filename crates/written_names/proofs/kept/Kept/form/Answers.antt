@@ -1,11 +1,11 @@
 -- Proves that the names that a form binds are added.
-use Rattle.std.proofs.Common.{List, Vec, Global, refl, sym, ap, subst, ◌∙◌}
+use Rattle.std.proofs.Common.{List, Vec, Global, refl, sym, ap, ◌∙◌}
 use Rattle.std.specs.List.{flat_map}
 use Rattle.tla_tree.specs.Tree.{Name, words}
 use Rattle.tla_pool.specs.declared.form.Form.{Form}
 use Rattle.tla_pool.specs.FormOf.{groups_of, form_of}
 use Rattle.pcal_tree.specs.BoundNames.{lists_of}
-use Rattle.written_names.specs.Kept.{bound_words, Adds}
+use Rattle.written_names.specs.Kept.{bound_words}
 use Rattle.written_names.proofs.KeptWalks.{adds_hidden, adds_as}
 use Rattle.written_names.proofs.KeptSwept.{binder_words, local_words}
 use Rattle.written_names.proofs.kept.Kept.form.Goals as goal

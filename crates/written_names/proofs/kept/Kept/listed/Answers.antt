@@ -1,5 +1,5 @@
 -- Proves that names that are listed are added.
-use Rattle.std.proofs.Common.{List, subst, ◌∙◌}
+use Rattle.std.proofs.Common.{◌∙◌}
 use Rattle.std.proofs.lemmas.List.{take_all}
 use Rattle.written_names.proofs.KeptWalks.{adds_as}
 use Rattle.written_names.proofs.KeptSwept.{listed_more}

@@ -1,8 +1,7 @@
 -- Proves that the names of an expression are added when it is opened.
-use Rattle.std.proofs.Common.{List, ℕ, arith, ap, sym, subst, ◌∙◌}
+use Rattle.std.proofs.Common.{List, ℕ, arith, ap, ◌∙◌}
 use Rattle.std.specs.List.{flat_map}
-use Rattle.tla_tree.specs.Pool.{Entry, AllBelow, trees_at}
-use Rattle.tla_tree.specs.Tree.{node}
+use Rattle.tla_tree.specs.Pool.{Entry}
 use Rattle.pcal_tree.specs.BoundNames.{lists_of}
 use Rattle.pcal_tree.specs.InMemory.{past_numbers}
 use Rattle.pcal_tree.proofs.InMemoryEach.{all_below_past}

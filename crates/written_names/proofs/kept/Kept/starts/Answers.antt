@@ -1,9 +1,8 @@
 -- Proves that the names of first values are added.
-use Rattle.std.proofs.Common.{◌≤◌, length, arith, sym, subst, ◌∙◌}
+use Rattle.std.proofs.Common.{arith, ◌∙◌}
 use Rattle.tla_tree.proofs.PoolNumbers.{past_at}
-use Rattle.pcal_tree.specs.declared.algorithm.Declaration.{Declaration}
 use Rattle.pcal_tree.specs.InMemory.{past_declaration}
-use Rattle.written_names.specs.Kept.{Adds, declaration_words}
+use Rattle.written_names.specs.Kept.{declaration_words}
 use Rattle.written_names.proofs.KeptWalks.{adds_more, adds_all}
 use Rattle.written_names.proofs.kept.Kept.starts.Goals as goal
 

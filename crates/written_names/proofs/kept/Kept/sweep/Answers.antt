@@ -1,5 +1,5 @@
 -- Proves that no name is lost while marks are gone through.
-use Rattle.std.proofs.Common.{arith, refl, sym, ap, ◌∙◌, rules}
+use Rattle.std.proofs.Common.{arith, refl, ◌∙◌, rules}
 use Rattle.written_names.proofs.KeptSwept.{holds_last, holds_unmarked, holds_marked, holds_names, less_marked, none_marked}
 use Rattle.written_names.proofs.kept.Kept.sweep.Goals as goal
 
