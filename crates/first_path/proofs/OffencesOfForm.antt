@@ -119,9 +119,11 @@ untaken w h =
 -- with whatever modules
 no_standard : (ms : List Word) (w : Word) → is_of_standard w ≡ false → is_standard ms w ≡ false
 no_standard ms w h =
-    let p = or_parts (is_among standard_names w) (is_among sequence_names w || is_among tlc_names w) h in
+    let p = or_parts (is_standard [] w) (is_among sequence_names w || is_among tlc_names w) h in
     let q = or_parts (is_among sequence_names w) (is_among tlc_names w) p.1 in
-    rw (p.0, q.0, q.1, and-false (is_among ms (codes "Sequences")), and-false (is_among ms (codes "TLC"))) refl
+    let r = or_parts (is_among standard_names w || false) false p.0 in
+    let s = or_parts (is_among standard_names w) false r.0 in
+    rw (s.0, q.0, q.1, and-false (is_among ms (codes "Sequences")), and-false (is_among ms (codes "TLC"))) refl
 
 no_variables : (os : List Opaque) → list_all free_word (map (λ u. u.keyword) os) ≡ true → outside_variables (record { extended = []; constants = []; definitions = []; opaque = os }) ≡ []
 no_variables [] h = refl

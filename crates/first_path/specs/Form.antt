@@ -5,7 +5,7 @@ use Rattle.std.specs.List.{list_all, list_any}
 use Rattle.std.specs.Str.{bytes_eq}
 use Rattle.tla_token.specs.Signs.{is_among}
 use Rattle.tla_token.specs.Lexemes.{is_word, is_letter}
-use Rattle.tla_token.specs.Words.{standard_names, sequence_names, tlc_names, is_reserved, is_own, is_standard}
+use Rattle.tla_token.specs.Words.{sequence_names, tlc_names, is_reserved, is_own, is_standard}
 use Rattle.tla_token.specs.Limits.{past_numbers}
 use Rattle.tla_tree.specs.declared.op.Op.TheVariants.{Plus}
 use Rattle.tla_tree.specs.Tree.{Word}
@@ -68,7 +68,7 @@ is_new o w = not (is_among o.declared w) && not (is_standard o.extended w)
 
 -- a name of a standard module, whether that is extended or not
 abbrev pub is_of_standard : Word → Bool
-is_of_standard w = is_among standard_names w || (is_among sequence_names w || is_among tlc_names w)
+is_of_standard w = is_standard [] w || (is_among sequence_names w || is_among tlc_names w)
 
 -- what a unit may not be or declare: variables, what the translation declares itself, and what a standard module does
 abbrev pub is_taken : Word → Bool
