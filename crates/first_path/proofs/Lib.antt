@@ -6,6 +6,7 @@ pub mod RegionPlaces
 pub mod BesideKept
 pub mod BoundWords
 pub mod UnitsApart
+pub mod Extending
 pub mod OutsideApart
 pub mod ModuleApart
 pub mod Placing

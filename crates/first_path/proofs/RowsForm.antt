@@ -76,6 +76,23 @@ variable_outside = refl
 own_outside : suits (beside (walk (module_beside (codes "EXTENDS Integers\n") (codes "Init == TRUE\n")))) worked_parts ≡ false
 own_outside = refl
 
+-- a name of a standard module, whether that is extended or not, of a constant and of a definition
+standard_constant : suits (beside (walk (module_beside (codes "EXTENDS Integers\nCONSTANT Len\n") []))) worked_parts ≡ false
+standard_constant = refl
+
+standard_definition : suits (beside (walk (module_beside (codes "EXTENDS Integers\n") (codes "SortSeq == 1\n")))) worked_parts ≡ false
+standard_definition = refl
+
+-- a list of modules that can't be read extends none
+no_comma : suits (beside (walk (module_beside (codes "EXTENDS Integers TLC\n") []))) worked_parts ≡ false
+no_comma = refl
+
+no_name : suits (beside (walk (module_beside (codes "EXTENDS Integers,\n") []))) worked_parts ≡ false
+no_name = refl
+
+unread_without_sum : suits (beside (walk (module_beside (codes "EXTENDS Integers TLC\n") []))) (parts_with (single variable_operand)) ≡ true
+unread_without_sum = refl
+
 -- ---- the file
 
 abbrev full_translation : List ℕ

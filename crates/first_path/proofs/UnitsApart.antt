@@ -52,7 +52,7 @@ abbrev BindsSo : (Word → Bool) → OutsideUnit → Type 0
 BindsSo P (defines d) = list_all P (bound_by d) ≡ true
 BindsSo P u = Unit {0}
 
-spelled_names : (ns : Names) (r : List Token) → identifiers (spell_names ns r) ≡ words_of ns ++ identifiers r
+pub spelled_names : (ns : Names) (r : List Token) → identifiers (spell_names ns r) ≡ words_of ns ++ identifiers r
 spelled_names (last_name p x) r = refl
 spelled_names (more_names p x q ns) r = ap (λ (ws : List Word). x ∷ ws) (spelled_names ns r)
 

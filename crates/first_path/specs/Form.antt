@@ -5,7 +5,7 @@ use Rattle.std.specs.List.{list_all, list_any}
 use Rattle.std.specs.Str.{bytes_eq}
 use Rattle.tla_token.specs.Signs.{is_among}
 use Rattle.tla_token.specs.Lexemes.{is_word, is_letter}
-use Rattle.tla_token.specs.Words.{is_reserved, is_own, is_standard}
+use Rattle.tla_token.specs.Words.{sequence_names, tlc_names, is_reserved, is_own, is_standard}
 use Rattle.tla_token.specs.Limits.{past_numbers}
 use Rattle.tla_tree.specs.declared.op.Op.TheVariants.{Plus}
 use Rattle.tla_tree.specs.Tree.{Word}
@@ -66,12 +66,16 @@ is_sum (sum a b) = true
 abbrev pub is_new : Beside → Word → Bool
 is_new o w = not (is_among o.declared w) && not (is_standard o.extended w)
 
--- what a unit may not be or declare: variables, and what the translation declares itself
-abbrev pub is_taken : Word → Bool
-is_taken w = is_own w || is_among (codes "VARIABLE" ∷ codes "VARIABLES" ∷ []) w
+-- a name of a standard module, whether that is extended or not
+abbrev pub is_of_standard : Word → Bool
+is_of_standard w = is_standard [] w || (is_among sequence_names w || is_among tlc_names w)
 
--- the variable and the label are new, and the label is no bound name either, so that it keeps its name; no unit is in the way of the translation; and
--- `+` is known where there is a sum
+-- what a unit may not be or declare: variables, what the translation declares itself, and what a standard module does
+abbrev pub is_taken : Word → Bool
+is_taken w = is_own w || (is_of_standard w || is_among (codes "VARIABLE" ∷ codes "VARIABLES" ∷ []) w)
+
+-- the variable and the label are new, and the label is no bound name either, so that it keeps its name; no unit is in the way of the translation or of a
+-- standard module; and `+` is known where there is a sum
 abbrev pub suits : Beside → Parts → Bool
 suits o f =
     is_new o f.variable && is_new o f.label && not (is_among o.words f.label) && not (list_any is_taken o.declared)

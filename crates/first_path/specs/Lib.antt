@@ -4,4 +4,3 @@ pub mod Placed
 pub mod TreeForm
 pub mod Written
 pub mod Worked
-pub mod laws

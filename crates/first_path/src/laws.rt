@@ -25,7 +25,6 @@ ghost use Rattle.translation.specs.Region.{written_module};
 ghost use Rattle.first_path.specs.Form.{Parts};
 ghost use Rattle.first_path.specs.TreeForm.{form_of, HasForm, tree_form};
 ghost use Rattle.first_path.specs.Placed.{Places, algorithm_at, module_at, translation_of};
-ghost use Rattle.first_path.specs.laws.ClearOutside.{IsClear};
 ghost use Rattle.promise.specs.ConstantsAndStates.{AreConstants, IsState};
 ghost use Rattle.promise.specs.Options.{no_options};
 ghost use Rattle.promise.specs.Headline.{Headline, Stands};
@@ -64,12 +63,12 @@ pub fn the_form_is_translated_as_any_algorithm()
         → Around x (written_module false f.title m.outside (labelled false a)) (translation_of x f) }
 {}
 
-/// The algorithm of the form breaks no rule on labels and isn't too large; and none on names, where what the file has outside is clear. So with a file
-/// that has the form nothing is wrong by any rule exactly if its spelling isn't refused and what it has outside is clear.
-pub fn files_of_the_form_are_wrong_only_outside()
+/// The algorithm of the form breaks no rule on names and labels, with whatever its file has outside, and isn't too large. So with a file that has the
+/// form nothing is wrong by any rule exactly if its spelling isn't refused.
+pub fn files_of_the_form_are_wrong_only_in_spelling()
     ensures labels { (x : List ℕ) (f : Parts) (h : HasForm x f) → (label_offences (labelled false h.tree) ≡ []) × (too_large (labelled false h.tree) ≡ []) }
-    ensures names { (x : List ℕ) (f : Parts) (h : HasForm x f) (o : Outside) → HasOutside (walk x) o → (name_offences (labelled false h.tree) o ≡ [] ↔ IsClear o f) }
-    ensures checked { (x : List ℕ) (f : Parts) → HasForm x f → (o : Outside) → HasOutside (walk x) o → (AnswersChecking false x None ↔ (AnswersRewriting x None × IsClear o f)) }
+    ensures names { (x : List ℕ) (f : Parts) (h : HasForm x f) (o : Outside) → HasOutside (walk x) o → name_offences (labelled false h.tree) o ≡ [] }
+    ensures checked { (x : List ℕ) (f : Parts) → HasForm x f → (AnswersChecking false x None ↔ AnswersRewriting x None) }
 {}
 
 /// The file with its translation has the form too, with the same parts, and translating it again changes nothing.

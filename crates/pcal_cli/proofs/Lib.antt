@@ -5,6 +5,8 @@ mod RowsTranslating
 pub mod Translating
 pub mod RegionMade
 pub mod OutsideTokens
+pub mod MarksOutside
+pub mod ListsOutside
 pub mod TreeRead
 pub mod FormFound
 pub mod RowsBeside

@@ -10,16 +10,10 @@ use Rattle.tla_token.proofs.Spelled.{same_bytes}
 use Rattle.tla_tree.specs.Tree.{Word}
 use Rattle.tla_tree.specs.Lexical as tk
 use Rattle.tla_tree.specs.Lexical.{TokenView, Token}
-use Rattle.tla_tree.specs.TokenViews.{kind_among, word_kinds, word_kind, sign_kind, kind_of}
+use Rattle.tla_tree.specs.TokenViews.{kind_among, word_kinds, word_kind}
 use Rattle.module_tree.specs.FileUnits.{is_starter, is_bar, begins_unit, cut, cut_at}
 use Rattle.module_tree.specs.Outside.{identifiers, first_one, is_define, title_at, keyword_of, opaque_of}
-use Rattle.tla_token.specs.declared.sign.Sign.{Sign}
-use Rattle.tla_token.specs.declared.sign.Sign.TheVariants as sign
 use Rattle.tla_token.specs.declared.token.Token as code
-use Rattle.tla_token.specs.declared.token.Kind as code_kind
-use Rattle.tla_token.specs.declared.token.Kind.TheVariants as kind
-use Rattle.tla_token.specs.Lexemes as lexeme
-use Rattle.tla_token.specs.TokensSeen.{span_bytes, kind_seen}
 use Rattle.pcal_cli.specs.declared.outside.Seen.{Seen}
 use Rattle.pcal_cli.specs.declared.outside.Seen.TheVariants as seen
 use Rattle.tla_tree.specs.declared.op.Op.TheVariants as op
@@ -148,19 +142,22 @@ are_tla = refl
 pub own_word : (w : Word) → is_pluscal_word w ≡ true → shown (word_kind w) ≡ identifier w
 own_word w e = rw e refl
 
-pub free_word : (w : Word) → is_tla_word w ≡ false → shown (word_kind w) ≡ identifier w
-free_word w e = by (is_pluscal_word w)
+no_expression_word : (w : Word) → is_tla_word w ≡ false → is_among expression_words w ≡ false
+no_expression_word w e = by (is_among expression_words w) refl
   where
-    others : is_among expression_words w ≡ false
-    others = by_among (is_among expression_words w) refl
-      where
-        by_among : (b : Bool) → is_among expression_words w ≡ b → b ≡ false
-        by_among false q = refl
-        by_among true q = (let t : is_tla_word w ≡ true = rw (among_more expression_words tla_words w are_tla q) refl in absurd cc)
+    by : (b : Bool) → is_among expression_words w ≡ b → b ≡ false
+    by false q = refl
+    by true q = (let t : is_tla_word w ≡ true = rw (among_more expression_words tla_words w are_tla q) refl in absurd cc)
 
-    by : (b : Bool) → shown (if b then tk.reserved w else kind_among word_kinds w (if is_tla_word w then tk.other w else tk.word w)) ≡ identifier w
-    by true = refl
-    by false = rw e (ap shown (none_in word_kinds w (tk.word w) others))
+pub plain_word : (w : Word) → is_pluscal_word w ≡ false → is_tla_word w ≡ false → word_kind w ≡ tk.word w
+plain_word w p e = rw (p, e) (none_in word_kinds w (tk.word w) (no_expression_word w e))
+
+pub free_word : (w : Word) → is_tla_word w ≡ false → shown (word_kind w) ≡ identifier w
+free_word w e = by (is_pluscal_word w) refl
+  where
+    by : (b : Bool) → is_pluscal_word w ≡ b → shown (word_kind w) ≡ identifier w
+    by true p = own_word w p
+    by false p = ap shown (plain_word w p e)
 
 pub expression_word : (w : Word) → is_pluscal_word w ≡ false → is_among expression_words w ≡ true → shown (word_kind w) ≡ neither
 expression_word w e q = rw e (one_in word_kinds w _ all_neither q)
@@ -242,51 +239,6 @@ pub sought_on : {a x y : Bool} (b : Bool) → x ≡ (a || b) → a ≡ false →
 sought_on b e h i = rw h at (sym e ∙ i)
 
 -- ---- `==`
-
-abbrev NoneDefine : List (Word × TokenView) → Type 0
-NoneDefine [] = Unit {0}
-NoneDefine (p ∷ ps) = (is_define p.1 ≡ false) × NoneDefine ps
-
-among_defines : (ps : List (Word × TokenView)) (w : Word) (k : TokenView) → NoneDefine ps → is_define k ≡ false → is_define (kind_among ps w k) ≡ false
-among_defines [] w k n e = e
-among_defines (p ∷ ps) w k n e = by (bytes_eq p.0 w) (among_defines ps w k n.1 e)
-  where
-    by : (b : Bool) → is_define (kind_among ps w k) ≡ false → is_define (if b then p.1 else kind_among ps w k) ≡ false
-    by true h = n.0
-    by false h = h
-
-none_define : NoneDefine word_kinds
-none_define = (refl, (refl, (refl, (refl, (refl, (refl, (refl, (refl, (refl, (refl, (refl, (refl, (refl, (refl, (refl, tt)))))))))))))))
-
-word_defines : (w : Word) → is_define (word_kind w) ≡ false
-word_defines w = by (is_pluscal_word w) (is_tla_word w)
-  where
-    by : (b c : Bool) → is_define (if b then tk.reserved w else kind_among word_kinds w (if c then tk.other w else tk.word w)) ≡ false
-    by true c = refl
-    by false true = among_defines word_kinds w (tk.other w) none_define refl
-    by false false = among_defines word_kinds w (tk.word w) none_define refl
-
-other_defines : (w : Word) → is_define (kind_of (lexeme.other w)) ≡ false
-other_defines w = by (bytes_eq w (codes "'"))
-  where
-    by : (b : Bool) → is_define (if b then tk.mark tk.prime else tk.other w) ≡ false
-    by true = refl
-    by false = refl
-
-pub no_sign_defines : (bytes : List ℕ) (k : code_kind.Kind) → ((x : Sign) → k ≡ kind.Sign x → ⊥) → is_define (kind_of (kind_seen bytes k)) ≡ false
-no_sign_defines bytes (kind.Name s) h = word_defines (span_bytes bytes s)
-no_sign_defines bytes (kind.PluscalWord s w) h = word_defines (span_bytes bytes s)
-no_sign_defines bytes (kind.TlaWord s w) h = word_defines (span_bytes bytes s)
-no_sign_defines bytes (kind.Fairness s) h = word_defines (span_bytes bytes s)
-no_sign_defines bytes (kind.Number n) h = refl
-no_sign_defines bytes (kind.BigNumber s) h = refl
-no_sign_defines bytes (kind.Text s) h = refl
-no_sign_defines bytes (kind.Sign x) h = absurd (h x refl)
-no_sign_defines bytes (kind.Other s) h = other_defines (span_bytes bytes s)
-
-pub other_sign_defines : (s : Sign) → (s ≡ sign.Defined → ⊥) → is_define (sign_kind s) ≡ false
-other_sign_defines sign.Defined h = absurd (h refl)
-other_sign_defines _ h = refl
 
 -- the name before `==`, of at least two tokens
 any_title : (p : Word → Bool) (bytes : List ℕ) (items : List code.Token) (d e : code.Token) → 2 ≤ length items

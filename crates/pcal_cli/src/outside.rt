@@ -1,6 +1,6 @@
 //! What is beside the algorithm: whether its names, and those of the translation, are free there.
 
-ghost use Rattle.std.specs.Prelude.{◌≡◌, ◌∷◌, ◌<◌, ◌≤◌, [], length, Some, MatchOption, not, ◌&&◌, ◌||◌, ℕ, List, bytes_eq};
+ghost use Rattle.std.specs.Prelude.{◌≡◌, ◌∷◌, ◌<◌, ◌≤◌, [], length, Some, MatchOption, not, ◌&&◌, ◌||◌, false, cond, ℕ, List, bytes_eq};
 ghost use Rattle.std.specs.List.{list_any, flat_map};
 ghost use Rattle.tla_token.specs.Signs.{is_among as is_among_of};
 ghost use Rattle.tla_token.specs.Words.{is_standard as is_standard_of};
@@ -10,8 +10,9 @@ ghost use Rattle.module_tree.specs.FileUnits.{begins_unit as begins_unit_of, cut
 ghost use Rattle.module_tree.specs.Outside.{identifiers, first_one, is_define as is_define_of, title_at, opaque_of};
 ghost use Rattle.tla_tree.specs.declared.op.Op.TheVariants as op;
 ghost use Rattle.tla_value.specs.StandardModules.{has_operator};
-ghost use Rattle.first_path.specs.Beside.{declared_by, extended_by};
-ghost use Rattle.first_path.specs.Form.{is_sum as is_sum_of, suits as suits_of};
+ghost use Rattle.first_path.specs.Beside.{declared_by, is_listed as is_listed_of, is_comma as is_comma_of, is_separating as is_separating_of, are_listed as are_listed_of};
+ghost use Rattle.first_path.specs.Beside.{is_extending as is_extending_of, extended_by};
+ghost use Rattle.first_path.specs.Form.{is_of_standard as is_of_standard_of, is_taken as is_taken_of, is_sum as is_sum_of, suits as suits_of};
 ghost use Rattle.pcal_cli.specs.FormSeen.{parts_of, right_of};
 ghost use Rattle.pcal_cli.specs.OutsideTokens.{view_seen, views_ahead, views_of, shown, shown_as, keyword_shown, holds_of, beside_of, clashes as clashes_of};
 
@@ -160,11 +161,25 @@ fn has_identifier(rest: Rest<'_>, word: &[u8]) -> bool
     false
 }
 
+/// Whether a name is of a standard module, whether that is extended or not.
+fn is_of_standard(word: &[u8]) -> bool
+    ensures { result ≡ is_of_standard_of word.now }
+{
+    is_standard(word) || is_sequence_name(word) || is_tlc_name(word)
+}
+
+/// Whether no unit may have this name.
+fn is_taken(word: &[u8]) -> bool
+    ensures { result ≡ is_taken_of word.now }
+{
+    is_own(word) || is_of_standard(word) || is_among(&DECLARING, word)
+}
+
 /// Whether no unit may declare this name.
 fn clashes(form: &Form<'_>, word: &[u8]) -> bool
     ensures { result ≡ clashes_of (parts_of form.now) word.now }
 {
-    word == form.variable || word == form.label || is_own(word) || is_among(&DECLARING, word)
+    word == form.variable || word == form.label || is_taken(word)
 }
 
 /// Whether it is an identifier that no unit may declare.
@@ -266,13 +281,86 @@ fn units_clash(form: &Form<'_>, tokens: &Tokens) -> bool
     false
 }
 
+// ---- lists of modules
+
+/// Whether it is a name that a list may have.
+fn is_listed(tokens: &Tokens, token: &Token) -> bool
+    ensures { result ≡ is_listed_of (view_seen tokens.now.bytes.items token.now) }
+{
+    match look(tokens, token) {
+        Seen::Identifier(word) => 0 < token.place.col && !is_pluscal_word(word),
+        Seen::Keyword(_) | Seen::Neither => false,
+    }
+}
+
+/// Whether a token is a comma.
+fn is_comma(kind: Kind) -> bool
+    ensures { (bytes : List ℕ) → result ≡ is_comma_of (kind_of (kind_seen bytes kind)) }
+{
+    match kind {
+        Kind::Sign(sign) => match sign {
+            Sign::Comma => true,
+            _ => false,
+        },
+        _ => false,
+    }
+}
+
+/// Whether it is a comma that a list may have.
+fn is_separating(tokens: &Tokens, token: &Token) -> bool
+    ensures { result ≡ is_separating_of (view_seen tokens.now.bytes.items token.now) }
+{
+    0 < token.place.col && is_comma(token.kind)
+}
+
+/// Whether it may stand in a list, behind a name or not.
+fn fits(tokens: &Tokens, token: &Token, named: bool) -> bool
+    ensures { result ≡ cond named (is_separating_of (view_seen tokens.now.bytes.items token.now)) (is_listed_of (view_seen tokens.now.bytes.items token.now)) }
+{
+    if named {
+        is_separating(tokens, token)
+    } else {
+        is_listed(tokens, token)
+    }
+}
+
+/// Whether names with commas are ahead, and nothing else.
+fn are_listed(rest: Rest<'_>) -> bool
+    ensures { result ≡ are_listed_of false (views_ahead rest.entry) }
+{
+    let mut named = false;
+    for token in rest.items {
+        if !fits(rest.tokens, token, named) {
+            return false;
+        }
+        named = !named;
+    }
+    named
+}
+
+/// Whether a unit extends modules, by a list that can be read.
+fn is_extending(unit: Rest<'_>) -> bool
+    ensures { result ≡ is_extending_of (views_ahead unit.entry) }
+{
+    if first_word(unit) != b"EXTENDS".as_slice() {
+        return false;
+    }
+    match unit.items {
+        [_, more @ ..] => are_listed(Rest {
+            tokens: unit.tokens,
+            items: more,
+        }),
+        [] => false,
+    }
+}
+
 /// Whether a unit among tokens extends a module.
 fn unit_extends(tokens: &Tokens, name: &[u8]) -> bool
     ensures { result ≡ is_among_of (flat_map extended_by (cut (views_of tokens.now)).units) name.now }
 {
     let mut rest = Rest::new(tokens);
     while let Some((unit, more)) = next_unit(rest) {
-        if first_word(unit) == b"EXTENDS".as_slice() && has_identifier(unit, name) {
+        if is_extending(unit) && has_identifier(unit, name) {
             return true;
         }
         rest = more;

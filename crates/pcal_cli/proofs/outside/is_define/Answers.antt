@@ -1,6 +1,6 @@
 -- Only one sign is `==`.
 use Rattle.std.proofs.Common.{sym}
-use Rattle.pcal_cli.proofs.OutsideTokens.{no_sign_defines}
+use Rattle.pcal_cli.proofs.MarksOutside.{no_sign_defines}
 use Rattle.pcal_cli.proofs.outside.is_define.Goals as goal
 
 pub returns-in_default : goal.returns-in_default

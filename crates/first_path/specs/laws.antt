@@ -1,2 +1,0 @@
--- Words that only laws speak of.
-pub mod ClearOutside
