@@ -12,7 +12,7 @@ use Rattle.pcal_tree.proofs.SetLaws.{or_both}
 use Rattle.written_names.specs.declared.kept.Kept.{Kept}
 use Rattle.written_names.specs.Giving.{SameNames}
 use Rattle.written_names.specs.Kept.{bound_words, binds, bound_by, holds, Adds, expr_words}
-use Rattle.written_names.proofs.KeptWalks.{among_both, adds_then, adds_as}
+use Rattle.written_names.proofs.KeptWalks.{among_both, or_nothing, adds_then, adds_as}
 use Rattle.written_names.proofs.KeptBodies.{bound_both, trees_words}
 
 -- ---- names that are listed, in a loop
@@ -54,27 +54,23 @@ bound_last (t ∷ ts) [] m w l = or_none ts (m && binds t w)
 bound_last (t ∷ ts) (n ∷ ms) m w l =
     ap (λ b. (n && binds t w) || b) (bound_last ts ms m w (omega (arith, l))) ∙ sym (or_both (n && binds t w) (bound_by ts ms w) (m && binds (at ts (length ms)) w))
 
+one_longer : (ms : List Bool) (m : Bool) → length (ms ++ m ∷ []) ≡ suc (length ms)
+one_longer [] m = refl
+one_longer (b ∷ ms) m = ap suc (one_longer ms m)
+
 -- what is held with the last mark
 pub holds_last : (ts : List Tree) (old popped : Kept) (m : Bool) (w : Word) → old.names ≡ popped.names → old.marks.items ≡ popped.marks.items ++ m ∷ [] → length old.marks.items ≤ length ts
     → holds ts old w ≡ (holds ts popped w || (m && is_among (expr_words ts (length popped.marks.items)) w))
 holds_last ts old popped m w n e few =
     (λ i. is_among (n i) w || bound_by ts (e i) w)
-    ∙ ap (λ b. is_among popped.names w || b) (bound_last ts popped.marks.items m w (shorter (length old.marks.items) few (ap length e ∙ length_last popped.marks.items)))
+    ∙ ap (λ b. is_among popped.names w || b) (bound_last ts popped.marks.items m w (shorter (length old.marks.items) few (ap length e ∙ one_longer popped.marks.items m)))
     ∙ sym (or_both (is_among popped.names w) (bound_by ts popped.marks.items w) (m && binds (at ts (length popped.marks.items)) w))
   where
-    length_last : (ms : List Bool) → length (ms ++ m ∷ []) ≡ suc (length ms)
-    length_last [] = refl
-    length_last (b ∷ ms) = ap suc (length_last ms)
-
     shorter : (n : ℕ) → n ≤ length ts → n ≡ suc (length popped.marks.items) → length popped.marks.items < length ts
     shorter n h k = omega (arith, h, k)
 
 pub holds_unmarked : (ts : List Tree) (old popped : Kept) (m : Bool) (w : Word) → m ≡ false → holds ts old w ≡ (holds ts popped w || (m && is_among (expr_words ts (length popped.marks.items)) w)) → holds ts popped w ≡ holds ts old w
 holds_unmarked ts old popped m w f h = or_nothing (holds ts popped w) ∙ sym (h ∙ ap (λ b. holds ts popped w || (b && is_among (expr_words ts (length popped.marks.items)) w)) f)
-  where
-    or_nothing : (a : Bool) → a ≡ (a || false)
-    or_nothing true = refl
-    or_nothing false = refl
 
 pub holds_marked : (ts : List Tree) (old popped new : Kept) (m : Bool) (e : ℕ) (w : Word) → m ≡ true → e ≡ length popped.marks.items → holds ts old w ≡ (holds ts popped w || (m && is_among (expr_words ts (length popped.marks.items)) w))
     → Adds ts popped new (expr_words ts e) → holds ts new w ≡ holds ts old w
@@ -89,10 +85,6 @@ no_marks (t ∷ ts) w = refl
 -- where no mark is left
 pub holds_names : (ts : List Tree) (k : Kept) (w : Word) → k.marks.items ≡ [] → is_among k.names w ≡ holds ts k w
 holds_names ts k w e = or_nothing (is_among k.names w) ∙ ap (λ b. is_among k.names w || b) (sym (ap (λ ms. bound_by ts ms w) e ∙ no_marks ts w))
-  where
-    or_nothing : (a : Bool) → a ≡ (a || false)
-    or_nothing true = refl
-    or_nothing false = refl
 
 unmarked : (ts : List Tree) (n : ℕ) (w : Word) → bound_by ts (replicate n false) w ≡ false
 unmarked [] n w = refl
@@ -111,11 +103,7 @@ all_taken ts i j k n outside own names e f g h last w =
 -- ---- lists of marks
 
 pub less_marked : (ms ns : List Bool) (m : Bool) (n : ℕ) → ms ≡ ns ++ m ∷ [] → length ms ≤ n → length ns ≤ n
-less_marked ms ns m n e l = let k = ap length e ∙ longer ns in omega (arith, k, l)
-  where
-    longer : (ns : List Bool) → length (ns ++ m ∷ []) ≡ suc (length ns)
-    longer [] = refl
-    longer (b ∷ ns) = ap suc (longer ns)
+less_marked ms ns m n e l = let k = ap length e ∙ one_longer ns m in omega (arith, k, l)
 
 pub none_marked : (ms : List Bool) → length ms ≡ 0 → ms ≡ []
 none_marked [] e = refl

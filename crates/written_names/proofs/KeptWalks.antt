@@ -17,7 +17,7 @@ use Rattle.written_names.proofs.Steps.{has_is}
 pub among_both : (xs ys : List Word) (w : Word) → is_among (xs ++ ys) w ≡ (is_among xs w || is_among ys w)
 among_both xs ys w = list_any-append (λ v. bytes_eq v w) xs ys
 
-or_nothing : (a : Bool) → a ≡ (a || false)
+pub or_nothing : (a : Bool) → a ≡ (a || false)
 or_nothing true = refl
 or_nothing false = refl
 

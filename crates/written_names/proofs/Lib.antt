@@ -9,3 +9,4 @@ pub mod KeptWalks
 pub mod KeptBodies
 pub mod KeptSwept
 pub mod KeptWords
+mod Rows

@@ -16,6 +16,7 @@ use Rattle.algorithm_limits.specs.DepthsIn.{Hides}
 use Rattle.algorithm_limits.proofs.Tables.{equal, same_test, number_of_with}
 use Rattle.written_names.specs.Giving.{SameNames, TakenFrom, AreTried, IsFound, Known, Knows, Pairs, found, first_of}
 use Rattle.written_names.proofs.FirstFree.{numbered_free, plain_free}
+use Rattle.written_names.proofs.Given.{first_none}
 
 pub has_is : (names : List Word) (x : Word) → list_any (equal x) names ≡ is_among names x
 has_is names x = any_same (equal x) (λ v. bytes_eq v x) (λ v. same_test x v) names
@@ -84,25 +85,21 @@ module _ (extended taken : List Word) (x : Word) where
         tried = subst (AreTried new.names) (sym c) (tried_still old.names new.names x old.tried h k.tried);
       }
 
+  pub name_numbered : (old : Known) (f : Word) (m : ℕ) → Knows old extended taken → is_taken extended old.names x ≡ true → IsFound old.names x f m → f ≡ first_free extended taken x
+  name_numbered old f m k t g =
+      g.word ∙ numbered_free extended old.names taken x m k.names t g.first g.small g.before (ap (is_among old.names) (sym g.word) ∙ g.free)
+
   pub given_numbered : (old new : Known) (f : Word) (m : ℕ) → Knows old extended taken → is_taken extended old.names x ≡ true → IsFound old.names x f m
       → Hides old.names new.names (f ∷ []) → new.sequences ≡ old.sequences → new.tlc ≡ old.tlc → new.tried ≡ numbers.with_number old.tried x m
       → Knows new extended (first_free extended taken x ∷ taken)
   given_numbered old new f m k t g h a b c =
-      let e = numbered_name old f m k t g in
+      let e = name_numbered old f m k t g in
       record {
         sequences = k.sequences ∙ sym a;
         tlc = k.tlc ∙ sym b;
         names = λ w. taken_more old.names new.names f h taken k.names w ∙ ap (λ v. is_among (v ∷ taken) w) e;
         tried = subst (AreTried new.names) (sym c) (tried_next old.names new.names x f m old.tried h g k.tried);
       }
-    where
-      numbered_name : (old : Known) (f : Word) (m : ℕ) → Knows old extended taken → is_taken extended old.names x ≡ true → IsFound old.names x f m → f ≡ first_free extended taken x
-      numbered_name old f m k t g =
-          g.word ∙ numbered_free extended old.names taken x m k.names t g.first g.small g.before (ap (is_among old.names) (sym g.word) ∙ g.free)
-
-  pub name_numbered : (old : Known) (f : Word) (m : ℕ) → Knows old extended taken → is_taken extended old.names x ≡ true → IsFound old.names x f m → f ≡ first_free extended taken x
-  name_numbered old f m k t g =
-      g.word ∙ numbered_free extended old.names taken x m k.names t g.first g.small g.before (ap (is_among old.names) (sym g.word) ∙ g.free)
 
 -- ---- the first name of a word is kept
 
@@ -113,13 +110,9 @@ either (Some w) b e = refl
 pub kept_first : (ps : Pairs) (w f : Word) → is_some (found ps w) ≡ true → (x : Word) → found ps x ≡ first_of (found ps x) (cond (bytes_eq w x) (Some f) None)
 kept_first ps w f e x = by (bytes_eq w x) refl
   where
-    same : (o : Option Word) → o ≡ first_of o None
-    same None = refl
-    same (Some v) = refl
-
     by : (b : Bool) → bytes_eq w x ≡ b → found ps x ≡ first_of (found ps x) (cond b (Some f) None)
     by true q = sym (either (found ps x) (Some f) (ap (λ v. is_some (found ps v)) (sym ((bytes_eq-Decides w x).0 q)) ∙ e))
-    by false q = same (found ps x)
+    by false q = sym (first_none (found ps x))
 
 pub kept_new : (ps : Pairs) (w f : Word) → is_some (found ps w) ≡ false → (x : Word) → found (insert_entry equal ps w f) x ≡ first_of (found ps x) (cond (bytes_eq w x) (Some f) None)
 kept_new [] w f e x = ap (λ c. cond c (Some f) None) (same_test x w)
