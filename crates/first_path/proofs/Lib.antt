@@ -12,14 +12,10 @@ pub mod ModuleApart
 pub mod Placing
 pub mod ReadsModule
 pub mod Again
-pub mod Untitled
-pub mod Means
-pub mod MeansStep
-pub mod MeansNext
-pub mod MeansInit
-pub mod Promise
 pub mod TreeParts
 pub mod TreeBare
+pub mod OneProcess
+pub mod LabelKept
 pub mod OfForm
 pub mod OffencesOfForm
 pub mod TreeForms

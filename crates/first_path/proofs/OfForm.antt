@@ -16,8 +16,8 @@ use Rattle.first_path.specs.Placed.{Places, right_at, algorithm_at, region_at}
 use Rattle.first_path.proofs.Names.{word_same}
 use Rattle.first_path.proofs.Fit.{fit_of}
 use Rattle.first_path.proofs.OutsideApart.{Apart}
-use Rattle.first_path.proofs.MeansStep.{Kept, program_of, routine}
-use Rattle.first_path.proofs.MeansNext.{label_kept}
+use Rattle.first_path.proofs.OneProcess.{Kept, program_of, routine}
+use Rattle.first_path.proofs.LabelKept.{label_kept}
 use Rattle.action_builder.specs.InitialFormulas.{init}
 use Rattle.action_builder.specs.NextFormula.{next}
 use Rattle.action_builder.specs.LabelActions.{actions}

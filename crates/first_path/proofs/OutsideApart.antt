@@ -1,11 +1,10 @@
 -- The names of the form are apart from what is read outside: the test that it makes of tokens says so of each unit.
-use Rattle.std.proofs.Common.{◌≡◌, Bool, true, false, ◌&&◌, ◌||◌, not, IsTrue, List, [], ◌∷◌, ◌++◌, bytes_eq, map, refl, sym, ap, ◌∙◌}
+use Rattle.std.proofs.Common.{◌≡◌, Bool, true, false, ◌&&◌, ◌||◌, not, IsTrue, List, [], ◌∷◌, ◌++◌, refl, sym, ap, ◌∙◌}
 use Rattle.std.specs.List.{list_all, list_any, flat_map}
-use Rattle.std.proofs.lemmas.Bool.{and_parts, or_parts, not-true, false_from_ne_true, both_ways}
+use Rattle.std.proofs.lemmas.Bool.{and_parts, or_parts, not-true}
 use Rattle.std.proofs.lemmas.List.Folds.{list_all-append}
 use Rattle.tla_token.specs.Signs.{is_among}
 use Rattle.tla_token.specs.Words.{is_standard}
-use Rattle.tla_token.proofs.Spelled.{same_bytes}
 use Rattle.tla_tree.specs.Tree.{Word, words}
 use Rattle.tla_tree.specs.Lexical.{Token}
 use Rattle.tla_tree.specs.declared.op.Op.TheVariants.{Plus}
@@ -20,7 +19,7 @@ use Rattle.first_path.specs.Beside.{Beside, declared_by, extended_by}
 use Rattle.first_path.specs.Form.{is_sum, Parts, is_new, is_taken, suits}
 use Rattle.first_path.proofs.Names.{all_more}
 use Rattle.first_path.proofs.Extending.{units_extend, both_extend}
-use Rattle.first_path.proofs.UnitsApart.{pc, other, others, none_other, AllSo, NamesSo, units_declare, units_bind, declared_so, named_so, bound_so}
+use Rattle.first_path.proofs.UnitsApart.{other, others, none_other, AllSo, NamesSo, units_declare, units_bind, declared_so, named_so, bound_so}
 
 -- ---- what the form's test says
 
@@ -33,10 +32,8 @@ free_word w = not (is_taken w)
 pub record Apart (o : Outside) (f : Parts) : Type 0 where
   pub label : is_among (taken_outside o) f.label ≡ false
   pub standard : is_standard o.extended f.label ≡ false
-  pub variable : list_all (other f.variable) (map (λ d. d.definition.title) o.definitions) ≡ true
   pub variable_new : is_among (unit_names o) f.variable ≡ false
   pub variable_own : is_standard o.extended f.variable ≡ false
-  pub pc_free : list_all (other pc) (map (λ d. d.definition.title) o.definitions) ≡ true
   pub untaken : NamesSo free_word o
   pub plus : (not (is_sum f.right) || has_operator o.extended Plus) ≡ true
 
@@ -78,14 +75,6 @@ all_free : (ws : List Word) → list_any is_taken ws ≡ false → list_all free
 all_free [] h = refl
 all_free (w ∷ ws) h = (let k = or_parts (is_taken w) (list_any is_taken ws) h in rw k.0 (all_free ws k.1))
 
--- pc is among the names of the translation
-pub no_pc : (ws : List Word) → list_any is_taken ws ≡ false → list_all (other pc) ws ≡ true
-no_pc [] h = refl
-no_pc (w ∷ ws) h =
-    let k = or_parts (is_taken w) (list_any is_taken ws) h in
-    let n : bytes_eq w pc ≡ false = false_from_ne_true (bytes_eq w pc) (λ e. both_ways (is_taken w) k.0 (ap is_taken (same_bytes w pc e))) in
-    rw n (no_pc ws k.1)
-
 -- the units before the translation, and those after it
 pub apart_outside : (f : Parts) (v : Sight) (before after : List (List Token)) (us vs : List OutsideUnit) (o : Beside) → AllOutside true v before us → AllOutside false v after vs
     → Suited o f → (flat_map declared_by before ++ flat_map declared_by after ≡ o.declared) → (flat_map extended_by before ++ flat_map extended_by after ≡ o.extended)
@@ -96,10 +85,8 @@ apart_outside f v before after us vs o a b s declared extended words =
     record {
       label = none_other f.label (taken_outside own) (all_more (other f.label) (unit_names own) (bound_outside own) (named_so (other f.label) own (named f.label s.label.declared)) bound);
       standard = ap (λ (ms : List Word). is_standard ms f.label) same ∙ s.label.standard;
-      variable = variable.titles;
       variable_new = none_other f.variable (unit_names own) (named_so (other f.variable) own variable);
       variable_own = ap (λ (ms : List Word). is_standard ms f.variable) same ∙ s.variable.standard;
-      pc_free = (are (other pc) (no_pc o.declared s.untaken)).titles;
       untaken = are free_word (all_free o.declared s.untaken);
       plus = ap (λ (ms : List Word). not (is_sum f.right) || has_operator ms Plus) same ∙ s.plus;
     }

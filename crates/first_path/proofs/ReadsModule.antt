@@ -26,7 +26,6 @@ pub record IsRead (x : Text) (f : Parts) : Type 0 where
   pub outside : Outside
   pub places : Places
   pub reads : Reads (translation_of x f) (module_at outside places f)
-  pub apart : Apart outside f
 
 -- of what the file reads as
 pub apart_read : (x : List ℕ) (f : Parts) → IsFitted x f → (m : Module) → Reads (translation_of x f) m → Apart m.outside f
@@ -51,7 +50,6 @@ is_read x f h =
       outside = m.outside;
       places = q.0;
       reads = the_module w m f q.0 title (is.is.region ∙ q.1) is.is.reads;
-      apart = apart_read x f h m is.is.reads;
     }
 
 pub reads : (x : List ℕ) (f : Parts) → IsFitted x f → (o : Outside) × (q : Places) × Reads (translation_of x f) (module_at o q f)

@@ -1,4 +1,4 @@
--- Files whose algorithm has the form: they are found, what is written for them keeps the promise, and they have it with their translation too.
+-- Files whose algorithm has the form: they are found, what is written for them reads as a module, and they have it with their translation too.
 use Rattle.std.proofs.Common.{◌≡◌, ℕ, Bool, List, Option, Some, sym, ap, subst, ◌∙◌}
 use Rattle.tla_token.specs.Offences.{Offence}
 use Rattle.tla_tree.specs.Tree.{Word}
@@ -10,8 +10,7 @@ use Rattle.module_tree.specs.FileParts.{title}
 use Rattle.module_tree.specs.FileOffences.{file_offences}
 use Rattle.module_tree.specs.Layout.{layout}
 use Rattle.module_tree.specs.Reading.{Reads}
-use Rattle.promise.specs.Options.{no_options}
-use Rattle.promise.specs.Headline.{Stands, Headline}
+use Rattle.promise.specs.Headline.{Stands}
 use Rattle.first_path.specs.Beside.{beside}
 use Rattle.first_path.specs.Form.{Parts, is_fit, suits}
 use Rattle.first_path.specs.Placed.{Places, algorithm_at, module_at, region_of, translation_of}
@@ -24,7 +23,6 @@ use Rattle.file_answer.proofs.SpelledInFile.{stands_kept}
 use Rattle.first_path.proofs.Placing.{placed, inside}
 use Rattle.first_path.proofs.ReadsModule.{reads}
 use Rattle.first_path.proofs.Again.{fitted_again, text_again}
-use Rattle.first_path.proofs.Promise.{promise_of}
 
 -- ---- which files have it
 
@@ -53,16 +51,13 @@ form_read x g f h e =
     ∙ ap (λ (b : Bool). only_if b (suiting (beside (walk x)) f)) h.fit
     ∙ ap (λ (b : Bool). only_if b (Some f)) h.suited
 
--- ---- the promise
+-- ---- what is written
 
 -- its algorithm is that of the parts
 pub form_stands : (x : List ℕ) (f : Parts) → HasForm x f → (p : Places) × Stands x (algorithm_at p f)
 form_stands x f h =
     let o = form_is f.title h.tree f h.form in
     (o.places, subst (λ (g : Algorithm). Stands x g) o.is h.stands)
-
-pub form_promise : (x : List ℕ) (f : Parts) → HasForm x f → Headline no_options x (translation_of x f)
-form_promise x f h = (let s = form_stands x f h in promise_of x f s.0 h.fitted s.1)
 
 pub form_reads : (x : List ℕ) (f : Parts) → HasForm x f → (o : Outside) × (q : Places) × Reads (translation_of x f) (module_at o q f)
 form_reads x f h = reads x f h.fitted

@@ -19,9 +19,6 @@ use Rattle.first_path.specs.Beside.{declared_by}
 use Rattle.first_path.proofs.BoundWords.{words_append, phrase_bound}
 use Rattle.first_path.proofs.Names.{all_more}
 
-abbrev pub pc : Word
-pc = codes "pc"
-
 -- ---- words that are none
 
 abbrev pub other : Word → Word → Bool

@@ -1,5 +1,5 @@
 -- What is written for a file of the form is what is written for any text; and nothing is wrong with the file where its spelling isn't refused.
-use Rattle.std.proofs.Common.{◌≡◌, ◌↔◌, false, [], None, sym, ap, subst, ◌∙◌}
+use Rattle.std.proofs.Common.{◌<◌, length, ◌≡◌, ◌↔◌, false, [], None, sym, ap, subst, ◌∙◌}
 use Rattle.tla_value.specs.Outside.{Outside}
 use Rattle.pcal_tree.specs.Algorithm.{Algorithm}
 use Rattle.pcal_tree.specs.Labelled.{labelled}
@@ -14,7 +14,7 @@ use Rattle.module_tree.specs.laws.Outsides.{HasOutside}
 use Rattle.module_tree.proofs.LayoutBare.{same_layout}
 use Rattle.module_tree.proofs.SomeOutside.{some_outside}
 use Rattle.macro_expand.specs.TooLarge.{too_large}
-use Rattle.promise.specs.Headline.{Stands}
+use Rattle.promise.specs.Headline.{Stands, Headline}
 use Rattle.promise.specs.Options.{no_options}
 use Rattle.file_answer.specs.Checking.{AnswersChecking}
 use Rattle.file_answer.specs.Holds.{HoldsTree}
@@ -26,6 +26,8 @@ use Rattle.file_answer.proofs.Unrefused.{unrefused_is_fine}
 use Rattle.translation.specs.PromiseWhole.{WrittenWhole}
 use Rattle.translation.specs.Region.{written_region}
 use Rattle.translation.proofs.KeptAccepted.{checked_is_spelled}
+use Rattle.translation.proofs.KeptPromise.{texts_keep_the_promise}
+use Rattle.tla_token.specs.Limits.{past_text}
 use Rattle.first_path.specs.Form.{Parts}
 use Rattle.first_path.specs.Placed.{region_at, region_of, translation_of}
 use Rattle.first_path.specs.TreeForm.{IsFitted, HasForm}
@@ -84,3 +86,8 @@ form_checked x f h = (checked_is_spelled false x, λ spelled. checked_clean fals
     none spelled g q held has =
         let stands : Stands x g = stand_there x held.text held.syntax g (unrefused_is_fine x spelled) held.is_text held.spelled in
         subst (λ (g : Algorithm). NoneOf q (labelled false g)) (one_stands x h.tree g h.stands stands) (form_clear x f h q has)
+
+-- ---- the promise
+
+pub form_promise : (x : Text) (f : Parts) → HasForm x f → AnswersRewriting x None → length x < past_text → Headline no_options x (translation_of x f)
+form_promise x f h spelled short = texts_keep_the_promise no_options x (translation_of x f) ((form_checked x f h).1 spelled) short (form_whole x f h)

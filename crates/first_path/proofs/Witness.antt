@@ -19,7 +19,7 @@ use Rattle.pcal_tree.specs.InitialStates.{Initial, InitFault}
 use Rattle.first_path.specs.Placed.{Places, algorithm_at, module_at}
 use Rattle.promise.specs.ConstantsAndStates.{AreConstants, IsState}
 use Rattle.first_path.specs.Worked.{worked_parts, integers_alone, no_more_constants, worked_program, at_first, at_last}
-use Rattle.first_path.proofs.MeansStep.{actor, stand, Kept, is_actor, actor_is, stand_is, there_stands, ended}
+use Rattle.first_path.proofs.OneProcess.{actor, stand, Kept, is_actor, actor_is, stand_is, there_stands, ended}
 use Rattle.pcal_tree.specs.Variables.{pc}
 use Rattle.pcal_tree.specs.Faults.{Sound, Troubled}
 use Rattle.pcal_tree.specs.Processes.{IsActor}

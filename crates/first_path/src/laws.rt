@@ -1,7 +1,8 @@
 //! Laws of the form, stated as what functions without a body ensure.
 
-ghost use Rattle.std.specs.Prelude.{◌≡◌, ◌⊎◌, ◌↔◌, ℕ, List, [], Some, None, false};
+ghost use Rattle.std.specs.Prelude.{◌≡◌, ◌⊎◌, ◌↔◌, ◌<◌, ℕ, List, [], length, Some, None, false};
 ghost use Rattle.tla_token.specs.declared.place.Place.{Place};
+ghost use Rattle.tla_token.specs.Limits.{past_text};
 ghost use Rattle.tla_tree.specs.Tree.{Word};
 ghost use Rattle.tla_value.specs.Outside.{Outside};
 ghost use Rattle.tla_value.specs.declared.fault.FaultKind.{FaultKind};
@@ -44,12 +45,12 @@ pub fn files_have_the_form_by_their_trees()
     ensures read { (x : List ℕ) (f : Parts) (h : HasForm x f) → tree_form x h.tree ≡ Some f }
 {}
 
-/// What is written for a file whose algorithm has the form reads as one module alone, lies around the file, and where no
-/// expression that is reached faults its Next and Init are true exactly of the steps and initial states of the
-/// algorithm that is in the file. This algorithm and this module are those of the form's parts, wherever
+/// What is written for a file whose algorithm has the form reads as one module alone, lies around the file, and where its spelling isn't refused, it is
+/// short enough to be scanned, and no expression that is reached faults, its Next and Init are true exactly of the steps
+/// and initial states of the algorithm that is in the file. This algorithm and this module are those of the form's parts, wherever
 /// they are.
 pub fn translations_keep_the_promise()
-    ensures promise { (x : List ℕ) (f : Parts) → HasForm x f → Headline no_options x (translation_of x f) }
+    ensures promise { (x : List ℕ) (f : Parts) → HasForm x f → AnswersRewriting x None → length x < past_text → Headline no_options x (translation_of x f) }
     ensures algorithm { (x : List ℕ) (f : Parts) → HasForm x f → (p : Places) × Stands x (algorithm_at p f) }
     ensures module { (x : List ℕ) (f : Parts) → HasForm x f → (o : Outside) × (q : Places) × Reads (translation_of x f) (module_at o q f) }
 {}

@@ -1,7 +1,8 @@
 -- The answers to a translation: a file has one; where it is none the file has the form, and is written with its translation.
 use Rattle.std.specs.Result.{IsErrAnd, IfErr}
-use Rattle.std.proofs.Common.{◌≡◌, Option, Some, None, Result, Ok, Err, refl, sym, ap, subst, ◌∙◌}
+use Rattle.std.proofs.Common.{◌≡◌, ◌<◌, length, Option, Some, None, Result, Ok, Err, refl, sym, ap, subst, ◌∙◌}
 use Rattle.std.proofs.lemmas.Option.{none-some}
+use Rattle.tla_token.specs.Limits.{past_text}
 use Rattle.tla_token.specs.declared.rule.Refusal.{Refusal}
 use Rattle.tla_token.specs.declared.rule.Stop.{Stop}
 use Rattle.tla_token.specs.declared.rule.Stop.TheVariants as stop
@@ -14,7 +15,8 @@ use Rattle.first_path.specs.Placed.{translation_of}
 use Rattle.first_path.specs.TreeForm.{HasForm, tree_form}
 use Rattle.first_path.specs.Written.{Written}
 use Rattle.file_answer.proofs.SpelledInFile.{stand_there}
-use Rattle.first_path.proofs.TreeForms.{form_found, form_read, form_promise}
+use Rattle.first_path.proofs.TreeForms.{form_found, form_read}
+use Rattle.first_path.proofs.WholeForm.{form_promise}
 use Rattle.file_answer.specs.Refusals.{IsStop}
 use Rattle.file_answer.specs.Spelling.{AnswersRewriting}
 use Rattle.file_answer.specs.Holds.{HoldsTree}
@@ -83,8 +85,10 @@ translated_there x y f e n h = subst (λ (z : Text). AnswersTranslation z None) 
 
 -- ---- what is written
 
-written : (x : Text) (f : Parts) → HasForm x f → Written x (translation_of x f)
-written x f h = record { parts = f; form = h; bytes = refl; promise = form_promise x f h; alone = one_stands x }
+written : (x : Text) (f : Parts) → HasForm x f → AnswersRewriting x None → length x < past_text → Written x (translation_of x f)
+written x f h n short = record { parts = f; form = h; bytes = refl; promise = form_promise x f h n short; alone = one_stands x }
 
-pub written_there : (x y w : Text) (f : Parts) → y ≡ x → HasForm y f → w ≡ translation_of y f → Written x w
-written_there x y w f e h t = subst (λ (z : Text). Written z w) e (subst (λ (v : Text). Written y v) (sym t) (written y f h))
+pub written_there : (x y w : Text) (f : Parts) → y ≡ x → HasForm y f → AnswersRewriting y None → length x < past_text → w ≡ translation_of y f → Written x w
+written_there x y w f e h n short t =
+    let own : length y < past_text = subst (λ (z : Text). length z < past_text) (sym e) short in
+    subst (λ (z : Text). Written z w) e (subst (λ (v : Text). Written y v) (sym t) (written y f h n own))

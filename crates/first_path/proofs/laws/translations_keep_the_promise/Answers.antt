@@ -1,5 +1,6 @@
 -- Proves the law `translations_keep_the_promise`.
-use Rattle.first_path.proofs.TreeForms.{form_stands, form_promise, form_reads}
+use Rattle.first_path.proofs.TreeForms.{form_stands, form_reads}
+use Rattle.first_path.proofs.WholeForm.{form_promise}
 use Rattle.first_path.proofs.laws.translations_keep_the_promise.Goals as goal
 
 pub returns-clause-promise : goal.returns-clause-promise

@@ -30,7 +30,7 @@ with_form-requires-clause-fit c =
 pub returns-clause-ok : goal.returns-clause-ok
 returns-clause-ok c =
     let h = formed c.in-Ok.parts.text.now (algorithm_at c.read_parts.new.pool c.in-Ok-read_parts.algorithm) (parts_of c.in-Some.form) c.in-Ok-read_parts.ensures.clean c.in-Ok-read_parts.ensures.held c.in-Some.ensures in
-    written_there c.args.text.now c.in-Ok.parts.text.now c.in_ok-with_form.field-0.items (parts_of c.in-Some.form) c.in-Ok.ensures.parts.text h c.in_ok-with_form.ensures
+    written_there c.args.text.now c.in-Ok.parts.text.now c.in_ok-with_form.field-0.items (parts_of c.in-Some.form) c.in-Ok.ensures.parts.text h c.in-Ok-read_parts.ensures.clean c.requires c.in_ok-with_form.ensures
 
 pub returns-clause-clean : goal.returns-clause-clean
 returns-clause-clean c =
