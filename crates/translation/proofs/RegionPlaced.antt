@@ -108,7 +108,6 @@ reached_bare (suc n) g u =
     (λ i. filter (λ p. is_among ((ap (λ us. called_by (routine_placeless u ∷ us)) (reached_bare n g u) ∙ called_bare (u ∷ reached_within n g u)) i) p.name.word) (routines_bare g i))
     ∙ named_bare (called_by (u ∷ reached_within n g u)) (procedure_routines g)
 
-
 all_reached : (g : Algorithm) (u : Routine) → reached (placeless g) (routine_placeless u) ≡ map routine_placeless (reached g u)
 all_reached g u = ap (λ (n : ℕ). reached_within n (placeless g) (routine_placeless u)) (as_many_procedures g.procedures) ∙ reached_bare (length g.procedures) g u
 
