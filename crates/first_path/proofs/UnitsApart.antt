@@ -53,7 +53,7 @@ pub spelled_names : (ns : Names) (r : List Token) → identifiers (spell_names n
 spelled_names (last_name p x) r = refl
 spelled_names (more_names p x q ns) r = ap (λ (ws : List Word). x ∷ ws) (spelled_names ns r)
 
-pub names_so : (P : Word → Bool) (ns : Names) (xs : List Name) → names_of ns ≡ xs → list_all P (identifiers (spell_names ns [])) ≡ true → list_all P (words xs) ≡ true
+names_so : (P : Word → Bool) (ns : Names) (xs : List Name) → names_of ns ≡ xs → list_all P (identifiers (spell_names ns [])) ≡ true → list_all P (words xs) ≡ true
 names_so P ns xs e h =
     ap (λ (ns : List Name). list_all P (words ns)) (sym e) ∙ ap (λ (ws : List Word). list_all P ws) (sym (append-nil (words_of ns)) ∙ sym (spelled_names ns [])) ∙ h
 
@@ -112,7 +112,7 @@ unit_binds P b v ts (opaque o) r k = tt
 abbrev pub AllSo : (List Token → List Word) → (Word → Bool) → List (List Token) → Type 0
 AllSo g P tss = list_all P (flat_map g tss) ≡ true
 
-pub all_first : (g : List Token → List Word) (P : Word → Bool) (ts : List Token) (tss : List (List Token)) → AllSo g P (ts ∷ tss) → (list_all P (g ts) ≡ true) × AllSo g P tss
+all_first : (g : List Token → List Word) (P : Word → Bool) (ts : List Token) (tss : List (List Token)) → AllSo g P (ts ∷ tss) → (list_all P (g ts) ≡ true) × AllSo g P tss
 all_first g P ts tss h = and_parts (list_all P (g ts)) (list_all P (flat_map g tss)) (sym (list_all-append P (g ts) (flat_map g tss)) ∙ h)
 
 pub units_declare : (P : Word → Bool) (b : Bool) (v : Sight) (tss : List (List Token)) (us : List OutsideUnit) → AllOutside b v tss us → AllSo declared_by P tss → AllByRecursion (DeclaresSo P) us

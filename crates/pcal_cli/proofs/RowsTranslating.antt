@@ -1,5 +1,5 @@
 -- Worked files whose algorithm is to be translated, by computation: one that is, and one that is refused as it is where it is only to be spelled.
-use Rattle.std.specs.Prelude.{ℕ, ◌+◌, [], ◌∷◌, Some, None, true, codes}
+use Rattle.std.specs.Prelude.{ℕ, [], Some, None, true, codes}
 use Rattle.std.proofs.Common.{refl}
 use Rattle.tla_token.specs.declared.place.Place.{Place}
 use Rattle.tla_token.specs.declared.rule.Rule.TheVariants as rule

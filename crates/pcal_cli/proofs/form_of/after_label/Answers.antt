@@ -1,5 +1,5 @@
 -- The list is its first label or statement and those behind it.
-use Rattle.std.proofs.Common.{◌≡◌, ◌∙◌, List, ap}
+use Rattle.std.proofs.Common.{◌∙◌, List, ap}
 use Rattle.pcal_tree.specs.declared.algorithm.Stmt.{Stmt}
 use Rattle.pcal_tree.specs.Algorithm.{alone}
 use Rattle.pcal_tree.specs.InMemory.{statements_at}

@@ -1,5 +1,5 @@
 -- Where the list is no assignment there is no form.
-use Rattle.std.proofs.Common.{◌≡◌, ◌∙◌, List, ap, sym}
+use Rattle.std.proofs.Common.{◌∙◌, List, ap, sym}
 use Rattle.tla_tree.specs.Pool.{at}
 use Rattle.pcal_tree.specs.declared.algorithm.Algorithm.{Algorithm}
 use Rattle.pcal_tree.specs.declared.algorithm.Declaration.{Declaration}

@@ -1,5 +1,4 @@
 -- The one statement is an assignment, or there are others.
-use Rattle.std.proofs.Common.{[], ◌∷◌}
 use Rattle.pcal_cli.proofs.TreeRead.{more_sides, no_sides, one_is, within_one}
 use Rattle.pcal_cli.proofs.form_of.sides_in.Goals as goal
 
