@@ -1,5 +1,5 @@
 -- How deep an expression nests, part by part, by what is kept in memory of what is seen and bound.
-use Rattle.std.proofs.Common.{◌≡◌, ℕ, zero, suc, ◌+◌, ◌<◌, ◌≤◌, max, Bool, true, false, ◌||◌, ◌&&◌, nat_eq, nat_lt, List, [], ◌∷◌, ◌++◌, length, map, take, drop, get_or, Option, Some, None, refl, sym, ap, ◌∙◌, subst, arith, cond, lt-ltb, ltb-true, ltb-false, eqb-true}
+use Rattle.std.proofs.Common.{◌≡◌, ℕ, zero, suc, ◌+◌, ◌<◌, ◌≤◌, max, Bool, true, false, not, ◌||◌, ◌&&◌, nat_eq, nat_lt, List, [], ◌∷◌, ◌++◌, length, map, take, drop, get_or, Option, Some, None, refl, sym, ap, ◌∙◌, subst, arith, cond, lt-ltb, ltb-true, ltb-false, eqb-true}
 use Rattle.std.specs.List.{list_any, flat_map}
 use Rattle.std.proofs.lemmas.List.{drop_more, drop_all, length-map, length-drop}
 use Rattle.std.proofs.lemmas.Bool.{eqb-false}
@@ -10,16 +10,18 @@ use Rattle.tla_tree.specs.Tree.{Name, Word, words, Form, name, operator_call, bi
 use Rattle.tla_tree.specs.TreeOf.{trees_from}
 use Rattle.tla_tree.specs.Shapes.{BinderShaped, Shaped}
 use Rattle.tla_tree.specs.Pool.{Entry, at, trees_at, tree_in}
+use Rattle.tla_token.specs.Signs.{is_among}
+use Rattle.tla_value.specs.Definitions.{Definition}
 use Rattle.tla_value.specs.DefinitionNesting.{Depths, depths, used}
 use Rattle.tla_value.specs.StandardModules.{is_member, is_last}
 use Rattle.module_tree.specs.Outside as pure
-use Rattle.module_tree.specs.Outside.{form_reads, count, arity, is_arity, has_standard}
-use Rattle.outside_reading.specs.TreeDepth.{if_true, with_parts, beside, first_names, more_names, tree_depth, trees_depth}
+use Rattle.module_tree.specs.Outside.{are_fresh, form_reads, count, arity, is_arity, has_standard}
+use Rattle.outside_reading.specs.TreeDepth.{if_true, with_parts, beside, first_names, more_names, tree_depth, trees_depth, definition_depth}
 use Rattle.algorithm_limits.specs.Numbers.{number_of}
 use Rattle.algorithm_limits.specs.DepthsIn.{seen_by, Hides}
 use Rattle.outside_sight.specs.declared.sight.Sight.{Sight}
 use Rattle.outside_sight.specs.ModulesIn.{given, standard_of}
-use Rattle.outside_sight.specs.SightIn.{Binds, past_arity, Sees, used_depth, name_reads_in}
+use Rattle.outside_sight.specs.SightIn.{Binds, past_arity, Sees, used_depth, name_reads_in, call_reads_in}
 use Rattle.outside_sight.proofs.ModuleLaws.{names_given}
 use Rattle.outside_sight.proofs.SightLaws.{binds_more, used_seen}
 
@@ -186,5 +188,10 @@ arity_seen s v x n h = ap (λ (k : ℕ). nat_eq k (n + 1)) (h.arities x) ∙ by 
 pub name_seen : (s : Sight) (v : pure.Sight) (hs bs : List Word) (inf : Bool) (x : Word) → Sees s v → Binds hs bs → name_reads_in s hs inf x ≡ form_reads v bs inf (name x) 0
 name_seen s v hs bs inf x h b = λ i. b x i || (h.constants x i || (arity_seen s v x 0 h i || names_given s.modules v h.modules inf 0 x i))
 
-pub call_seen : (s : Sight) (v : pure.Sight) (bs : List Word) (inf : Bool) (f : Word) (n : ℕ) (a g : Bool) → Sees s v → a ≡ nat_eq (number_of s.arities f) (n + 1) → g ≡ given s.modules inf (standard_of f) n → (a || g) ≡ form_reads v bs inf (operator_call f) n
-call_seen s v bs inf f n a g h e k = λ i. (e ∙ arity_seen s v f n h) i || (k ∙ names_given s.modules v h.modules inf n f) i
+pub call_seen : (s : Sight) (v : pure.Sight) (bs : List Word) (inf : Bool) (f : Word) (n : ℕ) → Sees s v → call_reads_in s inf f n ≡ form_reads v bs inf (operator_call f) n
+call_seen s v bs inf f n h = λ i. arity_seen s v f n h i || names_given s.modules v h.modules inf n f i
+
+-- ---- a definition
+
+pub definition_is : (v : pure.Sight) (d : Definition) (o : Option ℕ) → is_among v.constants d.title ≡ false → are_fresh v [] d.params ≡ true → o ≡ tree_depth v (depths [] v.earlier) d.params false d.body → o ≡ definition_depth v (depths [] v.earlier) d
+definition_is v d o c f h = h ∙ (λ i. if_true (not (sym c i)) (if_true (sym f i) (tree_depth v (depths [] v.earlier) d.params false d.body)))

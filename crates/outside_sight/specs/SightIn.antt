@@ -39,3 +39,6 @@ fresh_in s hs x = not (is_standard_in s.modules x) && (not (list_any (pointwise 
 abbrev pub name_reads_in : Sight → List Word → Bool → Word → Bool
 name_reads_in s hs inf x =
     list_any (pointwise ◌==◌ x) hs || (list_any (pointwise ◌==◌ x) s.constants || (nat_eq (number_of s.arities x) 1 || given s.modules inf (standard_of x) 0))
+
+abbrev pub call_reads_in : Sight → Bool → Word → ℕ → Bool
+call_reads_in s inf f n = nat_eq (number_of s.arities f) (n + 1) || given s.modules inf (standard_of f) n

@@ -1,6 +1,6 @@
 //! How deep a definition nests, if it is read.
 
-ghost use Rattle.std.specs.Prelude.{◌≡◌, ◌+◌, ◌<◌, ◌≤◌, ◌^◌, [], length, take, List, IfOk, OnOk, IfSome, true};
+ghost use Rattle.std.specs.Prelude.{◌≡◌, ◌+◌, ◌<◌, ◌≤◌, ◌^◌, ◌&&◌, nat_eq, [], length, take, List, IfOk, OnOk, IfSome, true};
 ghost use Rattle.tla_tree.specs.Tree.{Word, words};
 ghost use Rattle.tla_tree.specs.Shapes.{Shaped};
 ghost use Rattle.tla_tree.specs.Pool.{at, trees_at, AllBelow};
@@ -10,7 +10,7 @@ ghost use Rattle.tla_value.specs.DefinitionNesting.{depths};
 ghost use Rattle.tla_value.specs.StandardModules.{is_member as is_member_of};
 ghost use Rattle.module_tree.specs.Outside as pure;
 ghost use Rattle.outside_reading.specs.TreeDepth as reading;
-ghost use Rattle.outside_sight.specs.SightIn.{Sees, Binds, name_reads_in};
+ghost use Rattle.outside_sight.specs.SightIn.{Sees, Binds, name_reads_in, call_reads_in};
 
 use crate::fresh::{groups_fresh, names_fresh};
 use crate::sight::Sight;
@@ -37,6 +37,15 @@ fn name_reads(sight: &Sight, bound: &Bound, infinite: bool, name: &Name) -> bool
             || (sight.arities.get(name) == 1 || sight.modules.has_name(infinite, name.bytes(), 0)))
 }
 
+// Whether a name with so many arguments may stand.
+fn call_reads(sight: &Sight, infinite: bool, name: &Name, arguments: usize) -> bool
+    requires { arguments < 2 ^ 63 }
+    ensures { result ≡ call_reads_in sight.now infinite name.now arguments }
+{
+    sight.arities.get(name) == arguments + 1
+        || sight.modules.has_name(infinite, name.bytes(), arguments)
+}
+
 // Whether a form may stand where these are bound, its parts aside.
 fn form_reads(
     sight: &Sight,
@@ -54,10 +63,7 @@ fn form_reads(
         Form::Strings => Ok(infinite),
         Form::Name(name) => Ok(name_reads(sight, bound, infinite, name)),
         Form::Next(_) => Ok(false),
-        Form::Call(name) => Ok(
-            sight.arities.get(name) == parts + 1
-                || sight.modules.has_name(infinite, name.bytes(), parts),
-        ),
+        Form::Call(name) => Ok(call_reads(sight, infinite, name, parts)),
         Form::Strict(Strict::Operator(op)) => Ok(sight.modules.has_operator(*op)),
         Form::Binding(_, groups) => groups_fresh(sight, bound, groups),
         Form::Local(names) => names_fresh(sight, bound, names),
@@ -70,6 +76,14 @@ fn is_member(form: &Form) -> bool
     ensures { result ≡ is_member_of (form_of form.now) }
 {
     matches!(form, Form::Member(_))
+}
+
+// Whether the part of this number is the last one of `\in` or `\notin`.
+fn is_last_of_member(form: &Form, part: usize, parts: usize) -> bool
+    requires { part < parts }
+    ensures { result ≡ (is_member_of (form_of form.now) && nat_eq (part + 1) parts) }
+{
+    is_member(form) && part + 1 == parts
 }
 
 // ---- depths
@@ -103,15 +117,16 @@ fn tree_depth(
     ensures kept { OnOk result (bound.new ≡ bound.old) }
 {
     let node = pool.node(e);
+    let parts: &[NodeId] = &node.parts;
     let around = bound.len();
-    let reads = form_reads(sight, bound, infinite, &node.form, node.parts.len())?;
+    let reads = form_reads(sight, bound, infinite, &node.form, parts.len())?;
     bound.truncate(around);
     if !reads {
         return Ok(None);
     }
-    let parts = parts_depth(pool, sight, bound, &node.form, &node.parts, e)?;
+    let deepest = parts_depth(pool, sight, bound, &node.form, parts, e)?;
     bound.truncate(around);
-    Ok(with_parts(sight.use_depth(&node.form), parts))
+    Ok(with_parts(sight.use_depth(&node.form), deepest))
 }
 
 // The same of the parts of a form, which have smaller numbers than this, and one more; the names of the form are bound then.
@@ -132,7 +147,7 @@ fn parts_depth(
 {
     let mut deepest = 0;
     for i in 0..parts.len() {
-        let infinite = is_member(form) && i + 1 == parts.len();
+        let infinite = is_last_of_member(form, i, parts.len());
         match tree_depth(pool, sight, bound, infinite, parts[i])? {
             Some(depth) => {
                 deepest = deepest.max(depth + 1);
