@@ -4,3 +4,4 @@ pub mod PlainRead
 pub mod OutsideFound
 pub mod Earlier
 pub mod SmallNumbers
+pub mod LargeNumbers

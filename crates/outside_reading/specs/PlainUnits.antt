@@ -110,6 +110,19 @@ abbrev pub defined_in : Sight → List Token → Option ReadDefinition
 defined_in v [] = None
 defined_in v (t ∷ ts) = defined_if v t.place t.kind (with_tree (head_in ts))
 
+-- what they are spelled as, whether it is read or not
+abbrev pub spelled_if : Place → TokenView → Option (List Name × Tree) → Option ReadDefinition
+spelled_if p (tk.word x) (Some s) = Some (definition_of p x s)
+spelled_if p k o = None
+
+abbrev pub spelled_in : List Token → Option ReadDefinition
+spelled_in [] = None
+spelled_in (t ∷ ts) = spelled_if t.place t.kind (with_tree (head_in ts))
+
+abbrev pub if_spelled : Sight → Option ReadDefinition → Option ReadDefinition
+if_spelled v (Some d) = if_reads v d
+if_spelled v None = None
+
 -- ---- units
 
 -- it declares modules or constants

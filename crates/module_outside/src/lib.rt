@@ -1,0 +1,5 @@
+//! What a module has outside its algorithm and the translation, read into memory.
+#![tactic(auto)]
+
+pub mod body;
+pub mod definition;
