@@ -1,1 +1,2 @@
 pub mod OutsideAt
+pub mod FoundAt

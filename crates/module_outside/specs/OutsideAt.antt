@@ -1,5 +1,6 @@
 -- What a module has outside, in memory: the pure one over the trees of a pool.
-use Rattle.std.specs.Prelude.{ℕ, true, List, [], ◌∷◌, ◌++◌, length, map, Option, Some, None}
+use Rattle.std.specs.declared.alloc.Global.{Global}
+use Rattle.std.specs.Prelude.{ℕ, Vec, true, List, [], ◌∷◌, ◌++◌, length, map, Option, Some, None}
 use Rattle.tla_tree.specs.Tree.{Tree, Name, words}
 use Rattle.tla_tree.specs.Lexical.{TokenView, Token}
 use Rattle.tla_tree.specs.Lexical as tk
@@ -42,3 +43,9 @@ definition_found ts None = None
 abbrev pub with_found : Sight → Option pure.ReadDefinition → Sight
 with_found v (Some d) = record { modules = v.modules; constants = v.constants; earlier = v.earlier ++ d.definition ∷ [] }
 with_found v None = v
+
+-- ---- names
+
+abbrev pub with_names : List Name → Option (Vec Name Global) → List Name
+with_names xs (Some v) = xs ++ v.items
+with_names xs None = xs

@@ -2,4 +2,6 @@
 #![tactic(auto)]
 
 pub mod body;
+pub mod declared;
 pub mod definition;
+pub mod found;

@@ -112,3 +112,18 @@ unit_there v i end l b e = by (ahead v i) refl b (omega (arith, n, l))
         ap (λ (b : Bool). (cut_at b t (cut ts)).units) b
         ∙ (λ j. (t ∷ sym (taken ts) j) ∷ sym (dropped ts) j)
         ∙ (λ j. take (sym k j) (t ∷ ts) ∷ (cut ((sym (further (length (cut ts).front) ts next) ∙ ap (ahead v) (sym (e ∙ ap (λ (us : List Token). (i + 1) + length (cut us).front) next))) j)).units)
+
+-- no unit is before the first token with which one begins
+pub units_first : (v : Tokens) (i : ℕ) → i ≡ 0 + length (cut (ahead v 0)).front → (cut (ahead v i)).units ≡ (cut (ahead v 0)).units
+units_first v i e = ap (λ (ts : List Token). (cut ts).units) (ap (ahead v) (e ∙ (let n : 0 + length (cut (ahead v 0)).front ≡ length (cut (ahead v 0)).front = omega arith in n)) ∙ further (length (cut (ahead v 0)).front)) ∙ dropped (ahead v 0)
+  where
+    further : (k : ℕ) → ahead v k ≡ drop k (ahead v 0)
+    further k = sym (drop-map (λ (t : code.Token). view (token_seen v.bytes.items t)) k v.items.items)
+
+    dropped : (ts : List Token) → (cut (drop (length (cut ts).front) ts)).units ≡ (cut ts).units
+    dropped [] = refl
+    dropped (t ∷ ts) = of (begins_unit t) refl (dropped ts)
+      where
+        of : (b : Bool) → begins_unit t ≡ b → (cut (drop (length (cut ts).front) ts)).units ≡ (cut ts).units → (cut (drop (length (cut_at b t (cut ts)).front) (t ∷ ts))).units ≡ (cut_at b t (cut ts)).units
+        of true q h = rw q refl
+        of false q h = h
