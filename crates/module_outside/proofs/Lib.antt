@@ -4,3 +4,4 @@ pub mod DefinitionLaws
 pub mod UnitSteps
 pub mod FoundLaws
 pub mod FoundSteps
+pub mod OutsideLaws

@@ -5,3 +5,4 @@ pub mod body;
 pub mod declared;
 pub mod definition;
 pub mod found;
+pub mod outside;
