@@ -1,5 +1,5 @@
 -- Numbers that are not too large, and expressions that are all the tokens left.
-use Rattle.std.proofs.Common.{◌≡◌, ℕ, zero, suc, ◌+◌, ◌*◌, ◌<◌, ◌≤◌, Bool, true, false, ◌&&◌, nat_lt, List, [], ◌∷◌, length, map, drop, Option, Some, None, Result, Ok, Err, refl, sym, ap, ◌∙◌, subst, arith, ltb-true}
+use Rattle.std.proofs.Common.{◌≡◌, ℕ, zero, suc, ◌+◌, ◌*◌, ◌<◌, ◌≤◌, Bool, true, false, ◌&&◌, nat_lt, List, [], ◌∷◌, length, drop, Some, None, Result, Ok, Err, refl, sym, ap, ◌∙◌, subst, arith, ltb-true}
 use Rattle.std.specs.Prelude.{if◌then◌else◌}
 use Rattle.std.proofs.lemmas.Bool.{and_parts}
 use Rattle.std.proofs.lemmas.List.{drop-map}
@@ -12,21 +12,19 @@ use Rattle.tla_tree.specs.Tree.{Tree}
 use Rattle.tla_tree.specs.Lexical.{TokenView, Token}
 use Rattle.tla_tree.specs.Lexical as tk
 use Rattle.tla_tree.specs.TokenViews.{view}
-use Rattle.tla_tree.specs.Spelling.{Phrase, tree_of}
+use Rattle.tla_tree.specs.Spelling.{Phrase}
 use Rattle.tla_tree.specs.Pool.{at}
-use Rattle.tla_tree.specs.Reader.{Out, Stop, next, tail, read_limited}
+use Rattle.tla_tree.specs.Reader.{Out, next, read_limited}
 use Rattle.expr_nodes.specs.declared.cursor.Halt.{Halt}
 use Rattle.expr_nodes.specs.declared.cursor.Halt.TheVariants as halt
-use Rattle.expr_nodes.specs.ReadIn.{seen, Reads, Fails}
+use Rattle.expr_nodes.specs.ReadIn.{Fails}
 use Rattle.expr_nodes.specs.Ahead.{ahead}
-use Rattle.expr_nodes.proofs.AheadLemmas.{ahead_tail}
 use Rattle.tla_expr.specs.Numbers.{NumbersFit}
-use Rattle.tla_expr.specs.ReadTrees.{ReadsTree, HasTree}
+use Rattle.tla_expr.specs.ReadTrees.{ReadsTree}
 use Rattle.outside_reading.specs.PlainUnits.{whole_tree, body_in}
 use Rattle.outside_reading.specs.SmallNumbers.{is_small, all_small}
 use Rattle.outside_units.proofs.FrontLaws.{ahead_end}
 use Rattle.outside_units.proofs.UnitLaws.{ahead_length}
-use Rattle.module_outside.specs.OutsideAt.{tree_found}
 
 -- ---- numbers
 

@@ -1,23 +1,22 @@
 -- A definition is what it is spelled as, if it is read.
-use Rattle.std.proofs.Common.{◌≡◌, ℕ, suc, ◌+◌, ◌<◌, ◌≤◌, Bool, true, false, List, [], ◌∷◌, ◌++◌, length, Option, Some, None, refl, sym, ap, ◌∙◌, subst, arith}
+use Rattle.std.proofs.Common.{◌≡◌, ℕ, ◌<◌, Bool, true, false, List, [], ◌∷◌, length, Option, Some, None, refl, sym, ap, ◌∙◌, arith}
 use Rattle.std.specs.Prelude.{if◌then◌else◌}
 use Rattle.std.proofs.lemmas.Option.{none-some, same_Some}
 use Rattle.tla_token.specs.declared.token.Tokens.{Tokens}
-use Rattle.tla_tree.specs.Tree.{Tree, Name, words}
+use Rattle.tla_tree.specs.Tree.{Tree, Name}
 use Rattle.tla_tree.specs.Lexical.{TokenView, Token}
 use Rattle.tla_tree.specs.Lexical as tk
 use Rattle.tla_tree.specs.Reader.{tail}
-use Rattle.tla_value.specs.Definitions.{Definition}
 use Rattle.tla_value.specs.DefinitionNesting.{definition_nests, depths}
 use Rattle.tla_value.specs.Outside as pure
 use Rattle.module_tree.specs.Outside.{Sight, definition_reads}
 use Rattle.expr_nodes.specs.Ahead.{ahead}
 use Rattle.expr_nodes.proofs.AheadLemmas.{ahead_tail}
-use Rattle.outside_reading.specs.PlainUnits.{head_in, body_in, with_body, with_tree, spelled_if, spelled_in, if_reads, defined_in}
+use Rattle.outside_reading.specs.PlainUnits.{head_in, body_in, with_body, with_tree, spelled_if, spelled_in, if_reads}
 use Rattle.outside_reading.specs.TreeDepth.{if_so, definition_depth}
 use Rattle.outside_reading.proofs.TreeDepths.{definition_told}
 use Rattle.outside_units.proofs.FrontLaws.{ahead_end}
-use Rattle.module_outside.specs.OutsideAt.{title_in, made_of, made}
+use Rattle.module_outside.specs.OutsideAt.{title_in, made}
 
 -- ---- what it is spelled as
 

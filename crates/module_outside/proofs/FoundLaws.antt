@@ -4,9 +4,9 @@ use Rattle.std.specs.Prelude.{is_some}
 use Rattle.std.proofs.lemmas.List.{map-append}
 use Rattle.tla_tree.specs.Tree.{Tree, Name}
 use Rattle.tla_tree.specs.Lexical.{Token}
-use Rattle.tla_tree.specs.Pool.{at, Keeps}
+use Rattle.tla_tree.specs.Pool.{Keeps}
 use Rattle.tla_value.specs.Outside as pure
-use Rattle.module_tree.specs.Module.{OutsideUnit, constants, defines, opaque, extends, definitions_of, unread_of}
+use Rattle.module_tree.specs.Module.{OutsideUnit, definitions_of, unread_of}
 use Rattle.module_tree.specs.Outside.{Sight, opaque_of}
 use Rattle.outside_reading.specs.PlainUnits.{modules_in, constants_in, declares, constants_or, extends_or, defined_before, defined_in, unit_in, seen_behind}
 use Rattle.outside_reading.proofs.Earlier.{same_sight}
@@ -16,7 +16,7 @@ use Rattle.outside_sight.specs.declared.sight.Sight as memory
 use Rattle.outside_sight.specs.SightIn.{Sees}
 use Rattle.module_outside.specs.declared.definition.ReadDefinition.{ReadDefinition}
 use Rattle.module_outside.specs.declared.found.Found.{Found}
-use Rattle.module_outside.specs.OutsideAt.{definition_seen, definition_found, made_of, with_found}
+use Rattle.module_outside.specs.OutsideAt.{definition_seen, made_of, with_found}
 use Rattle.module_outside.specs.FoundAt.{AreHeld, PassesOn, Goes}
 
 -- ---- units

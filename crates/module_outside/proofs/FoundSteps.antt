@@ -5,10 +5,8 @@ use Rattle.std.proofs.lemmas.List.{length-take}
 use Rattle.tla_token.specs.declared.token.Tokens.{Tokens}
 use Rattle.tla_tree.specs.Tree.{Tree}
 use Rattle.tla_tree.specs.Lexical.{Token}
-use Rattle.tla_tree.specs.Pool.{Keeps}
-use Rattle.tla_tree.proofs.PoolNumbers.{Keeps-then}
 use Rattle.tla_value.specs.Outside.{Opaque, ReadDefinition}
-use Rattle.module_tree.specs.Module.{OutsideUnit, definitions_of, unread_of}
+use Rattle.module_tree.specs.Module.{definitions_of, unread_of}
 use Rattle.module_tree.specs.FileUnits.{cut}
 use Rattle.module_tree.specs.Outside.{Sight}
 use Rattle.expr_nodes.specs.Ahead.{ahead}
@@ -22,7 +20,7 @@ use Rattle.outside_sight.specs.declared.sight.Sight as memory
 use Rattle.outside_sight.specs.SightIn.{Sees}
 use Rattle.module_outside.specs.declared.found.Found.{Found}
 use Rattle.module_outside.specs.OutsideAt.{definition_seen}
-use Rattle.module_outside.specs.FoundAt.{AreHeld, PassesOn, Goes, IsFound}
+use Rattle.module_outside.specs.FoundAt.{Goes, IsFound}
 
 -- ---- the tokens of a unit
 

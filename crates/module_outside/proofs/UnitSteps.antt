@@ -1,9 +1,7 @@
 -- Units one after the other: what is gathered of them, and of those that are left.
-use Rattle.std.proofs.Common.{◌≡◌, ℕ, suc, ◌+◌, ◌-◌, ◌<◌, ◌≤◌, Bool, true, false, List, [], ◌∷◌, ◌++◌, length, take, drop, Option, Some, None, Vec, Global, refl, sym, ap, ◌∙◌, subst, arith, append-nil, append_assoc}
-use Rattle.std.specs.Prelude.{unwrap_or}
+use Rattle.std.proofs.Common.{◌≡◌, ℕ, ◌+◌, ◌-◌, ◌<◌, ◌≤◌, true, List, ◌++◌, length, take, sym, ap, ◌∙◌, append-nil, append_assoc}
 use Rattle.std.specs.List.{flat_map}
 use Rattle.tla_token.specs.declared.token.Tokens.{Tokens}
-use Rattle.tla_tree.specs.Tree.{Name}
 use Rattle.tla_tree.specs.Lexical.{Token}
 use Rattle.module_tree.specs.FileUnits.{cut}
 use Rattle.expr_nodes.specs.Ahead.{ahead}

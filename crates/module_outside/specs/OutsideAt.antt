@@ -1,6 +1,6 @@
 -- What a module has outside, in memory: the pure one over the trees of a pool.
 use Rattle.std.specs.declared.alloc.Global.{Global}
-use Rattle.std.specs.Prelude.{ℕ, Vec, true, List, [], ◌∷◌, ◌++◌, length, map, Option, Some, None}
+use Rattle.std.specs.Prelude.{ℕ, Vec, true, List, [], ◌∷◌, ◌++◌, Option, Some, None}
 use Rattle.tla_tree.specs.Tree.{Tree, Name, words}
 use Rattle.tla_tree.specs.Lexical.{TokenView, Token}
 use Rattle.tla_tree.specs.Lexical as tk

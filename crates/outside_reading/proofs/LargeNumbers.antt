@@ -1,15 +1,13 @@
 -- Where a number among the tokens of a unit is too large, the unit is no definition that is read; and what a definition is spelled as is told without any sight.
 use Rattle.std.specs.Prelude.{if◌then◌else◌}
 use Rattle.std.proofs.Common.{◌≡◌, Bool, true, false, ◌&&◌, List, [], ◌∷◌, Option, Some, None, refl, sym, ap, ◌∙◌}
-use Rattle.std.proofs.lemmas.Bool.{and_parts}
 use Rattle.tla_token.specs.declared.place.Place.{Place}
-use Rattle.tla_tree.specs.Tree.{Word, Name, Tree}
+use Rattle.tla_tree.specs.Tree.{Name, Tree}
 use Rattle.tla_tree.specs.Lexical.{TokenView, Token}
 use Rattle.tla_tree.specs.Lexical as tk
 use Rattle.tla_tree.specs.Reader.{is_mark}
-use Rattle.tla_value.specs.Outside.{ReadDefinition}
 use Rattle.module_tree.specs.Outside.{Sight}
-use Rattle.outside_reading.specs.PlainUnits.{is_right, name_if, name_in, only_name, one_more, names_in, closed_in, parameters_in, behind_sign, head_in, body_in, with_body, with_tree, definition_of, if_reads, defined_if, defined_in, spelled_if, spelled_in, if_spelled}
+use Rattle.outside_reading.specs.PlainUnits.{is_right, name_if, name_in, only_name, one_more, names_in, closed_in, parameters_in, behind_sign, head_in, with_tree, defined_if, defined_in, spelled_if, spelled_in, if_spelled}
 use Rattle.outside_reading.specs.SmallNumbers.{is_small, all_small}
 use Rattle.outside_reading.proofs.SmallNumbers.{large_unread}
 

@@ -1,12 +1,11 @@
 -- How deep an expression nests, part by part, by what is kept in memory of what is seen and bound.
-use Rattle.std.proofs.Common.{◌≡◌, ℕ, zero, suc, ◌+◌, ◌<◌, ◌≤◌, max, Bool, true, false, not, ◌||◌, ◌&&◌, nat_eq, nat_lt, List, [], ◌∷◌, ◌++◌, length, map, take, drop, get_or, Option, Some, None, refl, sym, ap, ◌∙◌, subst, arith, cond, lt-ltb, ltb-true, ltb-false, eqb-true}
-use Rattle.std.specs.List.{list_any, flat_map}
+use Rattle.std.proofs.Common.{◌≡◌, ℕ, zero, suc, ◌+◌, ◌<◌, ◌≤◌, max, Bool, true, false, not, ◌||◌, ◌&&◌, nat_eq, nat_lt, List, [], ◌∷◌, ◌++◌, length, map, take, drop, get_or, Option, Some, None, refl, sym, ap, ◌∙◌, arith, cond, lt-ltb, ltb-true, ltb-false, eqb-true}
+use Rattle.std.specs.List.{flat_map}
 use Rattle.std.proofs.lemmas.List.{drop_more, drop_all, length-map, length-drop}
 use Rattle.std.proofs.lemmas.Bool.{eqb-false}
-use Rattle.tla_token.specs.declared.place.Place.{Place}
 use Rattle.tla_tree.specs.declared.op.Binder.{Binder}
 use Rattle.tla_tree.specs.declared.op.Binder.TheVariants as binder
-use Rattle.tla_tree.specs.Tree.{Name, Word, words, Form, name, operator_call, binding, local, Tree, node, Trees, beginnings, seen_names}
+use Rattle.tla_tree.specs.Tree.{Name, Word, words, Form, name, operator_call, binding, local, Tree, beginnings, seen_names}
 use Rattle.tla_tree.specs.TreeOf.{trees_from}
 use Rattle.tla_tree.specs.Shapes.{BinderShaped, Shaped}
 use Rattle.tla_tree.specs.Pool.{Entry, at, trees_at, tree_in}
@@ -18,12 +17,10 @@ use Rattle.module_tree.specs.Outside as pure
 use Rattle.module_tree.specs.Outside.{are_fresh, form_reads, count, arity, is_arity, has_standard}
 use Rattle.outside_reading.specs.TreeDepth.{if_true, with_parts, beside, first_names, more_names, tree_depth, trees_depth, definition_depth}
 use Rattle.algorithm_limits.specs.Numbers.{number_of}
-use Rattle.algorithm_limits.specs.DepthsIn.{seen_by, Hides}
+use Rattle.algorithm_limits.specs.DepthsIn.{seen_by}
 use Rattle.outside_sight.specs.declared.sight.Sight.{Sight}
-use Rattle.outside_sight.specs.ModulesIn.{given, standard_of}
-use Rattle.outside_sight.specs.SightIn.{Binds, past_arity, Sees, used_depth, name_reads_in, call_reads_in}
+use Rattle.outside_sight.specs.SightIn.{Binds, past_arity, Sees, name_reads_in, call_reads_in}
 use Rattle.outside_sight.proofs.ModuleLaws.{names_given}
-use Rattle.outside_sight.proofs.SightLaws.{binds_more, used_seen}
 
 -- ---- the names that each part sees
 

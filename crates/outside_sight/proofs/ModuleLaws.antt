@@ -1,5 +1,5 @@
 -- What is kept of the modules that are extended tells what they give.
-use Rattle.std.proofs.Common.{◌≡◌, ℕ, ◌+◌, ◌<◌, ◌≤◌, length, take, get_or, subst, Bool, true, false, not, ◌&&◌, ◌||◌, nat_eq, List, [], ◌∷◌, ◌++◌, Option, Some, None, refl, sym, ap, ◌∙◌, cond, bytes_eq, codes}
+use Rattle.std.proofs.Common.{◌≡◌, ℕ, ◌+◌, ◌<◌, ◌≤◌, length, take, get_or, subst, Bool, true, false, not, ◌&&◌, ◌||◌, nat_eq, List, [], ◌∷◌, ◌++◌, Option, Some, refl, sym, ap, ◌∙◌, cond, bytes_eq, codes}
 use Rattle.std.proofs.lemmas.List.{take_more, take_all, map-append}
 use Rattle.std.proofs.lemmas.Slice.Eq.{bytes_eq-Decides}
 use Rattle.tla_token.specs.Signs.{is_among}
@@ -7,10 +7,9 @@ use Rattle.tla_token.specs.Words.{is_standard, standard_names, sequence_names, t
 use Rattle.tla_tree.specs.declared.op.Op.{Op}
 use Rattle.tla_tree.specs.declared.op.Op.TheVariants as op
 use Rattle.tla_tree.specs.Tree.{Word, Name, words}
-use Rattle.tla_value.specs.StandardModules.{extends_one, has_operator, number_modules, integer_modules, sequence_modules, finite_set_modules, tlc_modules, StandardName, standard_table, standard_in}
+use Rattle.tla_value.specs.StandardModules.{extends_one, has_operator, number_modules, integer_modules, sequence_modules, finite_set_modules, tlc_modules, StandardName}
 use Rattle.module_tree.specs.Outside.{Sight, standard_reads, has_standard}
 use Rattle.outside_sight.specs.declared.modules.Modules.{Modules}
-use Rattle.outside_sight.specs.declared.standard.Giver.{Giver}
 use Rattle.outside_sight.specs.declared.standard.Giver.TheVariants as giver
 use Rattle.outside_sight.specs.declared.standard.Standard.{Standard}
 use Rattle.outside_sight.specs.ModulesIn.{AreModules, no_modules, with_module, gives, has_op, is_standard_in, standard_of, given}

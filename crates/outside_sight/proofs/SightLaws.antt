@@ -1,7 +1,6 @@
 -- What is kept in memory of what a unit sees, as definitions are added and names are bound.
-use Rattle.std.proofs.Common.{◌≡◌, ℕ, zero, suc, ◌+◌, ◌<◌, ◌==◌, take, drop, get_or, append-nil, append_assoc, Vec, Global, Bool, true, false, not, ◌&&◌, ◌||◌, nat_eq, List, [], ◌∷◌, ◌++◌, length, Option, Some, None, refl, sym, ap, ◌∙◌, subst, arith, cond, bytes_eq, eqb-true}
+use Rattle.std.proofs.Common.{◌≡◌, ℕ, zero, suc, ◌+◌, ◌<◌, take, drop, get_or, append-nil, append_assoc, Vec, Global, Bool, true, false, not, ◌&&◌, ◌||◌, nat_eq, List, [], ◌∷◌, ◌++◌, length, Option, Some, None, refl, sym, ap, ◌∙◌, subst, arith, cond, bytes_eq, eqb-true}
 use Rattle.std.specs.List.{list_any, flat_map}
-use Rattle.std.specs.Cmp.Lexicographic.{pointwise}
 use Rattle.std.proofs.lemmas.List.{take_more, drop_more, map-append}
 use Rattle.std.proofs.lemmas.Grind.{flat_map-append}
 use Rattle.std.proofs.Math.Seq.{take-append_seam}
@@ -20,7 +19,7 @@ use Rattle.algorithm_limits.specs.DepthsIn.{Hides}
 use Rattle.algorithm_limits.proofs.Tables.{equal, same_test, number_of_with}
 use Rattle.outside_sight.specs.declared.modules.Modules.{Modules}
 use Rattle.outside_sight.specs.declared.sight.Sight.{Sight}
-use Rattle.outside_sight.specs.ModulesIn.{AreModules, is_standard_in}
+use Rattle.outside_sight.specs.ModulesIn.{AreModules}
 use Rattle.outside_sight.specs.SightIn.{Binds, past_arity, Sees, used_depth, fresh_in}
 use Rattle.outside_sight.proofs.ModuleLaws.{standard_given}
 

@@ -1,5 +1,5 @@
 -- The standard modules that are extended, in memory: what they give.
-use Rattle.std.specs.Prelude.{ℕ, nat_eq, Bool, true, false, not, ◌&&◌, ◌||◌, List, [], ◌∷◌, Option, Some, None, cond, bytes_eq, codes, ◌≡◌}
+use Rattle.std.specs.Prelude.{ℕ, nat_eq, Bool, true, false, not, ◌&&◌, ◌||◌, List, Option, Some, None, cond, bytes_eq, codes, ◌≡◌}
 use Rattle.tla_token.specs.Signs.{is_among}
 use Rattle.tla_token.specs.Words.{standard_names, sequence_names, tlc_names}
 use Rattle.tla_tree.specs.declared.op.Op.{Op}

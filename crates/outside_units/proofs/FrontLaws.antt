@@ -1,12 +1,11 @@
 -- Tokens from a number on, by the first of them.
-use Rattle.std.proofs.Common.{◌≡◌, ℕ, zero, suc, ◌+◌, ◌-◌, ◌<◌, ◌≤◌, Bool, true, false, List, [], ◌∷◌, ◌++◌, length, map, take, drop, get_or, refl, sym, ap, ◌∙◌, arith}
+use Rattle.std.proofs.Common.{◌≡◌, ℕ, ◌+◌, ◌<◌, ◌≤◌, [], ◌∷◌, length, drop, get_or, sym, ap, ◌∙◌}
 use Rattle.std.proofs.lemmas.List.{drop_more, drop_all}
-use Rattle.tla_token.specs.declared.place.Place.{Place}
 use Rattle.tla_token.specs.declared.token.Token as code
 use Rattle.tla_token.specs.declared.token.Tokens.{Tokens}
-use Rattle.tla_token.specs.TokensSeen.{token_seen, kind_seen}
-use Rattle.tla_tree.specs.Lexical.{TokenView, Token, token}
-use Rattle.tla_tree.specs.TokenViews.{view, kind_of}
+use Rattle.tla_token.specs.TokensSeen.{kind_seen}
+use Rattle.tla_tree.specs.Lexical.{TokenView, token}
+use Rattle.tla_tree.specs.TokenViews.{kind_of}
 use Rattle.expr_nodes.specs.ReadIn.{seen}
 use Rattle.expr_nodes.specs.Ahead.{ahead}
 

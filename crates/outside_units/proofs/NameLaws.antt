@@ -1,5 +1,5 @@
 -- Names with commas between them, and parameters, token by token.
-use Rattle.std.proofs.Common.{◌≡◌, ℕ, suc, ◌+◌, ◌<◌, ◌≤◌, Bool, true, false, ◌&&◌, List, [], ◌∷◌, ◌++◌, length, Option, Some, None, Vec, Global, refl, sym, ap, ◌∙◌, arith, append_assoc}
+use Rattle.std.proofs.Common.{◌≡◌, ℕ, ◌+◌, ◌<◌, ◌≤◌, Bool, true, false, ◌&&◌, List, [], ◌∷◌, ◌++◌, length, Option, Some, None, refl, sym, ap, ◌∙◌, arith, append_assoc}
 use Rattle.std.specs.Prelude.{if◌then◌else◌}
 use Rattle.tla_token.specs.declared.token.Tokens.{Tokens}
 use Rattle.tla_tree.specs.Tree.{Word, Name}
@@ -8,10 +8,10 @@ use Rattle.tla_tree.specs.Lexical as tk
 use Rattle.tla_tree.specs.Reader.{is_mark, tail}
 use Rattle.expr_nodes.specs.Ahead.{ahead}
 use Rattle.expr_nodes.proofs.AheadLemmas.{ahead_tail}
-use Rattle.outside_reading.specs.PlainUnits.{is_right, name_in, is_keyword, only_name, one_more, names_in, all_names, named_in, closed_in, parameters_in, behind_sign, head_in}
+use Rattle.outside_reading.specs.PlainUnits.{is_right, name_in, only_name, one_more, names_in, all_names, named_in, closed_in, parameters_in, behind_sign, head_in}
 use Rattle.outside_units.proofs.FrontLaws.{ahead_end}
 use Rattle.outside_units.proofs.UnitLaws.{ahead_length}
-use Rattle.outside_units.specs.Fronts.{front_name, front_mark, front_right, front_keyword, front_placed, names_before, names_and_rest, items_of}
+use Rattle.outside_units.specs.Fronts.{front_name, front_mark, front_right, front_keyword, front_placed, names_before}
 
 -- ---- names, by the front
 

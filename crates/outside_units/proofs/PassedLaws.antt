@@ -1,16 +1,15 @@
 -- Names of units that are passed on unread, token by token.
-use Rattle.std.proofs.Common.{◌≡◌, ℕ, suc, ◌+◌, ◌<◌, ◌≤◌, Bool, true, false, List, [], ◌∷◌, ◌++◌, length, Option, Some, None, refl, sym, ap, ◌∙◌, arith, append-nil, append_assoc, cond}
+use Rattle.std.proofs.Common.{◌≡◌, ℕ, ◌+◌, ◌≤◌, Bool, true, false, List, [], ◌∷◌, ◌++◌, length, Option, Some, None, refl, sym, ap, ◌∙◌, append-nil, append_assoc}
 use Rattle.tla_token.specs.declared.token.Tokens.{Tokens}
 use Rattle.tla_tree.specs.Tree.{Word}
 use Rattle.tla_tree.specs.Lexical.{TokenView, Token}
 use Rattle.tla_tree.specs.Lexical as tk
 use Rattle.tla_tree.specs.Reader.{tail, is_mark}
-use Rattle.tla_value.specs.Outside.{Opaque}
-use Rattle.module_tree.specs.Outside.{identifiers, first_one, is_define, title_at, opaque_of}
+use Rattle.module_tree.specs.Outside.{identifiers, first_one, is_define, title_at}
 use Rattle.expr_nodes.specs.Ahead.{ahead}
 use Rattle.expr_nodes.proofs.AheadLemmas.{ahead_tail}
 use Rattle.outside_units.specs.Fronts.{front_mark}
-use Rattle.outside_units.specs.Passing.{identifier_in, front_identifier, front_word, with_one, passed_names}
+use Rattle.outside_units.specs.Passing.{identifier_in, front_identifier, with_one}
 use Rattle.outside_units.proofs.FrontLaws.{ahead_end}
 
 one_there : (t : Token) (ts : List Token) (k : TokenView) → t.kind ≡ k → identifiers (t ∷ ts) ≡ with_one [] (identifier_in k) ++ identifiers ts

@@ -1,8 +1,7 @@
 -- Units of tokens, one after the other.
-use Rattle.std.proofs.Common.{◌≡◌, ℕ, zero, suc, ◌+◌, ◌-◌, ◌<◌, ◌≤◌, Bool, true, false, ◌&&◌, List, [], ◌∷◌, ◌++◌, length, map, take, drop, refl, sym, ap, ◌∙◌, arith}
-use Rattle.std.specs.List.{list_all}
+use Rattle.std.proofs.Common.{◌≡◌, ℕ, zero, suc, ◌+◌, ◌-◌, ◌<◌, ◌≤◌, Bool, true, false, ◌&&◌, List, [], ◌∷◌, length, take, drop, refl, sym, ap, ◌∙◌, arith}
 use Rattle.std.proofs.lemmas.Bool.{and_parts}
-use Rattle.std.proofs.lemmas.List.{drop-map, take-map, length-drop, length-map, drop_all}
+use Rattle.std.proofs.lemmas.List.{drop-map, take-map, length-drop, length-map}
 use Rattle.tla_token.specs.declared.token.Token as code
 use Rattle.tla_token.specs.declared.token.Tokens.{Tokens}
 use Rattle.tla_token.specs.TokensSeen.{token_seen}
@@ -10,7 +9,7 @@ use Rattle.tla_token.specs.KeptWords.{is_kept, are_kept}
 use Rattle.tla_tree.specs.Lexical.{Token}
 use Rattle.tla_tree.specs.TokenViews.{view}
 use Rattle.tla_tree.specs.Reader.{tail}
-use Rattle.module_tree.specs.FileUnits.{begins_unit, cut, cut_at, Cut}
+use Rattle.module_tree.specs.FileUnits.{begins_unit, cut, cut_at}
 use Rattle.expr_nodes.specs.ReadIn.{seen}
 use Rattle.expr_nodes.specs.Ahead.{ahead}
 use Rattle.expr_nodes.proofs.AheadLemmas.{ahead_tail}

@@ -1,5 +1,5 @@
 -- Where tokens are left behind an expression, they are no body.
-use Rattle.std.proofs.Common.{◌≡◌, arith}
+use Rattle.std.proofs.Common.{arith}
 use Rattle.module_outside.proofs.BodyLaws.{body_longer}
 use Rattle.module_outside.proofs.body.body_at.Goals as goal
 

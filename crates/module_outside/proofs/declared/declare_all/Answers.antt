@@ -1,5 +1,5 @@
 -- Units are looked at one after the other.
-use Rattle.std.proofs.Common.{◌≡◌, ◌<◌, List, [], length, ◌∙◌, arith}
+use Rattle.std.proofs.Common.{◌<◌, List, [], length, ◌∙◌, arith}
 use Rattle.std.specs.Prelude.{unwrap_or}
 use Rattle.tla_tree.specs.Lexical.{Token}
 use Rattle.expr_nodes.specs.Ahead.{ahead}

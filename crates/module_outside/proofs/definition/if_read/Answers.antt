@@ -1,9 +1,8 @@
 -- A definition is read exactly if it has a depth.
-use Rattle.std.proofs.Common.{◌≡◌, true, List, [], ap, sym, ◌∙◌, length, refl}
+use Rattle.std.proofs.Common.{true, List, [], ap, sym, ◌∙◌, length}
 use Rattle.std.proofs.lemmas.List.{length-map}
 use Rattle.tla_tree.specs.Tree.{Name, words}
 use Rattle.tla_tree.specs.Pool.{at}
-use Rattle.tla_value.specs.Definitions.{Definition}
 use Rattle.tla_value.specs.DefinitionNesting.{depths}
 use Rattle.outside_reading.specs.TreeDepth.{definition_depth}
 use Rattle.module_outside.specs.declared.definition.ReadDefinition.{ReadDefinition}

@@ -1,11 +1,8 @@
 -- A definition is a name, a head and a body.
-use Rattle.std.proofs.Common.{◌≡◌, ap, sym, ◌∙◌, subst}
+use Rattle.std.proofs.Common.{ap, sym, ◌∙◌}
 use Rattle.std.proofs.lemmas.Result.{IfOk-weaker}
-use Rattle.tla_tree.specs.Tree.{Name}
-use Rattle.expr_nodes.specs.Ahead.{ahead}
-use Rattle.outside_reading.specs.PlainUnits.{body_in}
 use Rattle.outside_units.specs.Fronts.{names_and_rest}
-use Rattle.module_outside.specs.OutsideAt.{definition_found, made}
+use Rattle.module_outside.specs.OutsideAt.{definition_found}
 use Rattle.module_outside.proofs.DefinitionLaws.{headed, headless}
 use Rattle.module_outside.proofs.definition.spelled.Goals as goal
 

@@ -1,5 +1,5 @@
 -- A unit is read, or passed on, or it declares something.
-use Rattle.std.proofs.Common.{◌≡◌, Option, ap, sym, subst, ◌∙◌, refl}
+use Rattle.std.proofs.Common.{Option, ap, sym, subst, ◌∙◌, refl}
 use Rattle.expr_nodes.specs.Ahead.{ahead}
 use Rattle.module_outside.specs.OutsideAt.{definition_found, with_found}
 use Rattle.module_outside.specs.declared.definition.ReadDefinition.{ReadDefinition}

@@ -1,5 +1,5 @@
 -- Units are found one after the other, as the pool grows.
-use Rattle.std.proofs.Common.{◌≡◌, ◌<◌, List, [], length, refl, sym, ◌∙◌, subst, arith}
+use Rattle.std.proofs.Common.{◌<◌, List, length, refl, sym, ◌∙◌, subst, arith}
 use Rattle.tla_tree.proofs.PoolNumbers.{Keeps-then}
 use Rattle.module_tree.specs.FileUnits.{cut}
 use Rattle.expr_nodes.specs.Ahead.{ahead}

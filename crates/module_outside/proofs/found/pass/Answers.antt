@@ -1,5 +1,5 @@
 -- A unit behind the translation is passed on, or it declares something.
-use Rattle.std.proofs.Common.{◌≡◌, sym, ◌∙◌}
+use Rattle.std.proofs.Common.{sym, ◌∙◌}
 use Rattle.expr_nodes.specs.Ahead.{ahead}
 use Rattle.module_outside.proofs.FoundLaws.{passes_declared, passes_on}
 use Rattle.module_outside.proofs.found.pass.Goals as goal

@@ -1,6 +1,5 @@
 -- Units behind the translation are passed on one after the other.
-use Rattle.std.proofs.Common.{◌≡◌, ◌<◌, ◌≤◌, ◌++◌, List, length, map, ap, ◌∙◌, arith}
-use Rattle.std.specs.List.{flat_map}
+use Rattle.std.proofs.Common.{◌<◌, ◌≤◌, ◌++◌, List, length, map, ap, ◌∙◌, arith}
 use Rattle.tla_value.specs.Outside.{Opaque}
 use Rattle.module_tree.specs.FileUnits.{cut}
 use Rattle.expr_nodes.specs.Ahead.{ahead}

@@ -1,5 +1,5 @@
 -- All that is outside is found.
-use Rattle.std.proofs.Common.{◌≡◌, false, List, ◌++◌, ap, ◌∙◌, subst}
+use Rattle.std.proofs.Common.{false, List, ◌++◌, ap, ◌∙◌, subst}
 use Rattle.std.specs.List.{flat_map}
 use Rattle.tla_tree.specs.Tree.{Name}
 use Rattle.tla_value.specs.Outside.{Opaque}

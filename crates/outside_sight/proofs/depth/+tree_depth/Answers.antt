@@ -1,7 +1,7 @@
 -- Proves what is asked of the functions that measure an expression.
-use Rattle.std.proofs.Common.{◌≡◌, ℕ, ◌+◌, ◌≤◌, ◌++◌, max, true, false, List, [], length, drop, take, slice_index_or, Option, Some, None, IfSome, sym, ap, ◌∙◌, subst, refl, arith}
+use Rattle.std.proofs.Common.{ℕ, ◌+◌, ◌≤◌, ◌++◌, true, false, List, [], length, take, slice_index_or, Option, IfSome, sym, ap, ◌∙◌, subst, refl, arith}
 use Rattle.std.proofs.lemmas.List.{get_or_default}
-use Rattle.tla_tree.specs.Tree.{Word, Form, seen_names}
+use Rattle.tla_tree.specs.Tree.{Word, seen_names}
 use Rattle.tla_tree.specs.Pool.{Entry, trees_at}
 use Rattle.tla_tree.proofs.PoolNumbers.{AllBelow-at}
 use Rattle.tla_pool.specs.FormOf.{form_of}

@@ -1,5 +1,5 @@
 -- A definition is measured where its parameters are bound.
-use Rattle.std.proofs.Common.{◌≡◌, true, List, [], sym, subst, ◌∙◌}
+use Rattle.std.proofs.Common.{true, List, [], sym, subst, ◌∙◌}
 use Rattle.std.proofs.lemmas.Result.{IfOk-weaker}
 use Rattle.tla_tree.specs.Tree.{Word, words}
 use Rattle.tla_tree.specs.Pool.{at}

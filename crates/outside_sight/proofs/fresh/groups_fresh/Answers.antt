@@ -1,13 +1,12 @@
 -- Groups of names are fresh as far as they are bound.
-use Rattle.std.proofs.Common.{◌≡◌, true, false, ◌+◌, ◌++◌, List, length, take, sym, ap, ◌∙◌, subst, Vec, Global}
+use Rattle.std.proofs.Common.{◌++◌, List, take, sym, ap, ◌∙◌, subst, Vec, Global}
 use Rattle.std.specs.List.{flat_map}
 use Rattle.std.proofs.lemmas.List.{take_all}
-use Rattle.tla_tree.specs.Tree.{Name, Word, words}
+use Rattle.tla_tree.specs.Tree.{Name, words}
 use Rattle.tla_pool.specs.FormOf.{groups_of}
 use Rattle.module_tree.specs.Outside as pure
 use Rattle.algorithm_limits.specs.DepthsIn.{Hides}
 use Rattle.algorithm_limits.proofs.BoundLemmas.{groups_more}
-use Rattle.outside_sight.specs.SightIn.{Sees, Binds}
 use Rattle.outside_sight.proofs.SightLaws.{binds_more, fresh_group, stale_group, kept_then}
 use Rattle.outside_sight.proofs.fresh.groups_fresh.Goals as goal
 

@@ -1,11 +1,11 @@
 -- Names are fresh as far as they are bound.
-use Rattle.std.proofs.Common.{◌≡◌, true, false, ◌+◌, ◌++◌, List, [], ◌∷◌, take, sym, ap, ◌∙◌, subst}
+use Rattle.std.proofs.Common.{◌≡◌, ◌++◌, List, [], ◌∷◌, take, sym, ap, ◌∙◌, subst}
 use Rattle.std.proofs.lemmas.List.{take_all}
-use Rattle.tla_tree.specs.Tree.{Name, Word, words}
+use Rattle.tla_tree.specs.Tree.{Name, words}
 use Rattle.module_tree.specs.Outside as pure
 use Rattle.algorithm_limits.specs.DepthsIn.{Hides}
 use Rattle.algorithm_limits.proofs.BoundLemmas.{names_more}
-use Rattle.outside_sight.specs.SightIn.{Sees, Binds, fresh_in}
+use Rattle.outside_sight.specs.SightIn.{fresh_in}
 use Rattle.outside_sight.proofs.SightLaws.{binds_more, fresh_seen, fresh_name, stale_name}
 use Rattle.outside_sight.proofs.fresh.names_fresh.Goals as goal
 

@@ -1,5 +1,5 @@
 -- The sign of a definition is behind its parameters.
-use Rattle.std.proofs.Common.{◌≡◌, ap, sym, ◌∙◌}
+use Rattle.std.proofs.Common.{ap, sym, ◌∙◌}
 use Rattle.outside_units.specs.Fronts.{names_and_rest}
 use Rattle.outside_units.proofs.NameLaws.{head_some, head_unsigned}
 use Rattle.outside_units.proofs.names.head_at.Goals as goal

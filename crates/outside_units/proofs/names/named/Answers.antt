@@ -1,8 +1,8 @@
 -- A unit is a word and names, or something else is behind them.
-use Rattle.std.proofs.Common.{◌≡◌, ◌<◌, ◌≤◌, ℕ, length, ap, sym, subst, ◌∙◌, arith, Option, Vec, Global, IfSome}
+use Rattle.std.proofs.Common.{◌≤◌, ℕ, length, ap, sym, subst, ◌∙◌, arith, Option, Vec, Global, IfSome}
 use Rattle.tla_tree.specs.Tree.{Name}
 use Rattle.outside_units.specs.Fronts.{names_and_rest}
-use Rattle.outside_units.proofs.NameLaws.{named_all, named_more}
+use Rattle.outside_units.proofs.NameLaws.{named_more}
 use Rattle.outside_units.proofs.names.named.Goals as goal
 
 pub returns-else-end-len : goal.returns-else-end-len

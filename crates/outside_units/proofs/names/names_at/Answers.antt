@@ -1,5 +1,5 @@
 -- Names are read as far as there are commas.
-use Rattle.std.proofs.Common.{◌≡◌, ◌+◌, Some, refl, ap, sym, ◌∙◌, arith}
+use Rattle.std.proofs.Common.{◌+◌, arith}
 use Rattle.outside_reading.specs.PlainUnits.{names_in}
 use Rattle.expr_nodes.specs.Ahead.{ahead}
 use Rattle.outside_units.proofs.NameLaws.{names_none, names_last, names_stopped, names_further, names_over}

@@ -1,5 +1,5 @@
 -- Parameters are names in brackets.
-use Rattle.std.proofs.Common.{◌≡◌, ap, sym, ◌∙◌}
+use Rattle.std.proofs.Common.{ap, sym, ◌∙◌}
 use Rattle.outside_units.specs.Fronts.{names_and_rest}
 use Rattle.outside_units.proofs.NameLaws.{no_parameters, params_unnamed, params_closed, params_open}
 use Rattle.outside_units.proofs.names.parameters_at.Goals as goal

@@ -1,5 +1,5 @@
 -- One more definition is seen.
-use Rattle.std.proofs.Common.{◌≡◌, ◌+◌, ◌∙◌, ap, refl}
+use Rattle.std.proofs.Common.{◌+◌, ◌∙◌, ap, refl}
 use Rattle.tla_tree.specs.Tree.{Word}
 use Rattle.algorithm_limits.specs.Numbers.{with_number}
 use Rattle.outside_sight.proofs.SightLaws.{one_defined}

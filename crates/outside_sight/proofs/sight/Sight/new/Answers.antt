@@ -1,5 +1,5 @@
 -- Modules and constants are seen.
-use Rattle.std.proofs.Common.{◌≡◌, List, [], sym, subst}
+use Rattle.std.proofs.Common.{List, subst}
 use Rattle.tla_tree.specs.Tree.{Word, words}
 use Rattle.algorithm_limits.specs.DepthsIn.{Hides}
 use Rattle.outside_sight.proofs.SightLaws.{none_seen}
