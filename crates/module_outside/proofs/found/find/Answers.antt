@@ -1,0 +1,30 @@
+-- A unit is read, or passed on, or it declares something.
+use Rattle.std.proofs.Common.{Option, ap, sym, subst, ◌∙◌, refl}
+use Rattle.expr_nodes.specs.Ahead.{ahead}
+use Rattle.module_outside.specs.OutsideAt.{definition_found, with_found}
+use Rattle.module_outside.specs.declared.definition.ReadDefinition.{ReadDefinition}
+use Rattle.outside_sight.specs.SightIn.{Sees}
+use Rattle.module_outside.proofs.FoundLaws.{goes_declared, sees_declared, goes_defined, goes_passed, sees_passed}
+use Rattle.module_outside.proofs.found.find.Goals as goal
+
+pub returns-then-branch-clause-value : goal.returns-then-branch-clause-value
+returns-then-branch-clause-value c v s = goes_declared c.args.pool.now c.args.found.now v (ahead c.args.unit.now 0) (sym c.in_ok-is_declared.ensures ∙ c.if-branch.true)
+
+pub returns-then-branch-clause-sees : goal.returns-then-branch-clause-sees
+returns-then-branch-clause-sees c v s = sees_declared c.args.sight.now v (ahead c.args.unit.now 0) (sym c.in_ok-is_declared.ensures ∙ c.if-branch.true) s
+
+pub returns-in_ok-push-in-Some-clause-value : goal.returns-in_ok-push-in-Some-clause-value
+returns-in_ok-push-in-Some-clause-value c v s =
+    goes_defined c.args.pool.now c.definition.new.pool c.args.found.now _ v (ahead c.args.unit.now 0) c.in-Some.one c.definition.ensures.kept c.requires.held (sym c.in_ok-is_declared.ensures ∙ c.if-branch.false)
+    (ap (definition_found c.definition.new.pool) (sym c.in-Some.is) ∙ c.in_ok-one.ensures.value v s) c.in_ok-push-in-Some.ensures.items refl
+
+pub returns-in_ok-push-in-None-clause-value : goal.returns-in_ok-push-in-None-clause-value
+returns-in_ok-push-in-None-clause-value c v s =
+    goes_passed c.args.pool.now c.definition.new.pool c.args.found.now _ v (ahead c.args.unit.now 0) c.in_ok-passed_on-in-None.field-0 c.definition.ensures.kept c.requires.held (sym c.in_ok-is_declared.ensures ∙ c.if-branch.false)
+    (ap (definition_found c.definition.new.pool) (sym c.in-None.is) ∙ c.in_ok-one.ensures.value v s) c.in_ok-passed_on-in-None.ensures refl c.in_ok-push-in-None.ensures.items
+
+pub returns-in_ok-push-in-None-clause-sees : goal.returns-in_ok-push-in-None-clause-sees
+returns-in_ok-push-in-None-clause-sees c v s =
+    let none = ap (definition_found c.definition.new.pool) (sym c.in-None.is) ∙ c.in_ok-one.ensures.value v s in
+    sees_passed c.definition.new.sight v (ahead c.args.unit.now 0) (sym c.in_ok-is_declared.ensures ∙ c.if-branch.false) none
+    (subst (λ (o : Option ReadDefinition). Sees c.definition.new.sight (with_found v (definition_found c.definition.new.pool o))) c.in-None.is (c.in_ok-one.ensures.sees v s))

@@ -1,0 +1,3 @@
+pub mod OutsideAt
+pub mod FoundAt
+pub mod WholeAt

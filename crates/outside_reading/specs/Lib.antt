@@ -1,0 +1,3 @@
+pub mod PlainUnits
+pub mod TreeDepth
+pub mod SmallNumbers

@@ -1,0 +1,2 @@
+pub mod ModulesIn
+pub mod SightIn
