@@ -1,4 +1,4 @@
--- What a module has outside, in memory: the pure one over the trees of a pool.
+-- Definitions that are read outside, and names found there, in memory: the pure ones over the trees of a pool.
 use Rattle.std.specs.declared.alloc.Global.{Global}
 use Rattle.std.specs.Prelude.{ℕ, Vec, true, List, [], ◌∷◌, ◌++◌, Option, Some, None}
 use Rattle.tla_tree.specs.Tree.{Tree, Name, words}
