@@ -1,0 +1,3 @@
+-- That offences are found as they are defined.
+pub mod JoinLaws
+pub mod NameLaws

@@ -1,0 +1,5 @@
+//! Rules on declared names and on modules: names declared twice, reserved names, and what needs a module that isn't extended.
+#![tactic(auto)]
+
+pub mod found;
+pub mod own;
