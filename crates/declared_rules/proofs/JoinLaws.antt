@@ -56,15 +56,21 @@ pub joins_as : (ts : List Tree) (j k : Found) (rs qs : List Refusal) → rs ≡ 
 joins_as ts j k rs qs e g = subst (λ (l : List Refusal). Joins ts j k l) e g
 
 pub adds_none : (ts : List Tree) (k : Found) → Adds ts k k []
-adds_none ts k = joins_none ts k
+adds_none ts k = record { joins = joins_none ts k }
 
 pub adds_as : (ts : List Tree) (j k : Found) (xs ys : List Part) → xs ≡ ys → Adds ts j k xs → Adds ts j k ys
 adds_as ts j k xs ys e g = subst (λ (l : List Part). Adds ts j k l) e g
 
 pub adds_then : (ts : List Tree) (j k l : Found) (xs ys : List Part) → Adds ts j k xs → Adds ts k l ys → Adds ts j l (xs ++ ys)
-adds_then ts j k l xs ys g h =
-    joins_as ts j l _ _ (sym (flat_map-append (part_offences j.modules) xs ys))
-    (joins_then ts j k l _ _ g (subst (λ (m : Modules). Joins ts k l (parts_offences m ys)) g.modules h))
+adds_then ts j k l xs ys g h = record {
+  joins =
+      joins_as ts j l _ _ (sym (flat_map-append (part_offences j.modules) xs ys))
+      (joins_then ts j k l _ _ g.joins (subst (λ (m : Modules). Joins ts k l (parts_offences m ys)) g.joins.modules h.joins));
+}
+
+-- one part
+pub adds_one : (ts : List Tree) (j k : Found) (x : Part) → Joins ts j k (part_offences j.modules x) → Adds ts j k (x ∷ [])
+adds_one ts j k x g = record { joins = joins_as ts j k _ _ (sym (append-nil (part_offences j.modules x))) g }
 
 -- ---- one offence, and one mark
 
@@ -109,12 +115,14 @@ one_more_mark m (t ∷ ts) (b ∷ bs) (suc e) l f =
 
 pub adds_marked : (ts : List Tree) (j k : Found) (e : ℕ) → e < length j.marks.items → k.modules ≡ j.modules → k.first ≡ j.first → k.marks.items ≡ set j.marks.items e true → Adds ts j k (expr_parts ts e)
 adds_marked ts j k e l m f s = record {
-  modules = m;
-  value =
-      (λ i. joined (f i) (first (marked (m i) ts (s i))))
-      ∙ ap (joined j.first) (same_first (marked j.modules ts (set j.marks.items e true)) (marked j.modules ts j.marks.items ++ own) (one_more_mark j.modules ts j.marks.items e l) ∙ first_append (marked j.modules ts j.marks.items) own)
-      ∙ sym (joined_assoc j.first (first (marked j.modules ts j.marks.items)) (first own))
-      ∙ ap (λ (rs : List Refusal). joined (finding ts j) (first rs)) (sym (append-nil own));
+  joins = record {
+    modules = m;
+    value =
+        (λ i. joined (f i) (first (marked (m i) ts (s i))))
+        ∙ ap (joined j.first) (same_first (marked j.modules ts (set j.marks.items e true)) (marked j.modules ts j.marks.items ++ own) (one_more_mark j.modules ts j.marks.items e l) ∙ first_append (marked j.modules ts j.marks.items) own)
+        ∙ sym (joined_assoc j.first (first (marked j.modules ts j.marks.items)) (first own))
+        ∙ ap (λ (rs : List Refusal). joined (finding ts j) (first rs)) (sym (append-nil own));
+  };
 }
   where
     own : List Refusal

@@ -1,3 +1,4 @@
 -- That offences are found as they are defined.
 pub mod JoinLaws
 pub mod NameLaws
+pub mod BodyLaws

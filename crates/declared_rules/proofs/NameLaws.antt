@@ -18,9 +18,9 @@ use Rattle.outside_sight.specs.declared.modules.Modules.{Modules}
 use Rattle.outside_sight.specs.SightIn.{Binds}
 use Rattle.outside_sight.proofs.SightLaws.{binds_more, none_bound}
 use Rattle.declared_rules.specs.declared.found.Found.{Found}
-use Rattle.declared_rules.specs.Parts.{bound}
+use Rattle.declared_rules.specs.Parts.{bound, declares}
 use Rattle.declared_rules.specs.Finding.{reserved_in, seen_offences, seen_after, list_offences, Joins, Adds, AddsNames}
-use Rattle.declared_rules.proofs.JoinLaws.{joins_none, joins_then, joins_as}
+use Rattle.declared_rules.proofs.JoinLaws.{joins_none, joins_then, joins_as, adds_one}
 
 -- ---- one name
 
@@ -31,14 +31,14 @@ with_seen l z = record { modules = l.modules; first = l.first; marks = l.marks; 
 pub joins_seen : (ts : List Tree) (k l : Found) (z : List Word) (rs : List Refusal) → Joins ts k l rs → Joins ts k (with_seen l z) rs
 joins_seen ts k l z rs h = record { modules = h.modules; value = h.value }
 
-pub once_adds : (j k l : Found) (z : List Word) (n : Name) (x : Word) (p : Place) (b : Bool) → record { word = x; place = p } ≡ n → ((ts : List Tree) → Joins ts j k (reserved_in j.modules n ++ [])) → k.seen ≡ j.seen
+pub once_adds : (j k l : Found) (z : List Word) (n : Name) (x : Word) (p : Place) (b : Bool) → record { word = x; place = p } ≡ n → ((ts : List Tree) → Adds ts j k (declares n ∷ [])) → k.seen ≡ j.seen
     → b ≡ list_any (pointwise ◌==◌ x) k.seen → ((ts : List Tree) → Joins ts k l (offence_if b Duplicate p)) → l.seen ≡ k.seen → Hides l.seen z (x ∷ []) → AddsNames j (with_seen l z) (n ∷ [])
 once_adds j k l z n x p b v g s e h t d = record {
   adds = λ ts w q.
       joins_as ts j (with_seen l z) _ _
       ((λ i. append-nil (reserved_in j.modules n) i ++ offence_if ((e ∙ ap (list_any (pointwise ◌==◌ x)) s ∙ q x ∙ (λ i. is_among w (v i).word)) i) Duplicate (v i).place)
       ∙ sym (append-nil (reserved_in j.modules n ++ offence_if (is_among w n.word) Duplicate n.place)))
-      (joins_then ts j k (with_seen l z) _ _ (g ts) (joins_seen ts k l z _ (h ts)));
+      (joins_then ts j k (with_seen l z) _ _ ((g ts).joins) (joins_seen ts k l z _ (h ts)));
   seen = λ w q.
       binds_more l.seen z (n.word ∷ []) w (subst (λ (ws : List Word). Binds ws w) (sym (t ∙ s)) q)
       (subst (λ (m : Name). Hides l.seen z (m.word ∷ [])) v d);
@@ -100,5 +100,4 @@ each_group (g ∷ gs) = ap (λ (l : List Name). g.items ++ l) (each_group gs)
 
 pub list_adds : (j k : Found) (z : List Word) (ns : List Name) → z ≡ [] → AddsNames (with_seen j z) k ns → (ts : List Tree) → Adds ts j k (bound ns ∷ [])
 list_adds j k z ns e g ts =
-    joins_as ts j k _ _ (sym (append-nil (list_offences j.modules ns)))
-    (let h = g.adds ts [] (subst (λ (ws : List Word). Binds ws []) (sym e) none_bound) in record { modules = h.modules; value = h.value })
+    adds_one ts j k (bound ns) (let h = g.adds ts [] (subst (λ (ws : List Word). Binds ws []) (sym e) none_bound) in record { modules = h.modules; value = h.value })

@@ -89,8 +89,8 @@ pub record Joins (ts : List Tree) (old new : Found) (rs : List Refusal) : Type 0
   pub value : finding ts new ≡ joined (finding ts old) (first rs)
 
 -- these parts were looked at
-abbrev pub Adds : List Tree → Found → Found → List Part → Type 0
-Adds ts old new xs = Joins ts old new (parts_offences old.modules xs)
+pub record Adds (ts : List Tree) (old new : Found) (xs : List Part) : Type 0 where
+  pub joins : Joins ts old new (parts_offences old.modules xs)
 
 -- those of a statement were, which come before those of the rest of its list
 pub record AddsStmt (ts : List Tree) (s : Stmt) (old new : Found) : Type 0 where

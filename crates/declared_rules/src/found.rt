@@ -167,7 +167,11 @@ impl Found {
     /// # Errors
     ///
     /// Only for want of memory.
-    pub fn declared_list(&mut self, params: &[Declaration], variables: &[Declaration]) -> Result<(), AllocError>
+    pub fn declared_list(
+        &mut self,
+        params: &[Declaration],
+        variables: &[Declaration],
+    ) -> Result<(), AllocError>
         ensures adds { OnOk result ((ts : List Tree) → Adds ts self.old self.new (bound (declaration_names params.now ++ declaration_names variables.now) ∷ [])) }
         ensures many { OnOk result (length self.new.marks.items ≡ length self.old.marks.items) }
     {

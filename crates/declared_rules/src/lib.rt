@@ -3,3 +3,4 @@
 
 pub mod found;
 pub mod own;
+pub mod walk;
