@@ -2,3 +2,4 @@
 pub mod JoinLaws
 pub mod NameLaws
 pub mod BodyLaws
+pub mod SweepLaws

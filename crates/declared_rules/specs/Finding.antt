@@ -1,12 +1,12 @@
 -- The first offence that was found, with those of the expressions whose numbers are still marked.
-use Rattle.std.specs.Prelude.{◌≡◌, ℕ, List, [], ◌∷◌, ◌++◌, Bool, false, ◌&&◌, ◌||◌, not, cond, codes, Option}
+use Rattle.std.specs.Prelude.{◌≡◌, ℕ, List, [], ◌∷◌, ◌++◌, Bool, true, false, ◌&&◌, ◌||◌, not, cond, codes, Option}
 use Rattle.std.specs.List.{flat_map}
 use Rattle.tla_token.specs.declared.place.Place.{Place}
 use Rattle.tla_token.specs.declared.rule.Rule.TheVariants.{Duplicate, Reserved, NeedsModule}
 use Rattle.tla_token.specs.declared.rule.Refusal.{Refusal}
 use Rattle.tla_token.specs.Signs.{is_among}
 use Rattle.tla_token.specs.Words.{is_own}
-use Rattle.tla_tree.specs.Tree.{Name, Word, Form, strict, operator, Tree, node, Trees, no_trees, tree}
+use Rattle.tla_tree.specs.Tree.{Name, Word, Form, strings, strict, operator, Tree, node, Trees, no_trees, tree}
 use Rattle.tla_value.specs.StandardModules.{is_member, is_last}
 use Rattle.pcal_tree.specs.declared.algorithm.Stmt.{Stmt}
 use Rattle.pcal_tree.specs.Algorithm.{Statements}
@@ -42,6 +42,10 @@ abbrev pub end_label : Name → List Refusal
 end_label n = offence_if (is_among (codes "Done" ∷ codes "Error" ∷ []) n.word) Reserved n.place
 
 -- ---- expressions
+
+abbrev pub is_strings_of : Form → Bool
+is_strings_of strings = true
+is_strings_of _ = false
 
 abbrev pub sign_in : Modules → Form → Place → List Refusal
 sign_in m (strict (operator o)) p = offence_if (not (has_op m o)) NeedsModule p

@@ -3,4 +3,5 @@
 
 pub mod found;
 pub mod own;
+pub mod sweep;
 pub mod walk;

@@ -5,7 +5,7 @@ ghost use Rattle.std.specs.List.{flat_map};
 ghost use Rattle.tla_tree.specs.Tree.{Tree};
 ghost use Rattle.tla_tree.specs.Nesting.{greatest};
 ghost use Rattle.pcal_tree.specs.InMemory.{branches_at, past_assignment, past_bind, past_simple, past_stmt, past_statements, past_branches, past_start, past_declaration, past_definition, past_macro, past_procedure, past_process, past_main, past_algorithm};
-ghost use Rattle.declared_rules.specs.Parts.{prints, stacks, in_branches, assignment_parts, bind_parts, simple_parts, body_parts, start_parts, declaration_parts, global_parts, definition_parts, macro_parts, procedure_parts, process_parts, main_parts, algorithm_parts};
+ghost use Rattle.declared_rules.specs.Parts.{declares, prints, stacks, in_branches, assignment_parts, bind_parts, simple_parts, body_parts, start_parts, declaration_parts, global_parts, definition_parts, macro_parts, procedure_parts, process_parts, main_parts, algorithm_parts};
 ghost use Rattle.declared_rules.specs.Finding.{Adds, AddsStmt};
 
 use crate::found::Found;
@@ -15,6 +15,7 @@ use pcal_tree::algorithm::{
 };
 use std::alloc::AllocError;
 use tla_token::{Place, Rule};
+use tla_tree::PlacedName;
 
 impl Found {
     // Left and right sides.
@@ -66,6 +67,15 @@ impl Found {
         ensures many { length self.new.marks.items ≡ length self.old.marks.items }
     {
         self.offence(!self.modules.sequences, Rule::NeedsModule, place);
+    }
+
+    // The name of a procedure.
+    fn stacked(&mut self, name: &PlacedName)
+        ensures adds { (ts : List Tree) → Adds ts self.old self.new (declares name.now ∷ stacks name.now.place ∷ []) }
+        ensures many { length self.new.marks.items ≡ length self.old.marks.items }
+    {
+        self.declares(name);
+        self.stacks(name.place);
     }
 
     // A statement with none in it, at its place.
@@ -218,8 +228,7 @@ impl Found {
         ensures adds { OnOk result ((ts : List Tree) → Adds ts self.old self.new (procedure_parts ts procedure.now)) }
         ensures many { OnOk result (length self.new.marks.items ≡ length self.old.marks.items) }
     {
-        self.declares(&procedure.name);
-        self.stacks(procedure.name.place);
+        self.stacked(&procedure.name);
         self.declared_list(&procedure.params, &procedure.variables)?;
         self.starts(&procedure.params);
         self.starts(&procedure.variables);
