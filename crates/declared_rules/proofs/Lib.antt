@@ -3,3 +3,4 @@ pub mod JoinLaws
 pub mod NameLaws
 pub mod BodyLaws
 pub mod SweepLaws
+pub mod TitleLaws

@@ -57,8 +57,12 @@ impl Found {
         self.offence(is_end(name.name.bytes()), Rule::Reserved, name.place);
     }
 
-    // One more name of a list.
-    fn once(&mut self, name: &PlacedName) -> Result<(), AllocError>
+    /// One more name of a list.
+    ///
+    /// # Errors
+    ///
+    /// Only for want of memory.
+    pub fn once(&mut self, name: &PlacedName) -> Result<(), AllocError>
         ensures adds { OnOk result (AddsNames self.old self.new (name.now ∷ [])) }
         ensures many { OnOk result (length self.new.marks.items ≡ length self.old.marks.items) }
     {
@@ -112,8 +116,12 @@ impl Found {
         Ok(())
     }
 
-    // Those of declarations.
-    fn declared(&mut self, declarations: &[Declaration]) -> Result<(), AllocError>
+    /// Those of declarations.
+    ///
+    /// # Errors
+    ///
+    /// Only for want of memory.
+    pub fn declared(&mut self, declarations: &[Declaration]) -> Result<(), AllocError>
         ensures adds { OnOk result (AddsNames self.old self.new (declaration_names declarations.now)) }
         ensures many { OnOk result (length self.new.marks.items ≡ length self.old.marks.items) }
     {

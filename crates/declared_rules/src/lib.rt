@@ -2,6 +2,7 @@
 #![tactic(auto)]
 
 pub mod found;
+pub mod outside;
 pub mod own;
 pub mod sweep;
 pub mod walk;
