@@ -4,3 +4,4 @@ pub mod NameLaws
 pub mod BodyLaws
 pub mod SweepLaws
 pub mod TitleLaws
+pub mod FoundLaws

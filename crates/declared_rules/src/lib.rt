@@ -4,5 +4,6 @@
 pub mod found;
 pub mod outside;
 pub mod own;
+pub mod refusal;
 pub mod sweep;
 pub mod walk;
