@@ -5,3 +5,5 @@ pub mod BodyLaws
 pub mod SweepLaws
 pub mod TitleLaws
 pub mod FoundLaws
+pub mod EachLaws
+pub mod CleanBodies
