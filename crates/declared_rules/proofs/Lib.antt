@@ -7,3 +7,4 @@ pub mod TitleLaws
 pub mod FoundLaws
 pub mod EachLaws
 pub mod CleanBodies
+pub mod CleanParts
