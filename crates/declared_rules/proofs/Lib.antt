@@ -8,3 +8,4 @@ pub mod FoundLaws
 pub mod EachLaws
 pub mod CleanBodies
 pub mod CleanParts
+pub mod CleanNames
