@@ -9,3 +9,4 @@ pub mod EachLaws
 pub mod CleanBodies
 pub mod CleanParts
 pub mod CleanNames
+pub mod CleanWhole
