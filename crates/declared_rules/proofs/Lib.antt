@@ -10,3 +10,4 @@ pub mod CleanBodies
 pub mod CleanParts
 pub mod CleanNames
 pub mod CleanWhole
+pub mod CleanAgain
