@@ -11,3 +11,4 @@ pub mod CleanParts
 pub mod CleanNames
 pub mod CleanWhole
 pub mod CleanAgain
+pub mod SameRefusal
