@@ -1,0 +1,154 @@
+-- That offences are found part by part.
+use Rattle.std.proofs.Common.{◌≡◌, ℕ, zero, suc, ◌+◌, ◌<◌, ◌≤◌, List, [], ◌∷◌, ◌++◌, length, map, take, get_or, slice_index_or, set, Bool, true, false, ◌&&◌, ◌||◌, Option, Some, None, Result, Ok, Err, OnOk, cond, refl, sym, ap, subst, ◌∙◌, append-nil, append_assoc, arith}
+use Rattle.std.specs.List.{list_any, flat_map}
+use Rattle.std.proofs.lemmas.List.{take_more, take_all}
+use Rattle.std.proofs.lemmas.List.Folds.{list_any-append}
+use Rattle.std.proofs.lemmas.Grind.{flat_map-append}
+use Rattle.tla_token.specs.declared.rule.Refusal.{Refusal}
+use Rattle.tla_tree.specs.Tree.{Tree}
+use Rattle.tla_tree.specs.Pool.{at}
+use Rattle.tla_tree.specs.Nesting.{greatest}
+use Rattle.pcal_tree.specs.Offences.{first}
+use Rattle.pcal_tree.proofs.SetLaws.{or_both, Same}
+use Rattle.pcal_tree.proofs.FirstLaws.{same_first}
+use Rattle.algorithm_answer.specs.Joined.{joined}
+use Rattle.algorithm_answer.proofs.Joins.{joined_assoc, joined_none, first_append}
+use Rattle.outside_sight.specs.declared.modules.Modules.{Modules}
+use Rattle.declared_rules.specs.declared.found.Found.{Found}
+use Rattle.declared_rules.specs.Parts.{Part, expr_parts}
+use Rattle.declared_rules.specs.Finding.{tree_offences, part_offences, parts_offences, marked, finding, Joins, Adds}
+
+-- where there is memory
+pub on_ok : {A E P Q : Type 0} (r : Result A E) → (P → Q) → OnOk r P → OnOk r Q
+on_ok (Ok a) f h = f h
+on_ok (Err e) f h = tt
+
+-- ---- two that were found
+
+pub joined_turned : (a b : Option Refusal) → joined a b ≡ joined b a
+joined_turned None b = sym (joined_none b)
+joined_turned (Some r) None = refl
+joined_turned (Some r) (Some q) = same_first (r ∷ q ∷ []) (q ∷ r ∷ []) (λ f. turned (f r) (f q))
+  where
+    turned : (a b : Bool) → (a || (b || false)) ≡ (b || (a || false))
+    turned true true = refl
+    turned true false = refl
+    turned false true = refl
+    turned false false = refl
+
+joined_between : (a b c : Option Refusal) → joined (joined a b) c ≡ joined (joined a c) b
+joined_between a b c = joined_assoc a b c ∙ ap (joined a) (joined_turned b c) ∙ sym (joined_assoc a c b)
+
+-- ---- offences after others
+
+pub joins_none : (ts : List Tree) (k : Found) → Joins ts k k []
+joins_none ts k = record { modules = refl; value = sym (joined_none (finding ts k)) }
+
+pub joins_then : (ts : List Tree) (j k l : Found) (rs qs : List Refusal) → Joins ts j k rs → Joins ts k l qs → Joins ts j l (rs ++ qs)
+joins_then ts j k l rs qs g h = record {
+  modules = h.modules ∙ g.modules;
+  value =
+      h.value ∙ ap (λ (o : Option Refusal). joined o (first qs)) g.value ∙ joined_assoc (finding ts j) (first rs) (first qs)
+      ∙ ap (joined (finding ts j)) (sym (first_append rs qs));
+}
+
+pub joins_as : (ts : List Tree) (j k : Found) (rs qs : List Refusal) → rs ≡ qs → Joins ts j k rs → Joins ts j k qs
+joins_as ts j k rs qs e g = subst (λ (l : List Refusal). Joins ts j k l) e g
+
+pub adds_none : (ts : List Tree) (k : Found) → Adds ts k k []
+adds_none ts k = record { joins = joins_none ts k }
+
+pub adds_as : (ts : List Tree) (j k : Found) (xs ys : List Part) → xs ≡ ys → Adds ts j k xs → Adds ts j k ys
+adds_as ts j k xs ys e g = subst (λ (l : List Part). Adds ts j k l) e g
+
+pub adds_then : (ts : List Tree) (j k l : Found) (xs ys : List Part) → Adds ts j k xs → Adds ts k l ys → Adds ts j l (xs ++ ys)
+adds_then ts j k l xs ys g h = record {
+  joins =
+      joins_as ts j l _ _ (sym (flat_map-append (part_offences j.modules) xs ys))
+      (joins_then ts j k l _ _ g.joins (subst (λ (m : Modules). Joins ts k l (parts_offences m ys)) g.joins.modules h.joins));
+}
+
+-- one part
+pub adds_one : (ts : List Tree) (j k : Found) (x : Part) → Joins ts j k (part_offences j.modules x) → Adds ts j k (x ∷ [])
+adds_one ts j k x g = record { joins = joins_as ts j k _ _ (sym (append-nil (part_offences j.modules x))) g }
+
+-- ---- one offence, and one mark
+
+pub joins_first : (ts : List Tree) (j k : Found) (rs : List Refusal) → k.modules ≡ j.modules → k.marks ≡ j.marks → k.first ≡ joined j.first (first rs) → Joins ts j k rs
+joins_first ts j k rs m e f = record {
+  modules = m;
+  value =
+      (λ i. joined (f i) (first (marked (m i) ts (e i).items))) ∙ joined_between j.first (first rs) (first (marked j.modules ts j.marks.items));
+}
+
+one_more_mark : (m : Modules) (ts : List Tree) (bs : List Bool) (e : ℕ) → e < length bs → Same (marked m ts (set bs e true)) (marked m ts bs ++ tree_offences m false (at ts e))
+one_more_mark m [] bs e l f = refl
+one_more_mark m (t ∷ ts) [] e l f = absurd (omega (arith, l))
+one_more_mark m (t ∷ ts) (b ∷ bs) zero l f =
+    list_any-append f own rest ∙ by b ∙ sym (list_any-append f (cond b own [] ++ rest) own)
+  where
+    own : List Refusal
+    own = tree_offences m false t
+
+    rest : List Refusal
+    rest = marked m ts bs
+
+    again : (a b : Bool) → (a || b) ≡ ((a || b) || a)
+    again true b = refl
+    again false true = refl
+    again false false = refl
+
+    turned : (a b : Bool) → (a || b) ≡ (b || a)
+    turned true true = refl
+    turned true false = refl
+    turned false true = refl
+    turned false false = refl
+
+    by : (b : Bool) → (list_any f own || list_any f rest) ≡ (list_any f (cond b own [] ++ rest) || list_any f own)
+    by true = again (list_any f own) (list_any f rest) ∙ ap (λ (c : Bool). c || list_any f own) (sym (list_any-append f own rest))
+    by false = turned (list_any f own) (list_any f rest)
+one_more_mark m (t ∷ ts) (b ∷ bs) (suc e) l f =
+    list_any-append f (cond b (tree_offences m false t) []) (marked m ts (set bs e true))
+    ∙ ap (λ (c : Bool). list_any f (cond b (tree_offences m false t) []) || c) (one_more_mark m ts bs e (omega (arith, l)) f)
+    ∙ sym (list_any-append f (cond b (tree_offences m false t) []) (marked m ts bs ++ tree_offences m false (at ts e)))
+    ∙ ap (list_any f) (sym (append_assoc (cond b (tree_offences m false t) []) (marked m ts bs) (tree_offences m false (at ts e))))
+
+pub adds_marked : (ts : List Tree) (j k : Found) (e : ℕ) → e < length j.marks.items → k.modules ≡ j.modules → k.first ≡ j.first → k.marks.items ≡ set j.marks.items e true → Adds ts j k (expr_parts ts e)
+adds_marked ts j k e l m f s = record {
+  joins = record {
+    modules = m;
+    value =
+        (λ i. joined (f i) (first (marked (m i) ts (s i))))
+        ∙ ap (joined j.first) (same_first (marked j.modules ts (set j.marks.items e true)) (marked j.modules ts j.marks.items ++ own) (one_more_mark j.modules ts j.marks.items e l) ∙ first_append (marked j.modules ts j.marks.items) own)
+        ∙ sym (joined_assoc j.first (first (marked j.modules ts j.marks.items)) (first own))
+        ∙ ap (λ (rs : List Refusal). joined (finding ts j) (first rs)) (sym (append-nil own));
+  };
+}
+  where
+    own : List Refusal
+    own = tree_offences j.modules false (at ts e)
+
+-- ---- one more in a loop
+
+module _ (ts : List Tree) {A : Type 0} (f : A → List Part) (xs : List A) where
+  pub adds_more : (j k l : Found) (i : ℕ) (x : A) → x ≡ get_or xs i x → i < length xs → Adds ts j k (flat_map f (take i xs)) → Adds ts k l (f x) → Adds ts j l (flat_map f (take (i + 1) xs))
+  adds_more j k l i x e less g h =
+      adds_as ts j l (flat_map f (take i xs) ++ f x) (flat_map f (take (i + 1) xs))
+      (ap (λ (y : A). flat_map f (take i xs) ++ f y) e
+      ∙ sym (ap (flat_map f) (take_more xs i x less) ∙ flat_map-append f (take i xs) (get_or xs i x ∷ []) ∙ ap (λ l. flat_map f (take i xs) ++ l) (append-nil (f (get_or xs i x)))))
+      (adds_then ts j k l (flat_map f (take i xs)) (f x) g h)
+
+  pub adds_all : (j k : Found) (i : ℕ) → length xs ≤ i → Adds ts j k (flat_map f (take i xs)) → Adds ts j k (flat_map f xs)
+  adds_all j k i less g = adds_as ts j k _ _ (ap (flat_map f) (take_all i xs less)) g
+
+  pub adds_item : (j k l : Found) (i : ℕ) (d : A) → i < length xs → Adds ts j k (flat_map f (take i xs)) → Adds ts k l (f (slice_index_or xs i d)) → Adds ts j l (flat_map f (take (i + 1) xs))
+  adds_item j k l i d less g h =
+      adds_as ts j l (flat_map f (take i xs) ++ f (slice_index_or xs i d)) (flat_map f (take (i + 1) xs))
+      (sym (ap (flat_map f) (take_more xs i d less) ∙ flat_map-append f (take i xs) (get_or xs i d ∷ []) ∙ ap (λ l. flat_map f (take i xs) ++ l) (append-nil (f (get_or xs i d)))))
+      (adds_then ts j k l (flat_map f (take i xs)) (f (slice_index_or xs i d)) g h)
+
+-- one of a list is past no number that the list is
+pub past_item : {A : Type 0} (f : A → ℕ) (xs : List A) (i : ℕ) (d : A) → i < length xs → f (slice_index_or xs i d) ≤ greatest (map f xs)
+past_item f [] i d less = absurd (omega (arith, less))
+past_item f (x ∷ xs) zero d less = omega arith
+past_item f (x ∷ xs) (suc i) d less = let h = past_item f xs i d (omega (arith, less)) in omega (arith, h)

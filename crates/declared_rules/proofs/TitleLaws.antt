@@ -1,0 +1,97 @@
+-- That names outside are seen, and titles are looked at.
+use Rattle.std.proofs.Common.{◌≡◌, ℕ, ◌+◌, ◌<◌, ◌≤◌, List, [], ◌∷◌, ◌++◌, length, map, take, get_or, refl, sym, ap, subst, ◌∙◌, append-nil, append_assoc}
+use Rattle.std.specs.List.{flat_map}
+use Rattle.std.proofs.lemmas.List.{take_more, take_all}
+use Rattle.std.proofs.lemmas.Grind.{flat_map-append}
+use Rattle.tla_token.specs.declared.rule.Refusal.{Refusal}
+use Rattle.tla_tree.specs.Tree.{Name, Word, Tree}
+use Rattle.tla_value.specs.Outside as pure
+use Rattle.outside_units.specs.declared.passed.Passed.{Passed}
+use Rattle.outside_units.specs.Passing.{passed_seen}
+use Rattle.module_outside.specs.declared.definition.ReadDefinition.{ReadDefinition}
+use Rattle.module_outside.specs.declared.outside.Outside.{Outside}
+use Rattle.module_outside.specs.OutsideAt.{definition_seen}
+use Rattle.module_outside.specs.WholeAt.{outside_at}
+use Rattle.algorithm_limits.specs.DepthsIn.{Hides}
+use Rattle.algorithm_limits.proofs.BoundLemmas.{hides_then, hides_as}
+use Rattle.outside_sight.specs.declared.modules.Modules.{Modules}
+use Rattle.outside_sight.specs.SightIn.{Binds}
+use Rattle.outside_sight.proofs.SightLaws.{binds_all, none_bound}
+use Rattle.declared_rules.specs.declared.found.Found.{Found}
+use Rattle.declared_rules.specs.Finding.{reserved_in, parts_offences, seen_offences, Joins, AddsNames}
+use Rattle.declared_rules.specs.Titles.{constant_parts, read_parts, pure_title, unit_offences, outside_offences, read_words, passed_words, title_offences}
+use Rattle.declared_rules.proofs.JoinLaws.{joins_then, joins_as}
+use Rattle.declared_rules.proofs.NameLaws.{with_seen, names_then}
+
+-- ---- one more in a loop
+
+more_of : {A B : Type 0} (f : A → List B) (xs : List A) (i : ℕ) (x : A) → x ≡ get_or xs i x → i < length xs → flat_map f (take i xs) ++ f x ≡ flat_map f (take (i + 1) xs)
+more_of {B = B} f xs i x e less =
+    ap (λ y. flat_map f (take i xs) ++ f y) e
+    ∙ sym (ap (flat_map f) (take_more xs i x less) ∙ flat_map-append f (take i xs) (get_or xs i x ∷ []) ∙ ap (λ (l : List B). flat_map f (take i xs) ++ l) (append-nil (f (get_or xs i x))))
+
+module _ {A : Type 0} (f : A → List Word) (xs : List A) where
+  pub hides_more : (a b c : List Word) (i : ℕ) (x : A) → x ≡ get_or xs i x → i < length xs → Hides a b (flat_map f (take i xs)) → Hides b c (f x) → Hides a c (flat_map f (take (i + 1) xs))
+  hides_more a b c i x e less g h = hides_as a c _ _ (more_of f xs i x e less) (hides_then a b c (flat_map f (take i xs)) (f x) g h)
+
+  pub hides_all : (a b : List Word) (i : ℕ) → length xs ≤ i → Hides a b (flat_map f (take i xs)) → Hides a b (flat_map f xs)
+  hides_all a b i less g = hides_as a b _ _ (ap (flat_map f) (take_all i xs less)) g
+
+module _ (ts : List Tree) {A : Type 0} (f : A → List Refusal) (xs : List A) where
+  pub joins_more : (j k l : Found) (i : ℕ) (x : A) → x ≡ get_or xs i x → i < length xs → Joins ts j k (flat_map f (take i xs)) → Joins ts k l (f x) → Joins ts j l (flat_map f (take (i + 1) xs))
+  joins_more j k l i x e less g h = joins_as ts j l _ _ (more_of f xs i x e less) (joins_then ts j k l (flat_map f (take i xs)) (f x) g h)
+
+  pub joins_all : (j k : Found) (i : ℕ) → length xs ≤ i → Joins ts j k (flat_map f (take i xs)) → Joins ts j k (flat_map f xs)
+  joins_all j k i less g = joins_as ts j k _ _ (ap (flat_map f) (take_all i xs less)) g
+
+pub each_word : {A : Type 0} (f : A → Word) (xs : List A) → flat_map (λ (x : A). f x ∷ []) xs ≡ map f xs
+each_word f [] = refl
+each_word f (x ∷ xs) = ap (λ (l : List Word). f x ∷ l) (each_word f xs)
+
+pub words_themselves : (ws : List Word) → map (λ (w : Word). w) ws ≡ ws
+words_themselves [] = refl
+words_themselves (w ∷ ws) = ap (λ (l : List Word). w ∷ l) (words_themselves ws)
+
+pub of_mapped : {A B : Type 0} (f : B → List Refusal) (g : A → B) (xs : List A) → flat_map (λ (x : A). f (g x)) xs ≡ flat_map f (map g xs)
+of_mapped f g [] = refl
+of_mapped f g (x ∷ xs) = ap (λ (l : List Refusal). f (g x) ++ l) (of_mapped f g xs)
+
+-- ---- what is outside in memory, and the pure one
+
+pub titles_read : (ts : List Tree) (ds : List ReadDefinition) → read_words ds ≡ map (λ (d : pure.ReadDefinition). d.definition.title) (map (definition_seen ts) ds)
+titles_read ts [] = refl
+titles_read ts (d ∷ ds) = ap (λ (l : List Word). d.title.word ∷ l) (titles_read ts ds)
+
+pub names_passed : (us : List Passed) → passed_words us ≡ flat_map (λ (u : pure.Opaque). u.names) (map passed_seen us)
+names_passed [] = refl
+names_passed (u ∷ us) = ap (λ (l : List Word). u.names.items ++ l) (names_passed us)
+
+constants_offend : (m : Modules) (ns : List Name) → parts_offences m (flat_map constant_parts ns) ≡ flat_map (reserved_in m) ns
+constants_offend m [] = refl
+constants_offend m (n ∷ ns) = ap (λ (l : List Refusal). reserved_in m n ++ l) (constants_offend m ns)
+
+read_offend : (m : Modules) (ts : List Tree) (ds : List ReadDefinition) → parts_offences m (flat_map read_parts ds) ≡ flat_map (λ (d : pure.ReadDefinition). reserved_in m (pure_title d)) (map (definition_seen ts) ds)
+read_offend m ts [] = refl
+read_offend m ts (d ∷ ds) = ap (λ (l : List Refusal). reserved_in m d.title ++ l) (read_offend m ts ds)
+
+pub outside_joined : (ts : List Tree) (i j k l : Found) (o : Outside) → Joins ts i j (parts_offences i.modules (flat_map constant_parts o.constants.items)) → Joins ts j k (parts_offences j.modules (flat_map read_parts o.definitions.items))
+    → Joins ts k l (flat_map unit_offences (map passed_seen o.opaque.items)) → Joins ts i l (outside_offences i.modules (outside_at ts o))
+outside_joined ts i j k l o f g h =
+    joins_then ts i j l _ _ (joins_as ts i j _ _ (constants_offend i.modules o.constants.items) f)
+    (joins_then ts j k l _ _
+    (joins_as ts j k _ _ (ap (λ (m : Modules). parts_offences m (flat_map read_parts o.definitions.items)) f.modules ∙ read_offend i.modules ts o.definitions.items) g) h)
+
+-- ---- all titles
+
+-- from no name, and from those outside
+pub titles_joined : (j k l n : Found) (y z : List Word) (kept others : List Name) (ws : List Tree → List Word) → y ≡ [] → AddsNames (with_seen j y) k kept → AddsNames k l others
+    → ((ts : List Tree) → Hides [] z (ws ts)) → AddsNames (with_seen l z) n kept → (ts : List Tree) → Joins ts j n (title_offences j.modules (ws ts) kept others)
+titles_joined j k l n y z kept others ws e g h d c ts =
+    joins_then ts j l n _ _ first
+    (subst (λ (m : Modules). Joins ts l n (seen_offences m (ws ts) kept)) first.modules
+    (let q = c.adds ts (ws ts) (binds_all z (ws ts) (d ts)) in record { modules = q.modules; value = q.value }))
+  where
+    first : Joins ts j l (seen_offences j.modules [] (kept ++ others))
+    first =
+        let q = (names_then (with_seen j y) k l kept others g h).adds ts [] (subst (λ (x : List Word). Binds x []) (sym e) none_bound) in
+        record { modules = q.modules; value = q.value }

@@ -1,0 +1,7 @@
+-- Proves that an expression is looked at when it is marked.
+use Rattle.std.proofs.Common.{refl}
+use Rattle.declared_rules.proofs.JoinLaws.{adds_marked}
+use Rattle.declared_rules.proofs.found.Found.expr.Goals as goal
+
+pub returns-clause-adds : goal.returns-clause-adds
+returns-clause-adds c = λ ts. adds_marked ts c.args.self.now _ c.args.e c.requires refl refl refl

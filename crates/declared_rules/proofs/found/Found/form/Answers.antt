@@ -1,0 +1,30 @@
+-- Proves that what a form offends is found.
+use Rattle.std.proofs.Common.{false, List, Vec, Global, [], ◌∷◌, sym, ap, subst, ◌∙◌}
+use Rattle.tla_tree.specs.Tree.{Name}
+use Rattle.tla_pool.specs.declared.form.Form.{Form}
+use Rattle.tla_pool.specs.declared.form.Strict.{Strict}
+use Rattle.tla_pool.specs.FormOf.{groups_of, strict_of, form_of}
+use Rattle.pcal_tree.specs.BoundNames.{all_of}
+use Rattle.declared_rules.specs.Parts.{bound}
+use Rattle.declared_rules.specs.Finding.{Joins, node_offences}
+use Rattle.declared_rules.proofs.JoinLaws.{adds_as}
+use Rattle.declared_rules.proofs.SweepLaws.{binder_joined, local_joined, sign_joined}
+use Rattle.declared_rules.proofs.found.Found.form.Goals as goal
+
+pub returns-in_ok-group_list-in-Binding-clause-adds : goal.returns-in_ok-group_list-in-Binding-clause-adds
+returns-in_ok-group_list-in-Binding-clause-adds c = λ ts.
+    binder_joined ts c.args.self.now c.group_list.new.self (form_of c.args.form.now) c.in-Binding.field-0 (groups_of c.in-Binding.groups.items) c.args.place (ap form_of c.in-Binding.is)
+    (adds_as ts c.args.self.now c.group_list.new.self _ _ (ap (λ (gs : List (Vec Name Global)). bound (all_of (groups_of gs)) ∷ []) c.deref.ensures.value) (c.in_ok-group_list-in-Binding.ensures.adds ts))
+
+pub returns-in_ok-list-in-Local-clause-adds : goal.returns-in_ok-list-in-Local-clause-adds
+returns-in_ok-list-in-Local-clause-adds c = λ ts.
+    local_joined ts c.args.self.now c.list.new.self (form_of c.args.form.now) c.in-Local.names.items c.args.place (ap form_of c.in-Local.is)
+    (adds_as ts c.args.self.now c.list.new.self _ _ (ap (λ (ns : List Name). bound ns ∷ []) c.deref-in-Local.ensures.value) (c.in_ok-list-in-Local.ensures.adds ts))
+
+pub returns-in-Strings-clause-adds : goal.returns-in-Strings-clause-adds
+returns-in-Strings-clause-adds c = λ ts.
+    subst (λ (f : Form). Joins ts c.args.self.now c.offence.new.self (node_offences c.args.self.now.modules false (form_of f) c.args.place)) (sym c.in-Strings.is) (c.offence.ensures.joins ts)
+
+pub returns-in-Strict-clause-adds : goal.returns-in-Strict-clause-adds
+returns-in-Strict-clause-adds c = λ ts.
+    sign_joined ts c.args.self.now c.sign.new.self (form_of c.args.form.now) (strict_of c.in-Strict.strict) c.args.place (ap form_of c.in-Strict.is) (c.sign.ensures.adds ts)

@@ -1,0 +1,7 @@
+-- Proves that a list of names is looked at.
+use Rattle.declared_rules.proofs.JoinLaws.{on_ok}
+use Rattle.declared_rules.proofs.NameLaws.{list_adds}
+use Rattle.declared_rules.proofs.found.Found.group_list.Goals as goal
+
+pub returns-clause-adds : goal.returns-clause-adds
+returns-clause-adds c = on_ok c.groups.result (list_adds c.args.self.now c.groups.new.self c.truncate.new.self _ c.truncate.ensures) c.groups.ensures.adds

@@ -1,0 +1,4 @@
+pub mod Parts
+pub mod Finding
+pub mod Titles
+pub mod Refusal

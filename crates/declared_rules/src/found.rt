@@ -1,0 +1,210 @@
+//! The first offence that was found, and marks of the expressions that are still to be looked at.
+
+ghost use Rattle.std.specs.Prelude.{◌≡◌, ◌<◌, ◌≤◌, ◌∷◌, ◌++◌, ℕ, List, [], length, map, false, OnOk};
+ghost use Rattle.std.specs.List.{flat_map};
+ghost use Rattle.tla_tree.specs.Tree.{Tree, Name as PureName};
+ghost use Rattle.pcal_tree.specs.BoundNames.{all_of, lists_of};
+ghost use Rattle.pcal_tree.specs.InMemory.{past_numbers};
+ghost use Rattle.pcal_tree.specs.Offences.{offence_if};
+ghost use Rattle.tla_pool.specs.FormOf.{groups_of, form_of};
+ghost use Rattle.declared_rules.specs.Parts.{bound, declares, labels, bind_name, declaration_names, expr_parts};
+ghost use Rattle.declared_rules.specs.Finding.{Joins, Adds, AddsNames, node_offences};
+
+use crate::own::{is_end, is_reserved};
+use algorithm_limits::bound::Bound;
+use algorithm_limits::order::or_offence;
+use outside_sight::modules::Modules;
+use pcal_tree::algorithm::{Bind, Declaration};
+use std::alloc::AllocError;
+use tla_token::{Place, Refusal, Rule};
+use tla_tree::{NodeId, PlacedName};
+
+/// The first offence that was found, where these modules are extended; marks of the expressions that are still to be looked
+/// at, each once; and the names of the list that is gone through.
+#[derive(Drop)]
+pub struct Found {
+    pub modules: Modules,
+    pub first: Option<Refusal>,
+    pub marks: Vec<bool>,
+    pub seen: Bound,
+}
+
+impl Found {
+    /// An offence of this rule, at a place, if it is one.
+    pub fn offence(&mut self, is_offence: bool, rule: Rule, place: Place)
+        ensures joins { (ts : List Tree) → Joins ts self.old self.new (offence_if is_offence rule place) }
+        ensures many { length self.new.marks.items ≡ length self.old.marks.items }
+        ensures seen { self.new.seen ≡ self.old.seen }
+    {
+        self.first = or_offence(self.first, is_offence, rule, place);
+    }
+
+    /// A name that is declared.
+    pub fn declares(&mut self, name: &PlacedName)
+        ensures adds { (ts : List Tree) → Adds ts self.old self.new (declares name.now ∷ []) }
+        ensures many { length self.new.marks.items ≡ length self.old.marks.items }
+        ensures seen { self.new.seen ≡ self.old.seen }
+    {
+        let reserved = is_reserved(self.modules, name.name.bytes());
+        self.offence(reserved, Rule::Reserved, name.place);
+    }
+
+    /// A label.
+    pub fn label(&mut self, name: &PlacedName)
+        ensures adds { (ts : List Tree) → Adds ts self.old self.new (labels name.now ∷ []) }
+        ensures many { length self.new.marks.items ≡ length self.old.marks.items }
+    {
+        self.offence(is_end(name.name.bytes()), Rule::Reserved, name.place);
+    }
+
+    /// One more name of a list.
+    ///
+    /// # Errors
+    ///
+    /// Only for want of memory.
+    pub fn once(&mut self, name: &PlacedName) -> Result<(), AllocError>
+        ensures adds { OnOk result (AddsNames self.old self.new (name.now ∷ [])) }
+        ensures many { OnOk result (length self.new.marks.items ≡ length self.old.marks.items) }
+    {
+        self.declares(name);
+        let repeated = self.seen.has(&name.name);
+        self.offence(repeated, Rule::Duplicate, name.place);
+        self.seen.add(&name.name)
+    }
+
+    // More of them.
+    fn names(&mut self, names: &[PlacedName]) -> Result<(), AllocError>
+        ensures adds { OnOk result (AddsNames self.old self.new names.now) }
+        ensures many { OnOk result (length self.new.marks.items ≡ length self.old.marks.items) }
+    {
+        for name in names {
+            self.once(name)?;
+        }
+        Ok(())
+    }
+
+    // Those of these groups.
+    fn groups(&mut self, groups: &[Vec<PlacedName>]) -> Result<(), AllocError>
+        ensures adds { OnOk result (AddsNames self.old self.new (all_of (groups_of groups.now))) }
+        ensures many { OnOk result (length self.new.marks.items ≡ length self.old.marks.items) }
+    {
+        for i in 0..groups.len() {
+            self.names(&groups[i])?;
+        }
+        Ok(())
+    }
+
+    // One that a `with` names.
+    fn bind_name(&mut self, bind: &Bind) -> Result<(), AllocError>
+        ensures adds { OnOk result (AddsNames self.old self.new (bind_name bind.now ∷ [])) }
+        ensures many { OnOk result (length self.new.marks.items ≡ length self.old.marks.items) }
+    {
+        match bind {
+            Bind::Among(name, _) => self.once(name),
+            Bind::Is(name, _) => self.once(name),
+        }
+    }
+
+    // Those that a `with` names.
+    fn bind_names(&mut self, binds: &[Bind]) -> Result<(), AllocError>
+        ensures adds { OnOk result (AddsNames self.old self.new (map bind_name binds.now)) }
+        ensures many { OnOk result (length self.new.marks.items ≡ length self.old.marks.items) }
+    {
+        for bind in binds {
+            self.bind_name(bind)?;
+        }
+        Ok(())
+    }
+
+    /// Those of declarations.
+    ///
+    /// # Errors
+    ///
+    /// Only for want of memory.
+    pub fn declared(&mut self, declarations: &[Declaration]) -> Result<(), AllocError>
+        ensures adds { OnOk result (AddsNames self.old self.new (declaration_names declarations.now)) }
+        ensures many { OnOk result (length self.new.marks.items ≡ length self.old.marks.items) }
+    {
+        for declaration in declarations {
+            self.once(&declaration.name)?;
+        }
+        Ok(())
+    }
+
+    /// The names of a list.
+    ///
+    /// # Errors
+    ///
+    /// Only for want of memory.
+    pub fn list(&mut self, names: &[PlacedName]) -> Result<(), AllocError>
+        ensures adds { OnOk result ((ts : List Tree) → Adds ts self.old self.new (bound names.now ∷ [])) }
+        ensures many { OnOk result (length self.new.marks.items ≡ length self.old.marks.items) }
+    {
+        self.seen.truncate(0);
+        self.names(names)
+    }
+
+    /// The names of groups, as one list.
+    ///
+    /// # Errors
+    ///
+    /// Only for want of memory.
+    pub fn group_list(&mut self, groups: &[Vec<PlacedName>]) -> Result<(), AllocError>
+        ensures adds { OnOk result ((ts : List Tree) → Adds ts self.old self.new (bound (all_of (groups_of groups.now)) ∷ [])) }
+        ensures many { OnOk result (length self.new.marks.items ≡ length self.old.marks.items) }
+    {
+        self.seen.truncate(0);
+        self.groups(groups)
+    }
+
+    /// The names of a `with`.
+    ///
+    /// # Errors
+    ///
+    /// Only for want of memory.
+    pub fn bind_list(&mut self, binds: &[Bind]) -> Result<(), AllocError>
+        ensures adds { OnOk result ((ts : List Tree) → Adds ts self.old self.new (bound (map bind_name binds.now) ∷ [])) }
+        ensures many { OnOk result (length self.new.marks.items ≡ length self.old.marks.items) }
+    {
+        self.seen.truncate(0);
+        self.bind_names(binds)
+    }
+
+    /// The names of parameters and variables.
+    ///
+    /// # Errors
+    ///
+    /// Only for want of memory.
+    pub fn declared_list(
+        &mut self,
+        params: &[Declaration],
+        variables: &[Declaration],
+    ) -> Result<(), AllocError>
+        ensures adds { OnOk result ((ts : List Tree) → Adds ts self.old self.new (bound (declaration_names params.now ++ declaration_names variables.now) ∷ [])) }
+        ensures many { OnOk result (length self.new.marks.items ≡ length self.old.marks.items) }
+    {
+        self.seen.truncate(0);
+        self.declared(params)?;
+        self.declared(variables)
+    }
+
+    /// An expression.
+    pub fn expr(&mut self, e: NodeId)
+        requires { e < length self.old.marks.items }
+        ensures adds { (ts : List Tree) → Adds ts self.old self.new (expr_parts ts e) }
+        ensures many { length self.new.marks.items ≡ length self.old.marks.items }
+    {
+        self.marks[e] = true;
+    }
+
+    /// Expressions.
+    pub fn exprs(&mut self, es: &[NodeId])
+        requires { past_numbers es.now ≤ length self.old.marks.items }
+        ensures adds { (ts : List Tree) → Adds ts self.old self.new (flat_map (expr_parts ts) es.now) }
+        ensures many { length self.new.marks.items ≡ length self.old.marks.items }
+    {
+        for e in es {
+            self.expr(*e);
+        }
+    }
+}

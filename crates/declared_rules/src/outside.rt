@@ -1,0 +1,242 @@
+//! What is outside: reserved names there, variables that are declared there, and names that those of the algorithm may not be.
+
+ghost use Rattle.std.specs.Prelude.{◌≡◌, ◌∷◌, ◌++◌, [], List, length, map, codes, OnOk};
+ghost use Rattle.std.specs.List.{flat_map};
+ghost use Rattle.tla_token.specs.Signs.{is_among as is_among_of};
+ghost use Rattle.tla_tree.specs.Tree.{Tree, words};
+ghost use Rattle.pcal_tree.specs.Outside.{unit_names};
+ghost use Rattle.algorithm_limits.specs.DepthsIn.{Hides};
+ghost use Rattle.outside_units.specs.Passing.{passed_seen};
+ghost use Rattle.module_outside.specs.WholeAt.{outside_at};
+ghost use Rattle.declared_rules.specs.Finding.{Joins, Adds, AddsNames};
+ghost use Rattle.declared_rules.specs.Titles.{unit_offences, passed_offences, constant_parts, read_parts, read_words, passed_words, defined_names, macro_names, procedure_names, process_names, main_names, kept_titles, other_titles, title_offences, outside_offences};
+
+use crate::found::Found;
+use crate::own::is_own;
+use algorithm_limits::bound::Bound;
+use module_outside::definition::ReadDefinition;
+use module_outside::outside::Outside;
+use outside_units::passed::Passed;
+use pcal_tree::algorithm::{Algorithm, Definition, Macro, Main, Procedure, Process};
+use std::alloc::AllocError;
+use tla_token::word::is_among;
+use tla_token::{Place, Rule};
+use tla_tree::{Name, PlacedName};
+
+/// The words with which units begin that declare variables.
+static DECLARING: [&str; 2] = ["VARIABLE", "VARIABLES"];
+
+// Whether a unit that begins with this word declares variables.
+fn is_declaring(word: &[u8]) -> bool
+    ensures { result ≡ is_among_of (codes "VARIABLE" ∷ codes "VARIABLES" ∷ []) word.now }
+{
+    is_among(&DECLARING, word)
+}
+
+// ---- names that are seen
+
+// Names.
+fn see_names(seen: &mut Bound, names: &[Name]) -> Result<(), AllocError>
+    ensures { OnOk result (Hides seen.old seen.new names.now) }
+{
+    for name in names {
+        seen.add(name)?;
+    }
+    Ok(())
+}
+
+// Those of definitions.
+fn see_read(seen: &mut Bound, list: &[ReadDefinition]) -> Result<(), AllocError>
+    ensures { OnOk result (Hides seen.old seen.new (read_words list.now)) }
+{
+    for definition in list {
+        seen.add(&definition.title.name)?;
+    }
+    Ok(())
+}
+
+// Those of units that are passed on.
+fn see_passed(seen: &mut Bound, list: &[Passed]) -> Result<(), AllocError>
+    ensures { OnOk result (Hides seen.old seen.new (passed_words list.now)) }
+{
+    for unit in list {
+        see_names(seen, &unit.names)?;
+    }
+    Ok(())
+}
+
+// Those of all units.
+fn see_units(seen: &mut Bound, outside: &Outside) -> Result<(), AllocError>
+    ensures { OnOk result ((ts : List Tree) → Hides seen.old seen.new (unit_names (outside_at ts outside.now))) }
+{
+    seen.add_all(&outside.constants)?;
+    see_read(seen, &outside.definitions)?;
+    see_passed(seen, &outside.opaque)?;
+    Ok(())
+}
+
+impl Found {
+    // A name of a unit that is passed on.
+    fn passed_name(&mut self, name: &Name, place: Place)
+        ensures joins { (ts : List Tree) → Joins ts self.old self.new (passed_offences place name.now) }
+        ensures many { length self.new.marks.items ≡ length self.old.marks.items }
+    {
+        self.offence(is_own(name.bytes()), Rule::Reserved, place);
+    }
+
+    // All of them.
+    fn passed_names(&mut self, names: &[Name], place: Place)
+        ensures joins { (ts : List Tree) → Joins ts self.old self.new (flat_map (passed_offences place) names.now) }
+        ensures many { length self.new.marks.items ≡ length self.old.marks.items }
+    {
+        for name in names {
+            self.passed_name(name, place);
+        }
+    }
+
+    // A unit that is passed on.
+    fn unit(&mut self, unit: &Passed)
+        ensures joins { (ts : List Tree) → Joins ts self.old self.new (unit_offences (passed_seen unit.now)) }
+        ensures many { length self.new.marks.items ≡ length self.old.marks.items }
+    {
+        self.passed_names(&unit.names, unit.place);
+        self.offence(is_declaring(unit.keyword.bytes()), Rule::OutsideVariable, unit.place);
+    }
+
+    // Units that are passed on.
+    fn units(&mut self, list: &[Passed])
+        ensures joins { (ts : List Tree) → Joins ts self.old self.new (flat_map unit_offences (map passed_seen list.now)) }
+        ensures many { length self.new.marks.items ≡ length self.old.marks.items }
+    {
+        for unit in list {
+            self.unit(unit);
+        }
+    }
+
+    // Constants.
+    fn constants(&mut self, names: &[PlacedName])
+        ensures adds { (ts : List Tree) → Adds ts self.old self.new (flat_map constant_parts names.now) }
+        ensures many { length self.new.marks.items ≡ length self.old.marks.items }
+    {
+        for name in names {
+            self.declares(name);
+        }
+    }
+
+    // Definitions that were read.
+    fn read_titles(&mut self, list: &[ReadDefinition])
+        ensures adds { (ts : List Tree) → Adds ts self.old self.new (flat_map read_parts list.now) }
+        ensures many { length self.new.marks.items ≡ length self.old.marks.items }
+    {
+        for definition in list {
+            self.declares(&definition.title);
+        }
+    }
+
+    // ---- titles
+
+    // The names of definitions.
+    fn defined(&mut self, list: &[Definition]) -> Result<(), AllocError>
+        ensures adds { OnOk result (AddsNames self.old self.new (defined_names list.now)) }
+        ensures many { OnOk result (length self.new.marks.items ≡ length self.old.marks.items) }
+    {
+        for definition in list {
+            self.once(&definition.name)?;
+        }
+        Ok(())
+    }
+
+    // Those of macros.
+    fn macro_titles(&mut self, list: &[Macro]) -> Result<(), AllocError>
+        ensures adds { OnOk result (AddsNames self.old self.new (macro_names list.now)) }
+        ensures many { OnOk result (length self.new.marks.items ≡ length self.old.marks.items) }
+    {
+        for one in list {
+            self.once(&one.name)?;
+        }
+        Ok(())
+    }
+
+    // Those of procedures.
+    fn procedure_titles(&mut self, list: &[Procedure]) -> Result<(), AllocError>
+        ensures adds { OnOk result (AddsNames self.old self.new (procedure_names list.now)) }
+        ensures many { OnOk result (length self.new.marks.items ≡ length self.old.marks.items) }
+    {
+        for procedure in list {
+            self.once(&procedure.name)?;
+        }
+        Ok(())
+    }
+
+    // Those of processes.
+    fn process_titles(&mut self, list: &[Process]) -> Result<(), AllocError>
+        ensures adds { OnOk result (AddsNames self.old self.new (process_names list.now)) }
+        ensures many { OnOk result (length self.new.marks.items ≡ length self.old.marks.items) }
+    {
+        for process in list {
+            self.once(&process.name)?;
+        }
+        Ok(())
+    }
+
+    // Those of what runs.
+    fn main_titles(&mut self, main: &Main) -> Result<(), AllocError>
+        ensures adds { OnOk result (AddsNames self.old self.new (main_names main.now)) }
+        ensures many { OnOk result (length self.new.marks.items ≡ length self.old.marks.items) }
+    {
+        match main {
+            Main::Alone(_) => {}
+            Main::Processes(list) => self.process_titles(list)?,
+        }
+        Ok(())
+    }
+
+    // Those of globals and definitions.
+    fn kept(&mut self, algorithm: &Algorithm) -> Result<(), AllocError>
+        ensures adds { OnOk result (AddsNames self.old self.new (kept_titles algorithm.now)) }
+        ensures many { OnOk result (length self.new.marks.items ≡ length self.old.marks.items) }
+    {
+        self.declared(&algorithm.globals)?;
+        self.defined(&algorithm.definitions)?;
+        Ok(())
+    }
+
+    // Those of macros, procedures and processes.
+    fn others(&mut self, algorithm: &Algorithm) -> Result<(), AllocError>
+        ensures adds { OnOk result (AddsNames self.old self.new (other_titles algorithm.now)) }
+        ensures many { OnOk result (length self.new.marks.items ≡ length self.old.marks.items) }
+    {
+        self.macro_titles(&algorithm.macros)?;
+        self.procedure_titles(&algorithm.procedures)?;
+        self.main_titles(&algorithm.main)?;
+        Ok(())
+    }
+
+    /// All titles: each among those before it, and those of globals and definitions among the names outside.
+    ///
+    /// # Errors
+    ///
+    /// Only for want of memory.
+    pub fn titles(&mut self, algorithm: &Algorithm, outside: &Outside) -> Result<(), AllocError>
+        ensures joins { OnOk result ((ts : List Tree) → Joins ts self.old self.new (title_offences self.old.modules (unit_names (outside_at ts outside.now)) (kept_titles algorithm.now) (other_titles algorithm.now))) }
+        ensures many { OnOk result (length self.new.marks.items ≡ length self.old.marks.items) }
+    {
+        self.seen.truncate(0);
+        self.kept(algorithm)?;
+        self.others(algorithm)?;
+        self.seen.truncate(0);
+        see_units(&mut self.seen, outside)?;
+        self.kept(algorithm)?;
+        Ok(())
+    }
+
+    /// What is outside.
+    pub fn outside(&mut self, outside: &Outside)
+        ensures joins { (ts : List Tree) → Joins ts self.old self.new (outside_offences self.old.modules (outside_at ts outside.now)) }
+        ensures many { length self.new.marks.items ≡ length self.old.marks.items }
+    {
+        self.constants(&outside.constants);
+        self.read_titles(&outside.definitions);
+        self.units(&outside.opaque);
+    }
+}

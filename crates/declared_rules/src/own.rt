@@ -1,0 +1,48 @@
+//! Names that the translation has.
+
+ghost use Rattle.std.specs.Prelude.{◌≡◌, ◌∷◌, ◌||◌, [], codes};
+ghost use Rattle.outside_sight.specs.ModulesIn.{is_standard_in};
+ghost use Rattle.tla_token.specs.Signs.{is_among as is_among_of};
+ghost use Rattle.tla_token.specs.Words.{is_own as is_own_of};
+
+use outside_sight::modules::Modules;
+use tla_token::word::is_among;
+
+/// The names that the translation defines itself.
+static OWN: [&str; 11] = [
+    "vars",
+    "pc",
+    "stack",
+    "self",
+    "Init",
+    "Next",
+    "Spec",
+    "Terminating",
+    "Termination",
+    "ProcSet",
+    "defaultInitValue",
+];
+
+/// The labels that the translation has.
+static ENDS: [&str; 2] = ["Done", "Error"];
+
+/// Whether the translation defines this name itself.
+pub fn is_own(word: &[u8]) -> bool
+    ensures { result ≡ is_own_of word.now }
+{
+    is_among(&OWN, word)
+}
+
+/// Whether the translation has this label.
+pub fn is_end(word: &[u8]) -> bool
+    ensures { result ≡ is_among_of (codes "Done" ∷ codes "Error" ∷ []) word.now }
+{
+    is_among(&ENDS, word)
+}
+
+/// Whether it is one of these, or a name of a standard module.
+pub fn is_reserved(modules: Modules, word: &[u8]) -> bool
+    ensures { result ≡ (is_own_of word.now || is_standard_in modules word.now) }
+{
+    is_own(word) || modules.is_standard(word)
+}

@@ -1,0 +1,307 @@
+//! A walk through an algorithm: each part is looked at, and each expression is marked.
+
+ghost use Rattle.std.specs.Prelude.{◌≡◌, ◌≤◌, ◌∷◌, [], List, length, map, OnOk};
+ghost use Rattle.std.specs.List.{flat_map};
+ghost use Rattle.tla_tree.specs.Tree.{Tree};
+ghost use Rattle.tla_tree.specs.Nesting.{greatest};
+ghost use Rattle.pcal_tree.specs.InMemory.{branches_at, past_assignment, past_bind, past_simple, past_stmt, past_statements, past_branches, past_start, past_declaration, past_definition, past_macro, past_procedure, past_process, past_main, past_algorithm};
+ghost use Rattle.declared_rules.specs.Parts.{declares, prints, stacks, in_branches, assignment_parts, bind_parts, simple_parts, body_parts, start_parts, declaration_parts, global_parts, definition_parts, macro_parts, procedure_parts, process_parts, main_parts, algorithm_parts};
+ghost use Rattle.declared_rules.specs.Finding.{Adds, AddsStmt};
+
+use crate::found::Found;
+use pcal_tree::algorithm::{
+    Algorithm, Assignment, Bind, Declaration, Definition, Macro, Main, Procedure, Process, Simple,
+    Start, Stmt,
+};
+use std::alloc::AllocError;
+use tla_token::{Place, Rule};
+use tla_tree::PlacedName;
+
+impl Found {
+    // Left and right sides.
+    fn assignments(&mut self, list: &[Assignment])
+        requires { greatest (map past_assignment list.now) ≤ length self.old.marks.items }
+        ensures adds { (ts : List Tree) → Adds ts self.old self.new (flat_map (assignment_parts ts) list.now) }
+        ensures many { length self.new.marks.items ≡ length self.old.marks.items }
+    {
+        for assignment in list {
+            self.expr(assignment.left);
+            self.expr(assignment.right);
+        }
+    }
+
+    // The expression of one that a `with` names.
+    fn bind(&mut self, bind: &Bind)
+        requires { past_bind bind.now ≤ length self.old.marks.items }
+        ensures adds { (ts : List Tree) → Adds ts self.old self.new (bind_parts ts bind.now) }
+        ensures many { length self.new.marks.items ≡ length self.old.marks.items }
+    {
+        match bind {
+            Bind::Among(_, e) => self.expr(*e),
+            Bind::Is(_, e) => self.expr(*e),
+        }
+    }
+
+    // Those of all that a `with` names.
+    fn binds(&mut self, list: &[Bind])
+        requires { greatest (map past_bind list.now) ≤ length self.old.marks.items }
+        ensures adds { (ts : List Tree) → Adds ts self.old self.new (flat_map (bind_parts ts) list.now) }
+        ensures many { length self.new.marks.items ≡ length self.old.marks.items }
+    {
+        for bind in list {
+            self.bind(bind);
+        }
+    }
+
+    // A statement that needs TLC.
+    fn prints(&mut self, place: Place)
+        ensures adds { (ts : List Tree) → Adds ts self.old self.new (prints place ∷ []) }
+        ensures many { length self.new.marks.items ≡ length self.old.marks.items }
+    {
+        self.offence(!self.modules.tlc, Rule::NeedsModule, place);
+    }
+
+    // A procedure, which needs a stack.
+    fn stacks(&mut self, place: Place)
+        ensures adds { (ts : List Tree) → Adds ts self.old self.new (stacks place ∷ []) }
+        ensures many { length self.new.marks.items ≡ length self.old.marks.items }
+    {
+        self.offence(!self.modules.sequences, Rule::NeedsModule, place);
+    }
+
+    // The name of a procedure.
+    fn stacked(&mut self, name: &PlacedName)
+        ensures adds { (ts : List Tree) → Adds ts self.old self.new (declares name.now ∷ stacks name.now.place ∷ []) }
+        ensures many { length self.new.marks.items ≡ length self.old.marks.items }
+    {
+        self.declares(name);
+        self.stacks(name.place);
+    }
+
+    // A statement with none in it, at its place.
+    fn simple(&mut self, place: Place, simple: &Simple)
+        requires { past_simple simple.now ≤ length self.old.marks.items }
+        ensures adds { (ts : List Tree) → Adds ts self.old self.new (simple_parts ts place simple.now) }
+        ensures many { length self.new.marks.items ≡ length self.old.marks.items }
+    {
+        match simple {
+            Simple::Assign(list) => self.assignments(list),
+            Simple::Await(e) => self.expr(*e),
+            Simple::Print(e) => {
+                self.expr(*e);
+                self.prints(place);
+            }
+            Simple::Assert(e) => {
+                self.expr(*e);
+                self.prints(place);
+            }
+            Simple::Skip => {}
+            Simple::Goto(_) => {}
+            Simple::Macro(_, es) => self.exprs(es),
+            Simple::Call(_, es) => self.exprs(es),
+            Simple::Return => {}
+        }
+    }
+
+    // A first value.
+    fn start(&mut self, start: &Start)
+        requires { past_start start.now ≤ length self.old.marks.items }
+        ensures adds { (ts : List Tree) → Adds ts self.old self.new (start_parts ts start.now) }
+        ensures many { length self.new.marks.items ≡ length self.old.marks.items }
+    {
+        match start {
+            Start::Unset => {}
+            Start::Equals(e) => self.expr(*e),
+            Start::Among(e) => self.expr(*e),
+        }
+    }
+
+    // A label or a statement.
+    #[cycle(bodies)]
+    fn stmt(&mut self, stmt: &Stmt) -> Result<(), AllocError>
+        requires { past_stmt stmt.now ≤ length self.old.marks.items }
+        ensures adds { OnOk result ((ts : List Tree) → AddsStmt ts stmt.now self.old self.new) }
+        ensures many { OnOk result (length self.new.marks.items ≡ length self.old.marks.items) }
+    {
+        match stmt {
+            Stmt::Label(name, _) => self.label(name),
+            Stmt::Simple(span, simple) => self.simple(span.first, simple),
+            Stmt::If(_, e, then, otherwise) => {
+                self.expr(*e);
+                self.body(then)?;
+                self.body(otherwise)?;
+            }
+            Stmt::Either(_, list) => self.branches(list)?,
+            Stmt::With(_, binds, body) => {
+                self.bind_list(binds)?;
+                self.binds(binds);
+                self.body(body)?;
+            }
+            Stmt::While(_, e, body) => {
+                self.expr(*e);
+                self.body(body)?;
+            }
+        }
+        Ok(())
+    }
+
+    // Branches.
+    #[cycle(bodies)]
+    fn branches(&mut self, list: &[Vec<Stmt>]) -> Result<(), AllocError>
+        requires { past_branches list.now ≤ length self.old.marks.items }
+        ensures adds { OnOk result ((ts : List Tree) → Adds ts self.old self.new (in_branches (branches_at ts list.now))) }
+        ensures many { OnOk result (length self.new.marks.items ≡ length self.old.marks.items) }
+    {
+        for i in 0..list.len() {
+            self.body(&list[i])?;
+        }
+        Ok(())
+    }
+
+    // A list of statements. It calls itself as deep as statements are in statements.
+    #[cycle(bodies)]
+    fn body(&mut self, stmts: &[Stmt]) -> Result<(), AllocError>
+        requires { past_statements stmts.now ≤ length self.old.marks.items }
+        ensures adds { OnOk result ((ts : List Tree) → Adds ts self.old self.new (body_parts ts stmts.now)) }
+        ensures many { OnOk result (length self.new.marks.items ≡ length self.old.marks.items) }
+    {
+        for stmt in stmts {
+            self.stmt(stmt)?;
+        }
+        Ok(())
+    }
+
+    // First values of variables and parameters.
+    fn starts(&mut self, list: &[Declaration])
+        requires { greatest (map past_declaration list.now) ≤ length self.old.marks.items }
+        ensures adds { (ts : List Tree) → Adds ts self.old self.new (flat_map (declaration_parts ts) list.now) }
+        ensures many { length self.new.marks.items ≡ length self.old.marks.items }
+    {
+        for declaration in list {
+            self.start(&declaration.start);
+        }
+    }
+
+    // Globals.
+    fn globals(&mut self, list: &[Declaration])
+        requires { greatest (map past_declaration list.now) ≤ length self.old.marks.items }
+        ensures adds { (ts : List Tree) → Adds ts self.old self.new (flat_map (global_parts ts) list.now) }
+        ensures many { length self.new.marks.items ≡ length self.old.marks.items }
+    {
+        for declaration in list {
+            self.declares(&declaration.name);
+            self.start(&declaration.start);
+        }
+    }
+
+    // Definitions.
+    fn definitions(&mut self, list: &[Definition]) -> Result<(), AllocError>
+        requires { greatest (map past_definition list.now) ≤ length self.old.marks.items }
+        ensures adds { OnOk result ((ts : List Tree) → Adds ts self.old self.new (flat_map (definition_parts ts) list.now)) }
+        ensures many { OnOk result (length self.new.marks.items ≡ length self.old.marks.items) }
+    {
+        for definition in list {
+            self.declares(&definition.name);
+            self.list(&definition.params)?;
+            self.expr(definition.body);
+        }
+        Ok(())
+    }
+
+    // Macros.
+    fn macros(&mut self, list: &[Macro]) -> Result<(), AllocError>
+        requires { greatest (map past_macro list.now) ≤ length self.old.marks.items }
+        ensures adds { OnOk result ((ts : List Tree) → Adds ts self.old self.new (flat_map (macro_parts ts) list.now)) }
+        ensures many { OnOk result (length self.new.marks.items ≡ length self.old.marks.items) }
+    {
+        for one in list {
+            self.declares(&one.name);
+            self.list(&one.params)?;
+            self.body(&one.body)?;
+        }
+        Ok(())
+    }
+
+    // A procedure.
+    fn procedure(&mut self, procedure: &Procedure) -> Result<(), AllocError>
+        requires { past_procedure procedure.now ≤ length self.old.marks.items }
+        ensures adds { OnOk result ((ts : List Tree) → Adds ts self.old self.new (procedure_parts ts procedure.now)) }
+        ensures many { OnOk result (length self.new.marks.items ≡ length self.old.marks.items) }
+    {
+        self.stacked(&procedure.name);
+        self.declared_list(&procedure.params, &procedure.variables)?;
+        self.starts(&procedure.params);
+        self.starts(&procedure.variables);
+        self.body(&procedure.body)?;
+        Ok(())
+    }
+
+    // Procedures.
+    fn procedures(&mut self, list: &[Procedure]) -> Result<(), AllocError>
+        requires { greatest (map past_procedure list.now) ≤ length self.old.marks.items }
+        ensures adds { OnOk result ((ts : List Tree) → Adds ts self.old self.new (flat_map (procedure_parts ts) list.now)) }
+        ensures many { OnOk result (length self.new.marks.items ≡ length self.old.marks.items) }
+    {
+        for procedure in list {
+            self.procedure(procedure)?;
+        }
+        Ok(())
+    }
+
+    // A process.
+    fn process(&mut self, process: &Process) -> Result<(), AllocError>
+        requires { past_process process.now ≤ length self.old.marks.items }
+        ensures adds { OnOk result ((ts : List Tree) → Adds ts self.old self.new (process_parts ts process.now)) }
+        ensures many { OnOk result (length self.new.marks.items ≡ length self.old.marks.items) }
+    {
+        self.declares(&process.name);
+        self.declared_list(&process.variables, &[])?;
+        self.expr(process.identity);
+        self.starts(&process.variables);
+        self.body(&process.body)?;
+        Ok(())
+    }
+
+    // Processes.
+    fn processes(&mut self, list: &[Process]) -> Result<(), AllocError>
+        requires { greatest (map past_process list.now) ≤ length self.old.marks.items }
+        ensures adds { OnOk result ((ts : List Tree) → Adds ts self.old self.new (flat_map (process_parts ts) list.now)) }
+        ensures many { OnOk result (length self.new.marks.items ≡ length self.old.marks.items) }
+    {
+        for process in list {
+            self.process(process)?;
+        }
+        Ok(())
+    }
+
+    // What runs.
+    fn main(&mut self, main: &Main) -> Result<(), AllocError>
+        requires { past_main main.now ≤ length self.old.marks.items }
+        ensures adds { OnOk result ((ts : List Tree) → Adds ts self.old self.new (main_parts ts main.now)) }
+        ensures many { OnOk result (length self.new.marks.items ≡ length self.old.marks.items) }
+    {
+        match main {
+            Main::Alone(body) => self.body(body)?,
+            Main::Processes(processes) => self.processes(processes)?,
+        }
+        Ok(())
+    }
+
+    /// A whole algorithm.
+    ///
+    /// # Errors
+    ///
+    /// Only for want of memory.
+    pub fn algorithm(&mut self, algorithm: &Algorithm) -> Result<(), AllocError>
+        requires { past_algorithm algorithm.now ≤ length self.old.marks.items }
+        ensures adds { OnOk result ((ts : List Tree) → Adds ts self.old self.new (algorithm_parts ts algorithm.now)) }
+        ensures many { OnOk result (length self.new.marks.items ≡ length self.old.marks.items) }
+    {
+        self.globals(&algorithm.globals);
+        self.definitions(&algorithm.definitions)?;
+        self.macros(&algorithm.macros)?;
+        self.procedures(&algorithm.procedures)?;
+        self.main(&algorithm.main)?;
+        Ok(())
+    }
+}
