@@ -1,0 +1,2 @@
+-- That what is read too early is found.
+pub mod UsedLaws

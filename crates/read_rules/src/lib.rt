@@ -1,0 +1,4 @@
+//! Variables that are read where they have no value yet: where an algorithm is refused by that.
+#![tactic(auto)]
+
+pub mod used;
