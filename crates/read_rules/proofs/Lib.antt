@@ -1,2 +1,3 @@
 -- That what is read too early is found.
 pub mod UsedLaws
+pub mod NumberLaws

@@ -1,4 +1,5 @@
 //! Variables that are read where they have no value yet: where an algorithm is refused by that.
 #![tactic(auto)]
 
+pub mod levels;
 pub mod used;
