@@ -1,3 +1,4 @@
 -- That what is read too early is found.
 pub mod UsedLaws
 pub mod NumberLaws
+pub mod FoundLaws

@@ -1,5 +1,6 @@
 //! Variables that are read where they have no value yet: where an algorithm is refused by that.
 #![tactic(auto)]
 
+pub mod identities;
 pub mod levels;
 pub mod used;

@@ -112,3 +112,21 @@ pub fn used_names(
     let Used { names, .. } = used;
     Ok(names)
 }
+
+/// The names that an expression uses where none is bound, in the order of the text.
+///
+/// # Errors
+///
+/// Only for want of memory.
+pub fn free_names(alloc: Global, pool: &Pool, e: NodeId) -> Result<Vec<PlacedName>, AllocError>
+    requires { e < length pool.now }
+    ensures { IfOk result (λ r. r.items ≡ used (at pool.now e) []) }
+{
+    let mut used = Used {
+        names: Vec::new(alloc),
+        bound: Bound::new(alloc),
+    };
+    used.expr(pool, e)?;
+    let Used { names, .. } = used;
+    Ok(names)
+}
