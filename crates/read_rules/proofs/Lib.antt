@@ -2,3 +2,4 @@
 pub mod UsedLaws
 pub mod NumberLaws
 pub mod FoundLaws
+pub mod OrderLaws

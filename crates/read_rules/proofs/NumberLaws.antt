@@ -6,7 +6,8 @@ use Rattle.tla_tree.specs.Tree.{Word, Tree}
 use Rattle.pcal_tree.specs.declared.algorithm.Declaration.{Declaration}
 use Rattle.pcal_tree.specs.declared.algorithm.Definition.{Definition}
 use Rattle.pcal_tree.specs.Algorithm as tree
-use Rattle.pcal_tree.specs.InMemory.{definition_at, definitions_at}
+use Rattle.pcal_tree.specs.InMemory.{definition_at, definitions_at, declarations_at}
+use Rattle.pcal_tree.specs.Variables.{declared}
 use Rattle.algorithm_limits.specs.Numbers.{Numbers, number_of, with_number}
 use Rattle.algorithm_limits.proofs.Tables.{number_of_with}
 use Rattle.early_reads.specs.Levels.{one_further, number_among, Levels, level_of, levels}
@@ -76,3 +77,9 @@ newest_first ts ds i d e l =
     ap (λ (es : List Definition). reverse (definitions_at ts es)) (take_more ds i d l ∙ ap (λ (z : Definition). take i ds ++ z ∷ []) (sym e))
     ∙ ap (λ (es : List tree.Definition). reverse es) (map-append (definition_at ts) (take i ds) (d ∷ []))
     ∙ reverse-append (definitions_at ts (take i ds)) (definition_at ts d ∷ [])
+
+-- ---- declarations in memory
+
+pub declared_is : (ts : List Tree) (ds : List Declaration) → declared (declarations_at ts ds) ≡ declared_in ds
+declared_is ts [] = refl
+declared_is ts (d ∷ ds) = ap (λ (ws : List Word). d.name.word ∷ ws) (declared_is ts ds)

@@ -1,2 +1,4 @@
 pub mod Using
 pub mod NumbersIn
+pub mod Own
+pub mod Order

@@ -1,6 +1,9 @@
 //! Variables that are read where they have no value yet: where an algorithm is refused by that.
 #![tactic(auto)]
 
+pub mod declared;
 pub mod identities;
 pub mod levels;
+pub mod order;
+pub mod own;
 pub mod used;
