@@ -3,3 +3,4 @@ pub mod UsedLaws
 pub mod NumberLaws
 pub mod FoundLaws
 pub mod OrderLaws
+pub mod LocalLaws

@@ -2,3 +2,4 @@ pub mod Using
 pub mod NumbersIn
 pub mod Own
 pub mod Order
+pub mod Locals

@@ -4,6 +4,10 @@
 pub mod declared;
 pub mod identities;
 pub mod levels;
+pub mod locals;
 pub mod order;
 pub mod own;
+pub mod reads;
 pub mod used;
+
+pub use reads::read_refusal;

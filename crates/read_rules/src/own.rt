@@ -119,11 +119,7 @@ fn of_processes(
 /// # Errors
 ///
 /// Only for want of memory.
-pub fn own_refusal(
-    alloc: Global,
-    pool: &Pool,
-    main: &Main,
-) -> Result<Option<Refusal>, AllocError>
+pub fn own_refusal(alloc: Global, pool: &Pool, main: &Main) -> Result<Option<Refusal>, AllocError>
     requires { past_main main.now ≤ length pool.now }
     ensures { IfOk result (λ r. r ≡ first (flat_map own_in_sets (processes_of (main_at pool.now main.now)))) }
 {

@@ -29,9 +29,9 @@ loop-definition-preserved c gs n =
     let before = levels gs (reverse (definitions_at ts (take i ds))) in
     let h = c.loop-definition.invariant gs n in
     let names : c.in_ok-names.names.items ≡ used (at ts d.body) (words d.params.items) =
-        c.in_ok-names.ensures ∙ ap (λ (ns : List Name). used (at ts c.definition.inside.0.1.1.0) (words ns)) c.deref.ensures.value ∙ ap (λ (e : Definition). used (at ts e.body) (words e.params.items)) c.definition.view_is in
+    c.in_ok-names.ensures ∙ ap (λ (ns : List Name). used (at ts c.definition.inside.0.1.1.0) (words ns)) c.deref.ensures.value ∙ ap (λ (e : Definition). used (at ts e.body) (words e.params.items)) c.definition.view_is in
     let level : c.furthest-level.result ≡ furthest gs before (used (at ts d.body) (words d.params.items)) =
-        c.furthest-level.ensures gs before n h ∙ ap (furthest gs before) (c.deref-in-loop-definition.ensures.value ∙ names) in
+    c.furthest-level.ensures gs before n h ∙ ap (furthest gs before) (c.deref-in-loop-definition.ensures.value ∙ names) in
     let set = c.in_ok-set.ensures ∙ (λ k. with_number c.loop-definition.levels ((c.in_ok-copied.ensures ∙ ap (λ (e : Definition). e.name.word) c.definition.view_is) k) (level k)) in
     subst (λ (es : Numbers). AreLevels es (levels gs (reverse (definitions_at ts (take (i + 1) ds))))) (sym set)
     (subst (λ (es : List tree.Definition). AreLevels (with_number c.loop-definition.levels d.name.word (furthest gs before (used (at ts d.body) (words d.params.items)))) (levels gs es)) (sym (newest_first ts ds i d c.definition-item.is c.loop-definition-test.true))

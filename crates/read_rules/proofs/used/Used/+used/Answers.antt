@@ -15,8 +15,7 @@ use Rattle.read_rules.proofs.used.Used.+used.Goals as goal
 pub expr-parts-requires : goal.expr-parts-requires
 expr-parts-requires t c =
     let n = c.node-node.result.now in
-    let parts = c.deref.ensures.value ∙ ap (λ (n : Entry). n.parts) c.node.view_is in
-    (
+    let parts = c.deref.ensures.value ∙ ap (λ (n : Entry). n.parts) c.node.view_is in (
       omega (arith, c.decreases),
       (
         subst (λ (ids : List ℕ). AllBelow c.args.e ids) (sym parts) c.node-node.ensures.older,
