@@ -1,5 +1,5 @@
 -- The level of a definition tells which variables it reads.
-use Rattle.std.proofs.Common.{◌≡◌, ℕ, max, nat_lt, Bool, true, false, ◌&&◌, ◌||◌, not, List, [], ◌∷◌, take, filter, cond, bytes_eq, refl, sym, ap, ◌∙◌, arith, le-ltb}
+use Rattle.std.proofs.Common.{◌≡◌, ℕ, nat_lt, Bool, true, false, ◌&&◌, ◌||◌, not, List, [], ◌∷◌, take, filter, cond, bytes_eq, refl, sym, ap, ◌∙◌, arith, le-ltb}
 use Rattle.std.specs.List.{list_any}
 use Rattle.tla_token.specs.Signs.{is_among}
 use Rattle.tla_tree.specs.Tree.{Word, words}

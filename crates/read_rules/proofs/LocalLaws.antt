@@ -1,5 +1,5 @@
 -- The variables of procedures and processes, one list after another.
-use Rattle.std.proofs.Common.{◌≡◌, ℕ, suc, ◌+◌, ◌<◌, ◌≤◌, nat_lt, Bool, true, false, ◌||◌, not, ◌&&◌, List, [], ◌∷◌, ◌++◌, length, take, map, get_or, Option, refl, sym, ap, ◌∙◌, subst, arith, le-ltb}
+use Rattle.std.proofs.Common.{◌≡◌, ℕ, suc, ◌+◌, ◌<◌, ◌≤◌, Bool, ◌||◌, not, ◌&&◌, List, [], ◌∷◌, ◌++◌, length, take, map, get_or, Option, refl, sym, ap, ◌∙◌, subst, arith, le-ltb}
 use Rattle.std.specs.List.{list_any, flat_map}
 use Rattle.std.proofs.lemmas.List.{take_more, take_all, append-nil, append_assoc, map-append}
 use Rattle.std.proofs.lemmas.Grind.{flat_map-append}
@@ -23,13 +23,12 @@ use Rattle.algorithm_limits.specs.DepthsIn.{Hides}
 use Rattle.algorithm_limits.proofs.BoundLemmas.{hides_then, hides_as}
 use Rattle.algorithm_answer.specs.Joined.{joined}
 use Rattle.algorithm_answer.proofs.Joins.{joined_assoc, first_append}
-use Rattle.early_reads.specs.EarlyReads.{early_in_start, early_in, early_in_locals, local_lists, variables_of}
+use Rattle.early_reads.specs.EarlyReads.{early_in_start, early_in, early_in_locals, variables_of}
 use Rattle.read_rules.specs.declared.order.Known.{Known}
 use Rattle.read_rules.specs.NumbersIn.{declared_in}
 use Rattle.read_rules.specs.Order.{Knows, behind}
 use Rattle.read_rules.specs.Locals.{procedure_words, process_words, main_words, algorithm_words, procedure_list, process_list}
 use Rattle.read_rules.proofs.NumberLaws.{declared_is}
-use Rattle.read_rules.proofs.OrderLaws.{knows_behind}
 use Rattle.read_rules.proofs.FoundLaws.{Found, found_none, found_more, found_all, flat_mapped}
 
 -- ---- names

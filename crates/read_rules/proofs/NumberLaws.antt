@@ -1,6 +1,6 @@
 -- Tables of the numbers of variables and of the levels of definitions, as one more is added.
-use Rattle.std.proofs.Common.{◌≡◌, ℕ, zero, suc, ◌+◌, ◌<◌, ◌≤◌, nat_eq, Bool, true, false, List, [], ◌∷◌, ◌++◌, length, take, map, reverse, get_or, refl, sym, ap, ◌∙◌, subst, arith, cond, bytes_eq}
-use Rattle.std.proofs.lemmas.List.{take_more, take_all, map-append, reverse-append, length-map}
+use Rattle.std.proofs.Common.{◌≡◌, ℕ, zero, suc, ◌+◌, ◌<◌, Bool, true, false, List, [], ◌∷◌, ◌++◌, length, take, reverse, get_or, refl, sym, ap, ◌∙◌, arith, cond, bytes_eq}
+use Rattle.std.proofs.lemmas.List.{take_more, map-append, reverse-append}
 use Rattle.std.proofs.lemmas.Slice.Eq.{bytes_eq-Decides}
 use Rattle.tla_tree.specs.Tree.{Word, Tree}
 use Rattle.pcal_tree.specs.declared.algorithm.Declaration.{Declaration}
@@ -10,7 +10,7 @@ use Rattle.pcal_tree.specs.InMemory.{definition_at, definitions_at, declarations
 use Rattle.pcal_tree.specs.Variables.{declared}
 use Rattle.algorithm_limits.specs.Numbers.{Numbers, number_of, with_number}
 use Rattle.algorithm_limits.proofs.Tables.{number_of_with}
-use Rattle.early_reads.specs.Levels.{one_further, number_among, Levels, level_of, levels}
+use Rattle.early_reads.specs.Levels.{one_further, number_among, Levels}
 use Rattle.read_rules.specs.NumbersIn.{declared_in, AreNumbers, AreLevels}
 
 -- ---- the numbers of variables

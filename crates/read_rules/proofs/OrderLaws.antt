@@ -1,14 +1,13 @@
 -- What is known as variables are declared one after another, and the first offence of their initial values.
 use Rattle.std.proofs.Common.{◌≡◌, ℕ, suc, ◌+◌, ◌<◌, ◌≤◌, Bool, true, false, ◌||◌, List, [], ◌∷◌, ◌++◌, length, take, drop, get_or, Option, refl, sym, ap, ◌∙◌, subst, arith, bytes_eq}
-use Rattle.std.specs.List.{list_any, flat_map}
-use Rattle.std.proofs.lemmas.List.{drop_more, drop_all, take_all, append-nil}
+use Rattle.std.proofs.lemmas.List.{drop_more, drop_all, take_all}
 use Rattle.std.proofs.lemmas.List.Folds.{list_any-append}
 use Rattle.tla_token.specs.declared.rule.Refusal.{Refusal}
 use Rattle.tla_token.specs.Signs.{is_among}
 use Rattle.tla_tree.specs.Tree.{Word, Tree, root_place}
 use Rattle.tla_tree.specs.Pool.{Entry, at, tree_in}
 use Rattle.pcal_tree.specs.declared.algorithm.Declaration.{Declaration}
-use Rattle.pcal_tree.specs.InMemory.{start_at, declaration_at, declarations_at}
+use Rattle.pcal_tree.specs.InMemory.{start_at, declarations_at}
 use Rattle.pcal_tree.specs.Offences.{first}
 use Rattle.algorithm_limits.specs.DepthsIn.{Hides}
 use Rattle.algorithm_limits.proofs.BoundLemmas.{hides_none, hides_then, hides_as}

@@ -1,12 +1,11 @@
 -- Names that are met one after another.
-use Rattle.std.proofs.Common.{◌≡◌, ℕ, zero, suc, ◌+◌, ◌<◌, ◌≤◌, Bool, true, false, not, List, [], ◌∷◌, ◌++◌, length, take, drop, map, get_or, refl, sym, ap, ◌∙◌, subst, arith, cond, append-nil, append_assoc}
+use Rattle.std.proofs.Common.{◌≡◌, ℕ, zero, suc, ◌+◌, ◌<◌, ◌≤◌, Bool, List, [], ◌∷◌, ◌++◌, length, take, drop, map, get_or, refl, sym, ap, ◌∙◌, subst, arith, cond, append-nil, append_assoc}
 use Rattle.std.specs.Prelude.{◌==◌}
 use Rattle.std.specs.List.{list_any}
 use Rattle.std.specs.Cmp.Lexicographic.{pointwise}
 use Rattle.std.proofs.lemmas.List.{drop_more, drop_all, length-map}
 use Rattle.tla_token.specs.declared.place.Place.{Place}
-use Rattle.tla_token.specs.Signs.{is_among}
-use Rattle.tla_tree.specs.Tree.{Word, Form, name, operator_call, binding, local, Tree, Trees, no_trees, tree, seen_names}
+use Rattle.tla_tree.specs.Tree.{Word, Form, name, operator_call, Tree, Trees, no_trees, tree, seen_names}
 use Rattle.tla_tree.specs.TreeOf.{trees_from}
 use Rattle.tla_tree.specs.Shapes.{Shaped}
 use Rattle.tla_tree.specs.Pool.{Entry, at, trees_at, tree_in}

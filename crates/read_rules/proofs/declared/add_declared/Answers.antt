@@ -1,5 +1,5 @@
 -- Proves that one more name is added.
-use Rattle.std.proofs.Common.{List, ◌∷◌, [], take, ap, subst}
+use Rattle.std.proofs.Common.{◌∷◌, [], take, subst}
 use Rattle.pcal_tree.specs.declared.algorithm.Declaration.{Declaration}
 use Rattle.algorithm_limits.specs.DepthsIn.{Hides}
 use Rattle.algorithm_limits.proofs.BoundLemmas.{hides_then, hides_as}

@@ -1,11 +1,10 @@
 -- Proves that the first offence of names is found.
-use Rattle.std.proofs.Common.{Bool, nat_lt, ap, ◌∙◌}
+use Rattle.std.proofs.Common.{Bool, ap, ◌∙◌}
 use Rattle.tla_token.specs.declared.rule.Rule.TheVariants.{ProcessNotConstant}
 use Rattle.tla_token.specs.declared.place.Place.{Place}
 use Rattle.pcal_tree.specs.Algorithm.{Name}
 use Rattle.pcal_tree.specs.Offences.{offence_if, first}
 use Rattle.algorithm_answer.specs.Joined.{joined}
-use Rattle.early_reads.specs.Levels.{reach_of}
 use Rattle.early_reads.specs.EarlyReads.{offending_name}
 use Rattle.read_rules.proofs.FoundLaws.{found_none, found_more, found_all}
 use Rattle.read_rules.proofs.identities.with_names.Goals as goal

@@ -1,17 +1,17 @@
 -- Proves that each definition gets its level.
-use Rattle.std.proofs.Common.{◌≡◌, ℕ, ◌+◌, ◌<◌, List, ◌∷◌, length, take, reverse, get_or, sym, ap, ◌∙◌, subst, arith}
+use Rattle.std.proofs.Common.{◌≡◌, ◌+◌, ◌<◌, List, length, take, reverse, sym, ap, ◌∙◌, subst, arith}
 use Rattle.std.proofs.lemmas.List.{take_all}
-use Rattle.tla_tree.specs.Tree.{Word, words}
+use Rattle.tla_tree.specs.Tree.{words}
 use Rattle.tla_tree.specs.Pool.{at}
 use Rattle.tla_tree.proofs.PoolNumbers.{past_at}
 use Rattle.pcal_tree.specs.declared.algorithm.Definition.{Definition}
 use Rattle.pcal_tree.specs.Algorithm.{Name}
 use Rattle.pcal_tree.specs.Algorithm as tree
-use Rattle.pcal_tree.specs.InMemory.{definition_at, definitions_at, past_definition}
+use Rattle.pcal_tree.specs.InMemory.{definitions_at, past_definition}
 use Rattle.pcal_tree.specs.Reads.{used}
 use Rattle.algorithm_limits.specs.Numbers.{Numbers, with_number}
-use Rattle.early_reads.specs.Levels.{Levels, furthest, levels}
-use Rattle.read_rules.specs.NumbersIn.{AreNumbers, AreLevels}
+use Rattle.early_reads.specs.Levels.{furthest, levels}
+use Rattle.read_rules.specs.NumbersIn.{AreLevels}
 use Rattle.read_rules.proofs.NumberLaws.{levels_more, newest_first}
 use Rattle.read_rules.proofs.levels.levels.Goals as goal
 

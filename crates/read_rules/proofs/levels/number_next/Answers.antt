@@ -1,5 +1,5 @@
 -- Proves that a variable gets its number.
-use Rattle.std.proofs.Common.{ℕ, ◌∷◌, [], ◌++◌, sym, ap, ◌∙◌, subst}
+use Rattle.std.proofs.Common.{◌∷◌, [], ◌++◌, sym, ap, ◌∙◌, subst}
 use Rattle.tla_tree.specs.Tree.{Word}
 use Rattle.algorithm_limits.specs.Numbers.{Numbers, with_number}
 use Rattle.read_rules.specs.NumbersIn.{AreNumbers}

@@ -1,6 +1,6 @@
 -- Proves that the names of procedures are added.
-use Rattle.std.proofs.Common.{List, ap, ◌∙◌}
-use Rattle.algorithm_limits.proofs.BoundLemmas.{hides_none, hides_then, hides_as}
+use Rattle.std.proofs.Common.{ap}
+use Rattle.algorithm_limits.proofs.BoundLemmas.{hides_then, hides_as}
 use Rattle.read_rules.specs.NumbersIn.{declared_in}
 use Rattle.read_rules.specs.Locals.{procedure_words}
 use Rattle.read_rules.proofs.LocalLaws.{hides_more, hides_all}

@@ -1,5 +1,5 @@
 -- Proves that the first offence is found in globals, procedures and processes.
-use Rattle.std.proofs.Common.{◌≡◌, List, [], map, None, sym, ap, ◌∙◌, subst}
+use Rattle.std.proofs.Common.{List, [], map, sym, ap, ◌∙◌, subst}
 use Rattle.std.specs.List.{flat_map}
 use Rattle.std.proofs.lemmas.Result.{IfOk-weaker}
 use Rattle.tla_tree.specs.Tree.{Word}
@@ -13,12 +13,11 @@ use Rattle.pcal_tree.specs.Variables.{declared}
 use Rattle.algorithm_limits.specs.Numbers.{Numbers, number_of}
 use Rattle.algorithm_limits.specs.DepthsIn.{Hides}
 use Rattle.algorithm_answer.specs.Joined.{joined}
-use Rattle.early_reads.specs.Levels.{Levels}
 use Rattle.early_reads.specs.EarlyReads.{early_in, early_in_locals, variables_of}
 use Rattle.outside_sight.specs.SightIn.{Binds}
 use Rattle.outside_sight.proofs.SightLaws.{none_bound, binds_all}
 use Rattle.read_rules.specs.declared.order.Known.{Known}
-use Rattle.read_rules.specs.NumbersIn.{declared_in, AreLevels}
+use Rattle.read_rules.specs.NumbersIn.{declared_in}
 use Rattle.read_rules.specs.Order.{Knows}
 use Rattle.read_rules.specs.Locals.{procedure_list, process_list}
 use Rattle.read_rules.proofs.NumberLaws.{declared_is}

@@ -6,7 +6,7 @@ use Rattle.pcal_tree.specs.InMemory.{declaration_at, past_declaration}
 use Rattle.pcal_tree.specs.Offences.{first}
 use Rattle.algorithm_answer.specs.Joined.{joined}
 use Rattle.read_rules.specs.Own.{own_in_declaration}
-use Rattle.read_rules.proofs.FoundLaws.{found_none, found_more, found_all, flat_mapped}
+use Rattle.read_rules.proofs.FoundLaws.{found_more, found_all, flat_mapped}
 use Rattle.read_rules.proofs.own.with_declarations.Goals as goal
 
 pub with_start-requires : goal.with_start-requires

@@ -2,13 +2,11 @@
 use Rattle.std.proofs.Common.{Bool, List, [], cond, sym, ap, ◌∙◌, subst}
 use Rattle.std.specs.List.{flat_map}
 use Rattle.std.proofs.lemmas.Result.{IfOk-weaker}
-use Rattle.tla_token.specs.declared.rule.Refusal.{Refusal}
 use Rattle.tla_tree.specs.Tree.{Word}
 use Rattle.pcal_tree.specs.declared.algorithm.Declaration.{Declaration}
 use Rattle.pcal_tree.specs.Algorithm as tree
 use Rattle.pcal_tree.specs.InMemory.{declarations_at, process_at}
 use Rattle.pcal_tree.specs.Offences.{first}
-use Rattle.pcal_tree.specs.Variables.{declared}
 use Rattle.algorithm_limits.specs.DepthsIn.{Hides}
 use Rattle.algorithm_answer.specs.Joined.{joined}
 use Rattle.outside_sight.specs.SightIn.{Binds}

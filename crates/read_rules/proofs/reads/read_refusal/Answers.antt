@@ -1,9 +1,6 @@
 -- Proves that the first offence of the three rules is found.
-use Rattle.std.proofs.Common.{◌≡◌, List, ◌++◌, reverse, Option, sym, ap, ◌∙◌, subst}
-use Rattle.std.specs.List.{flat_map}
-use Rattle.tla_token.specs.declared.rule.Refusal.{Refusal}
+use Rattle.std.proofs.Common.{List, ◌++◌, reverse, sym, ap, ◌∙◌, subst}
 use Rattle.tla_tree.specs.Tree.{Word}
-use Rattle.pcal_tree.specs.declared.algorithm.Declaration.{Declaration}
 use Rattle.pcal_tree.specs.declared.algorithm.Definition.{Definition}
 use Rattle.pcal_tree.specs.Algorithm as tree
 use Rattle.pcal_tree.specs.InMemory.{definitions_at, algorithm_at}

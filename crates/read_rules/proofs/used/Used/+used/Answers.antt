@@ -1,7 +1,6 @@
 -- Proves what is asked of the functions that go through an expression.
 use Rattle.std.proofs.Common.{ℕ, List, length, take, slice_index_or, sym, ap, ◌∙◌, subst, refl, arith}
 use Rattle.std.proofs.lemmas.List.{get_or_default}
-use Rattle.tla_token.specs.declared.place.Place.{Place}
 use Rattle.tla_tree.specs.Tree.{Form, seen_names}
 use Rattle.tla_tree.specs.Pool.{Entry, AllBelow, trees_at}
 use Rattle.tla_tree.specs.Shapes.{Shaped}
