@@ -1,0 +1,5 @@
+pub mod Using
+pub mod NumbersIn
+pub mod Own
+pub mod Order
+pub mod Locals

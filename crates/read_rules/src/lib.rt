@@ -1,0 +1,13 @@
+//! Variables that are read where they have no value yet: where an algorithm is refused by that.
+#![tactic(auto)]
+
+pub mod declared;
+pub mod identities;
+pub mod levels;
+pub mod locals;
+pub mod order;
+pub mod own;
+pub mod reads;
+pub mod used;
+
+pub use reads::read_refusal;
