@@ -1,12 +1,12 @@
 //! By which offence an algorithm is refused, of those against the rules on declared names and on modules.
 
 ghost use Rattle.std.specs.Prelude.{◌≡◌, ◌≤◌, length, IfOk};
-ghost use Rattle.pcal_tree.specs.InMemory.{past_algorithm};
+ghost use Rattle.pcal_tree.specs.InMemory.{past_algorithm, algorithm_at};
 ghost use Rattle.pcal_tree.specs.Offences.{first};
 ghost use Rattle.tla_tree.specs.Tree.{words};
 ghost use Rattle.outside_sight.specs.ModulesIn.{AreModules};
 ghost use Rattle.module_outside.specs.WholeAt.{outside_at};
-ghost use Rattle.declared_rules.specs.Refusal.{offences_found};
+ghost use Rattle.declared_rules.specs.Refusal.{declared_offences, offences_found};
 
 use crate::sweep::none_found;
 use module_outside::outside::Outside;
@@ -43,4 +43,23 @@ fn first_found(
     found.algorithm(algorithm)?;
     found.sweep(pool)?;
     Ok(found.first)
+}
+
+/// The first offence against the rules on names that are declared twice, on reserved names, on what needs a module, and on
+/// variables outside, if there is one.
+///
+/// # Errors
+///
+/// Only for want of memory.
+pub fn declared_refusal(
+    alloc: Global,
+    pool: &Pool,
+    algorithm: &Algorithm,
+    outside: &Outside,
+) -> Result<Option<Refusal>, AllocError>
+    requires { past_algorithm algorithm.now ≤ length pool.now }
+    ensures { IfOk result (λ r. r ≡ first (declared_offences (algorithm_at pool.now algorithm.now) (outside_at pool.now outside.now))) }
+{
+    let modules = modules_among(alloc, &outside.extended)?;
+    first_found(alloc, modules, pool, algorithm, outside)
 }
