@@ -1,5 +1,5 @@
 -- Where no offence passes a test by the rules themselves, none does in the parts of an algorithm.
-use Rattle.std.proofs.Common.{◌≡◌, ℕ, suc, List, [], ◌∷◌, ◌++◌, map, Bool, false, refl, sym, ap, ◌∙◌}
+use Rattle.std.proofs.Common.{◌≡◌, ℕ, suc, List, [], ◌∷◌, ◌++◌, map, Bool, false, sym, ◌∙◌}
 use Rattle.std.specs.List.{list_any, flat_map, AllByRecursion}
 use Rattle.tla_token.specs.declared.rule.Refusal.{Refusal}
 use Rattle.tla_tree.specs.Tree.{Name, Tree}
@@ -121,24 +121,29 @@ module _ (f : Refusal → Bool) (m : Modules) (o : Outside) (h : AreModules m o.
       -- routines
       let d1 = every_split I a.globals (flat_map locals (routines a)) (flattened X (λ (d : Declaration). initial d.start) (all_declarations a) x1.0) in
       let r = every_pair (λ (u : Routine). AllByRecursion I (locals u)) (λ (u : Routine). Statements_clean u.body) (routines a) (flattened I locals (routines a) d1.1) (mapped Statements_clean (λ (u : Routine). u.body) (routines a) s2.1) in
-      let r1 = every_split Run (procedure_routines a) (main_routines a a.main) r in
-      (
+      let r1 = every_split Run (procedure_routines a) (main_routines a a.main) r in (
         every_map _ (CleanGlobal f m o.extended h) (λ d q. (of_name f m o h d.name q.0, q.1)) a.globals
-        (every_pair _ _ a.globals (mapped N (λ (d : Declaration). d.name) a.globals n1.0) (starts_clean a.globals l1.0 d1.0)),
-        (every_map _ (CleanDefinition f m o.extended h) (λ d q. (of_name f m o h d.name q.0.0.0.0, (of_list f m o h [] d.params q.0.0.0.1 q.0.0.1, (q.0.1, q.1)))) a.definitions
-        (every_pair _ _ a.definitions
-        (every_pair _ _ a.definitions (every_pair _ _ a.definitions (flattened N names_of_definition a.definitions n2.0) ud) (flattened L (λ (d : Definition). lists_in d.body) a.definitions l2.0))
-        (mapped X (λ (d : Definition). d.body) a.definitions x2.0)),
-        (every_map _ (CleanMacro f m o.extended h) (λ d q. (of_name f m o h d.name q.0.0.0.0.0, (of_list f m o h [] d.params q.0.0.0.0.1 q.0.0.0.1, (q.0.0.1, (q.1, q.0.1))))) a.macros
-        (every_pair _ _ a.macros
-        (every_pair _ _ a.macros
-        (every_pair _ _ a.macros (every_pair _ _ a.macros (flattened N names_of_macro a.macros n3.0) um) (flattened L (λ (d : Macro). lists_in_body d.body) a.macros l3.0))
-        (flattened K (λ (d : Macro). labels false d.body) a.macros k1.0)) (mapped Statements_clean (λ (d : Macro). d.body) a.macros s2.0)),
-        (every_map _ (CleanProcedure f m o.extended h) procedure_clean a.procedures
-        (every_pair _ _ a.procedures
-        (every_pair _ _ a.procedures
-        (every_pair _ _ a.procedures
-        (every_pair _ _ a.procedures (every_pair _ _ a.procedures (flattened N names_of_procedure a.procedures n4.0) up) (flattened L lists_in_procedure a.procedures l4.0))
-        (flattened K (λ (p : Procedure). labels false p.body) a.procedures k2.0)) p) (procedures_ran (first_procedure a) a.procedures r1.0)),
-        main_clean a a.main n5.0 ux l4.1 k2.1 x3.0 r1.1))),
+            (every_pair _ _ a.globals (mapped N (λ (d : Declaration). d.name) a.globals n1.0) (starts_clean a.globals l1.0 d1.0)),
+        (
+          every_map _ (CleanDefinition f m o.extended h) (λ d q. (of_name f m o h d.name q.0.0.0.0, (of_list f m o h [] d.params q.0.0.0.1 q.0.0.1, (q.0.1, q.1)))) a.definitions
+              (every_pair _ _ a.definitions
+              (every_pair _ _ a.definitions (every_pair _ _ a.definitions (flattened N names_of_definition a.definitions n2.0) ud) (flattened L (λ (d : Definition). lists_in d.body) a.definitions l2.0))
+              (mapped X (λ (d : Definition). d.body) a.definitions x2.0)),
+          (
+            every_map _ (CleanMacro f m o.extended h) (λ d q. (of_name f m o h d.name q.0.0.0.0.0, (of_list f m o h [] d.params q.0.0.0.0.1 q.0.0.0.1, (q.0.0.1, (q.1, q.0.1))))) a.macros
+                (every_pair _ _ a.macros
+                (every_pair _ _ a.macros
+                (every_pair _ _ a.macros (every_pair _ _ a.macros (flattened N names_of_macro a.macros n3.0) um) (flattened L (λ (d : Macro). lists_in_body d.body) a.macros l3.0))
+                (flattened K (λ (d : Macro). labels false d.body) a.macros k1.0)) (mapped Statements_clean (λ (d : Macro). d.body) a.macros s2.0)),
+            (
+              every_map _ (CleanProcedure f m o.extended h) procedure_clean a.procedures
+                  (every_pair _ _ a.procedures
+                  (every_pair _ _ a.procedures
+                  (every_pair _ _ a.procedures
+                  (every_pair _ _ a.procedures (every_pair _ _ a.procedures (flattened N names_of_procedure a.procedures n4.0) up) (flattened L lists_in_procedure a.procedures l4.0))
+                  (flattened K (λ (p : Procedure). labels false p.body) a.procedures k2.0)) p) (procedures_ran (first_procedure a) a.procedures r1.0)),
+              main_clean a a.main n5.0 ux l4.1 k2.1 x3.0 r1.1,
+            ),
+          ),
+        ),
       )

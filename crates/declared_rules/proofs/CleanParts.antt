@@ -9,8 +9,6 @@ use Rattle.tla_tree.specs.Pool.{at}
 use Rattle.pcal_tree.specs.declared.algorithm.Start as code_start
 use Rattle.pcal_tree.specs.declared.algorithm.Start.TheVariants as start
 use Rattle.pcal_tree.specs.declared.algorithm.Declaration.{Declaration}
-use Rattle.pcal_tree.specs.declared.algorithm.Definition.{Definition}
-use Rattle.pcal_tree.specs.declared.algorithm.Macro.{Macro}
 use Rattle.pcal_tree.specs.declared.algorithm.Procedure.{Procedure}
 use Rattle.pcal_tree.specs.declared.algorithm.Process.{Process}
 use Rattle.pcal_tree.specs.declared.algorithm.Main as code_main
@@ -18,7 +16,7 @@ use Rattle.pcal_tree.specs.declared.algorithm.Main.TheVariants as main
 use Rattle.pcal_tree.specs.declared.algorithm.Algorithm as code
 use Rattle.pcal_tree.specs.Algorithm as tree
 use Rattle.pcal_tree.specs.Algorithm.{alone, processes}
-use Rattle.pcal_tree.specs.InMemory.{start_at, declaration_at, declarations_at, definition_at, definitions_at, macro_at, procedure_at, process_at, main_at, algorithm_at, statements_at}
+use Rattle.pcal_tree.specs.InMemory.{start_at, declaration_at, declarations_at, definition_at, macro_at, procedure_at, process_at, main_at, algorithm_at, statements_at}
 use Rattle.pcal_tree.specs.BoundNames.{lists_in_start}
 use Rattle.pcal_tree.specs.Offences.{offence_if}
 use Rattle.pcal_tree.specs.OffencesNames.{names_of}
@@ -119,9 +117,14 @@ module _ (f : Refusal → Bool) (m : Modules) (ms : List Word) (h : AreModules m
     procedure_of : (p : Procedure) → CleanProcedure (procedure_at ts p) → AllByRecursion P (procedure_parts ts p)
     procedure_of p k = (
       k.0,
-      (k.1.0, (subst (CleanList f m ms h) (sym (names_joined ts p.params.items p.variables.items)) k.1.1.0,
-      every_both P (flat_map (declaration_parts ts) p.params.items) (flat_map (declaration_parts ts) p.variables.items ++ body_parts ts p.body.items) (declared_of p.params.items k.1.1.1.0)
-      (every_both P (flat_map (declaration_parts ts) p.variables.items) (body_parts ts p.body.items) (declared_of p.variables.items k.1.1.1.1.0) (of_body f m ms h false (statements_at ts p.body.items) k.1.1.1.1.1)))),
+      (
+        k.1.0,
+        (
+          subst (CleanList f m ms h) (sym (names_joined ts p.params.items p.variables.items)) k.1.1.0,
+          every_both P (flat_map (declaration_parts ts) p.params.items) (flat_map (declaration_parts ts) p.variables.items ++ body_parts ts p.body.items) (declared_of p.params.items k.1.1.1.0)
+              (every_both P (flat_map (declaration_parts ts) p.variables.items) (body_parts ts p.body.items) (declared_of p.variables.items k.1.1.1.1.0) (of_body f m ms h false (statements_at ts p.body.items) k.1.1.1.1.1)),
+        ),
+      ),
     )
 
     process_to : (p : Process) → AllByRecursion P (process_parts ts p) → CleanProcess (process_at ts p)
@@ -132,8 +135,13 @@ module _ (f : Refusal → Bool) (m : Modules) (ms : List Word) (h : AreModules m
     process_of : (p : Process) → CleanProcess (process_at ts p) → AllByRecursion P (process_parts ts p)
     process_of p k = (
       k.0,
-      (subst (CleanList f m ms h) (sym (names_at ts p.variables.items)) k.1.0, (of_tree f m ms h (at ts p.identity) k.1.1.0,
-      every_both P (flat_map (declaration_parts ts) p.variables.items) (body_parts ts p.body.items) (declared_of p.variables.items k.1.1.1.0) (of_body f m ms h false (statements_at ts p.body.items) k.1.1.1.1))),
+      (
+        subst (CleanList f m ms h) (sym (names_at ts p.variables.items)) k.1.0,
+        (
+          of_tree f m ms h (at ts p.identity) k.1.1.0,
+          every_both P (flat_map (declaration_parts ts) p.variables.items) (body_parts ts p.body.items) (declared_of p.variables.items k.1.1.1.0) (of_body f m ms h false (statements_at ts p.body.items) k.1.1.1.1),
+        ),
+      ),
     )
 
     main_to : (x : code_main.Main) → AllByRecursion P (main_parts ts x) → CleanMain (main_at ts x)
@@ -153,9 +161,13 @@ module _ (f : Refusal → Bool) (m : Modules) (ms : List Word) (h : AreModules m
         let s = every_split P (flat_map (macro_parts ts) a.macros.items) _ r.1 in
         let t = every_split P (flat_map (procedure_parts ts) a.procedures.items) (main_parts ts a.main) s.1 in (
           each_to (declaration_at ts) (global_parts ts) CleanGlobal (λ d q. (q.0, start_to d.start q.1)) a.globals.items q.0,
-          (each_to (definition_at ts) (definition_parts ts) CleanDefinition (λ d q. (q.0, (q.1.0, to_tree f m ms h (at ts d.body) q.1.1.0))) a.definitions.items r.0,
-          (each_to (macro_at ts) (macro_parts ts) CleanMacro (λ d q. (q.0, (q.1.0, to_body f m ms h false (statements_at ts d.body.items) q.1.1))) a.macros.items s.0,
-          (each_to (procedure_at ts) (procedure_parts ts) CleanProcedure procedure_to a.procedures.items t.0, main_to a.main t.1))),
+          (
+            each_to (definition_at ts) (definition_parts ts) CleanDefinition (λ d q. (q.0, (q.1.0, to_tree f m ms h (at ts d.body) q.1.1.0))) a.definitions.items r.0,
+            (
+              each_to (macro_at ts) (macro_parts ts) CleanMacro (λ d q. (q.0, (q.1.0, to_body f m ms h false (statements_at ts d.body.items) q.1.1))) a.macros.items s.0,
+              (each_to (procedure_at ts) (procedure_parts ts) CleanProcedure procedure_to a.procedures.items t.0, main_to a.main t.1),
+            ),
+          ),
         )
 
     pub algorithm_of : (a : code.Algorithm) → CleanAlgorithm (algorithm_at ts a) → AllByRecursion P (algorithm_parts ts a)

@@ -100,7 +100,11 @@ impl Found {
         ensures many { length self.new.marks.items ≡ length self.old.marks.items }
     {
         self.passed_names(&unit.names, unit.place);
-        self.offence(is_declaring(unit.keyword.bytes()), Rule::OutsideVariable, unit.place);
+        self.offence(
+            is_declaring(unit.keyword.bytes()),
+            Rule::OutsideVariable,
+            unit.place,
+        );
     }
 
     // Units that are passed on.
