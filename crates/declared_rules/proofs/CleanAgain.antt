@@ -1,5 +1,5 @@
 -- Where no offence passes a test by the rules themselves, none does in the parts of an algorithm.
-use Rattle.std.proofs.Common.{◌≡◌, ℕ, suc, List, [], ◌∷◌, ◌++◌, map, Bool, false, refl, sym, ap, ◌∙◌}
+use Rattle.std.proofs.Common.{◌≡◌, ℕ, suc, List, [], ◌∷◌, ◌++◌, map, Bool, false, sym, ◌∙◌}
 use Rattle.std.specs.List.{list_any, flat_map, AllByRecursion}
 use Rattle.tla_token.specs.declared.rule.Refusal.{Refusal}
 use Rattle.tla_tree.specs.Tree.{Name, Tree}

@@ -1,6 +1,6 @@
--- No offence passes a test in the parts of statements where none does in their lists of names, their expressions, themselves and their labels, and the other
--- way.
-use Rattle.std.proofs.Common.{◌≡◌, List, [], ◌∷◌, ◌++◌, map, Bool, true, false, ◌||◌, ◌&&◌, not, codes, refl, sym, ap, ◌∙◌, append_assoc}
+-- No offence passes a test in the parts of statements where none does in their lists of names, their expressions, themselves and their
+-- labels, and the other way.
+use Rattle.std.proofs.Common.{◌≡◌, List, ◌++◌, Bool, true, false, ◌||◌, ◌&&◌, not, codes, refl, sym, ap, ◌∙◌, append_assoc}
 use Rattle.std.specs.List.{list_any, flat_map, AllByRecursion}
 use Rattle.std.proofs.lemmas.Bool.{or_parts}
 use Rattle.std.proofs.lemmas.List.Folds.{list_any-append}
@@ -10,20 +10,20 @@ use Rattle.tla_token.specs.declared.rule.Rule.TheVariants.{NeedsModule}
 use Rattle.tla_token.specs.declared.rule.Refusal.{Refusal}
 use Rattle.tla_token.specs.Signs.{is_among}
 use Rattle.tla_tree.specs.Tree.{Name, Word, Form, strict, operator, Tree, node, Trees, no_trees, tree}
-use Rattle.tla_value.specs.StandardModules.{tlc_modules, sequence_modules, extends_one, has_operator, is_member, is_last}
+use Rattle.tla_value.specs.StandardModules.{tlc_modules, sequence_modules, extends_one, is_member, is_last}
 use Rattle.pcal_tree.specs.Algorithm.{Assignments, no_assignments, assignment, Binds, no_binds, one_of, is, Statement, assign, await, print, assert, skip, branch, either, with, while, goto, macro, call, return, Statements, done, then, mark, Branches, no_branches, or}
-use Rattle.pcal_tree.specs.BoundNames.{lists_of, lists_in, lists_in_all, lists_in_assignments, names_of_binds, lists_in_binds, lists_in_one, lists_in_body, lists_in_branches}
+use Rattle.pcal_tree.specs.BoundNames.{lists_of, lists_in, lists_in_all, lists_in_assignments, lists_in_binds, lists_in_one, lists_in_body, lists_in_branches}
 use Rattle.pcal_tree.specs.Expressions.{StatementAt, statements_inside, statements_in, statements_in_some, tree_list, expressions_of_assignments, expressions_of_binds, expressions_of}
 use Rattle.pcal_tree.specs.Offences.{offence_if}
 use Rattle.pcal_tree.specs.OffencesLabels.{Label, labels_of_one, labels as labels_in, labels_of_some}
 use Rattle.pcal_tree.specs.OffencesModules.{sign_offences, strings_offences, text_offences, text_offences_in, statement_needs}
 use Rattle.pcal_tree.specs.OffencesReserved.{reserved_label}
-use Rattle.pcal_tree.proofs.SetLaws.{or_both, or_mixed, neither}
+use Rattle.pcal_tree.proofs.SetLaws.{or_mixed, neither}
 use Rattle.pcal_tree.proofs.OneStand.{every_both}
 use Rattle.outside_sight.specs.declared.modules.Modules.{Modules}
-use Rattle.outside_sight.specs.ModulesIn.{AreModules, has_op}
+use Rattle.outside_sight.specs.ModulesIn.{AreModules}
 use Rattle.outside_sight.proofs.ModuleLaws.{operators_given}
-use Rattle.declared_rules.specs.Parts.{Part, expression, bound, declares, labels, prints, stacks, in_trees, in_assignments, in_binds, in_one, in_body, in_branches}
+use Rattle.declared_rules.specs.Parts.{Part, expression, in_trees, in_assignments, in_binds, in_one, in_body, in_branches}
 use Rattle.declared_rules.specs.Finding.{list_offences, sign_in, node_offences, tree_offences, trees_offences, part_offences}
 use Rattle.declared_rules.proofs.EachLaws.{every_split, none_each, each_none}
 

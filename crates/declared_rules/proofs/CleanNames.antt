@@ -1,7 +1,6 @@
 -- No offence passes a test in lists of names where none does against the rules on reserved names and on names declared twice, and the other way.
-use Rattle.std.proofs.Common.{◌≡◌, List, [], ◌∷◌, ◌++◌, map, Bool, true, false, ◌||◌, bytes_eq, refl, sym, ap, ◌∙◌, append_assoc}
-use Rattle.std.specs.List.{list_any, flat_map, AllByRecursion}
-use Rattle.std.proofs.lemmas.List.Folds.{list_any-append}
+use Rattle.std.proofs.Common.{◌≡◌, List, [], ◌∷◌, ◌++◌, Bool, true, false, ◌||◌, bytes_eq, refl, sym, ap, ◌∙◌, append_assoc}
+use Rattle.std.specs.List.{list_any, AllByRecursion}
 use Rattle.tla_token.specs.declared.rule.Rule.TheVariants.{Reserved, Duplicate}
 use Rattle.tla_token.specs.declared.rule.Refusal.{Refusal}
 use Rattle.tla_token.specs.Signs.{is_among}

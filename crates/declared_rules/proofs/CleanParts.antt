@@ -9,8 +9,6 @@ use Rattle.tla_tree.specs.Pool.{at}
 use Rattle.pcal_tree.specs.declared.algorithm.Start as code_start
 use Rattle.pcal_tree.specs.declared.algorithm.Start.TheVariants as start
 use Rattle.pcal_tree.specs.declared.algorithm.Declaration.{Declaration}
-use Rattle.pcal_tree.specs.declared.algorithm.Definition.{Definition}
-use Rattle.pcal_tree.specs.declared.algorithm.Macro.{Macro}
 use Rattle.pcal_tree.specs.declared.algorithm.Procedure.{Procedure}
 use Rattle.pcal_tree.specs.declared.algorithm.Process.{Process}
 use Rattle.pcal_tree.specs.declared.algorithm.Main as code_main
@@ -18,7 +16,7 @@ use Rattle.pcal_tree.specs.declared.algorithm.Main.TheVariants as main
 use Rattle.pcal_tree.specs.declared.algorithm.Algorithm as code
 use Rattle.pcal_tree.specs.Algorithm as tree
 use Rattle.pcal_tree.specs.Algorithm.{alone, processes}
-use Rattle.pcal_tree.specs.InMemory.{start_at, declaration_at, declarations_at, definition_at, definitions_at, macro_at, procedure_at, process_at, main_at, algorithm_at, statements_at}
+use Rattle.pcal_tree.specs.InMemory.{start_at, declaration_at, declarations_at, definition_at, macro_at, procedure_at, process_at, main_at, algorithm_at, statements_at}
 use Rattle.pcal_tree.specs.BoundNames.{lists_in_start}
 use Rattle.pcal_tree.specs.Offences.{offence_if}
 use Rattle.pcal_tree.specs.OffencesNames.{names_of}

@@ -1,5 +1,5 @@
 -- Where no offence of the parts of an algorithm passes a test, none does by the rules themselves.
-use Rattle.std.proofs.Common.{◌≡◌, ℕ, suc, List, [], ◌∷◌, ◌++◌, map, Bool, false, refl, sym, ap, ◌∙◌}
+use Rattle.std.proofs.Common.{◌≡◌, ℕ, suc, List, [], ◌∷◌, ◌++◌, map, Bool, false, refl, ◌∙◌}
 use Rattle.std.specs.List.{list_any, flat_map, AllByRecursion}
 use Rattle.tla_token.specs.declared.rule.Refusal.{Refusal}
 use Rattle.tla_tree.specs.Tree.{Name, Tree}
@@ -8,7 +8,7 @@ use Rattle.pcal_tree.specs.Algorithm.{Declaration, Definition, Macro, Procedure,
 use Rattle.pcal_tree.specs.BoundNames.{all_of, lists_in, lists_in_body, lists_in_start, lists_in_declared, lists_in_procedure, lists_in_process, lists_in_main, bound_lists}
 use Rattle.pcal_tree.specs.Expressions.{StatementAt, statements_in, bodies, all_statements, expressions_of, identities, all_declarations, all_expressions}
 use Rattle.pcal_tree.specs.OffencesLabels.{Label, labels, labels_of_main, all_labels}
-use Rattle.pcal_tree.specs.OffencesModules.{statement_needs, procedure_needs}
+use Rattle.pcal_tree.specs.OffencesModules.{procedure_needs}
 use Rattle.pcal_tree.specs.OffencesNames.{repeated, names_of, repeated_in_main}
 use Rattle.pcal_tree.specs.OffencesReserved.{names_of_definition, names_of_macro, names_of_procedure, names_of_process, names_of_main, declared_names}
 use Rattle.pcal_tree.specs.Reads.{initial}

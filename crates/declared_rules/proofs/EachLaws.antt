@@ -1,7 +1,6 @@
 -- Facts of each element of lists that are joined, mapped and flattened, and of lists in which no element passes a test.
-use Rattle.std.proofs.Common.{◌≡◌, List, [], ◌∷◌, ◌++◌, map, Bool, true, false, ◌||◌, refl, sym, ◌∙◌}
+use Rattle.std.proofs.Common.{◌≡◌, List, [], ◌∷◌, ◌++◌, map, Bool, true, false, refl, sym}
 use Rattle.std.specs.List.{list_any, flat_map, AllByRecursion}
-use Rattle.std.proofs.lemmas.List.Folds.{list_any-append}
 use Rattle.pcal_tree.proofs.SetLaws.{none_of_both, none_together}
 use Rattle.pcal_tree.proofs.OneStand.{every_both}
 

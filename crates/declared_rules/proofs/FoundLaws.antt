@@ -1,5 +1,5 @@
 -- From nothing to all that is found.
-use Rattle.std.proofs.Common.{◌≡◌, ℕ, List, ◌++◌, replicate, Bool, false, Option, None, refl, sym, ap, subst, ◌∙◌}
+use Rattle.std.proofs.Common.{◌≡◌, ℕ, List, replicate, false, Option, None, ap, subst, ◌∙◌}
 use Rattle.tla_token.specs.declared.rule.Refusal.{Refusal}
 use Rattle.tla_tree.specs.Tree.{Tree}
 use Rattle.tla_value.specs.Outside as pure

@@ -3,7 +3,7 @@ use Rattle.std.proofs.Common.{◌≡◌, ℕ, ◌+◌, ◌<◌, ◌≤◌, List,
 use Rattle.std.specs.List.{list_any, flat_map}
 use Rattle.std.specs.Cmp.Lexicographic.{pointwise}
 use Rattle.std.specs.Prelude.{◌==◌}
-use Rattle.std.proofs.lemmas.List.{take_more, take_all, map-append}
+use Rattle.std.proofs.lemmas.List.{take_more, take_all}
 use Rattle.std.proofs.lemmas.Grind.{flat_map-append}
 use Rattle.tla_token.specs.Signs.{is_among}
 use Rattle.tla_token.specs.declared.rule.Rule.TheVariants.{Duplicate}
@@ -19,7 +19,7 @@ use Rattle.outside_sight.specs.SightIn.{Binds}
 use Rattle.outside_sight.proofs.SightLaws.{binds_more, none_bound}
 use Rattle.declared_rules.specs.declared.found.Found.{Found}
 use Rattle.declared_rules.specs.Parts.{bound, declares}
-use Rattle.declared_rules.specs.Finding.{reserved_in, seen_offences, seen_after, list_offences, Joins, Adds, AddsNames}
+use Rattle.declared_rules.specs.Finding.{reserved_in, seen_offences, seen_after, Joins, Adds, AddsNames}
 use Rattle.declared_rules.proofs.JoinLaws.{joins_none, joins_then, joins_as, adds_one}
 
 -- ---- one name

@@ -1,11 +1,10 @@
 -- The first offence that is found is the first one by the rules.
-use Rattle.std.proofs.Common.{◌≡◌, List, [], ◌∷◌, ◌++◌, map, Bool, true, false, ◌||◌, codes, true≢false, refl, sym, ap, ◌∙◌}
+use Rattle.std.proofs.Common.{◌≡◌, List, [], ◌∷◌, ◌++◌, map, Bool, false, codes, true≢false, refl, sym, ap, ◌∙◌}
 use Rattle.std.specs.List.{list_any, flat_map, AllByRecursion}
-use Rattle.tla_token.specs.declared.place.Place.{Place}
 use Rattle.tla_token.specs.declared.rule.Rule.TheVariants.{OutsideVariable}
 use Rattle.tla_token.specs.declared.rule.Refusal.{Refusal}
 use Rattle.tla_token.specs.Signs.{is_among}
-use Rattle.tla_tree.specs.Tree.{Name, Word, Tree, words}
+use Rattle.tla_tree.specs.Tree.{Name, Tree, words}
 use Rattle.tla_value.specs.Outside.{Outside, Opaque, ReadDefinition}
 use Rattle.pcal_tree.specs.declared.algorithm.Main as code_main
 use Rattle.pcal_tree.specs.declared.algorithm.Main.TheVariants as main
@@ -30,9 +29,9 @@ use Rattle.declared_rules.specs.Parts.{algorithm_parts}
 use Rattle.declared_rules.specs.Finding.{reserved_in, seen_offences, seen_after, part_offences, parts_offences}
 use Rattle.declared_rules.specs.Titles.{kept_titles, other_titles, main_names, pure_title, passed_offences, unit_offences, outside_offences, title_offences}
 use Rattle.declared_rules.specs.Refusal.{declared_offences, offences_found}
-use Rattle.declared_rules.proofs.EachLaws.{both_false, every_split, every_map, every_pair, mapped, unmapped, none_each, each_none}
+use Rattle.declared_rules.proofs.EachLaws.{both_false, every_map, every_pair, unmapped, none_each, each_none}
 use Rattle.declared_rules.proofs.CleanParts.{CleanGlobal, CleanProcess, CleanMain, CleanDefinition, CleanMacro, CleanProcedure, CleanAlgorithm, names_at, algorithm_to, algorithm_of}
-use Rattle.declared_rules.proofs.CleanNames.{PlainName, OnceEach, repeated_same, repeated_both, after_words, fewer_seen, to_name, of_name, to_list, of_list}
+use Rattle.declared_rules.proofs.CleanNames.{PlainName, repeated_same, repeated_both, after_words, fewer_seen, to_name, of_name, to_list, of_list}
 use Rattle.declared_rules.proofs.CleanBodies.{CleanStatement}
 use Rattle.declared_rules.proofs.CleanWhole.{all_lists, all_texts, all_marked, all_plain, all_stacked, statements_clean, main_once}
 use Rattle.declared_rules.proofs.CleanAgain.{algorithm_clean}
@@ -204,21 +203,25 @@ module _ (f : Refusal → Bool) (m : Modules) (o : Outside) (h : AreModules m o.
       let x1 = none_of_both f n1 (n2 ++ n3) k3.0 in
       let x2 = none_of_both f n2 n3 x1.1 in
       let c =
-        algorithm_clean f m o h a (none_each f (reserved_name o) (declared_names a) v.0) (none_each f (repeated []) (bound_lists a) q6.1) (none_each f (λ (d : Definition). repeated [] d.params) a.definitions q3.0)
-        (none_each f (λ (d : Macro). repeated [] d.params) a.macros q4.0) (none_each f (λ (p : Procedure). repeated [] (names_of (p.params ++ p.variables))) a.procedures q5.0) q6.0
-        (none_each f reserved_label (all_labels a) v.1) (none_each f (text_offences o.extended false) (all_expressions a) x1.0)
-        (none_each f (λ (st : StatementAt). statement_needs o.extended st.statement st.place) (all_statements a) x2.0) (none_each f (procedure_needs o.extended) a.procedures x2.1)
-      in
-      (c, (titles_clean c q1.0 q2.0,
-      none_together f (flat_map (reserved_in m) o.constants) (c2 ++ flat_map unit_offences o.opaque)
-      (each_none f (reserved_in m) o.constants (every_map N (λ (n : Name). None (reserved_in m n)) (of_name f m o h) o.constants (none_each f (reserved_name o) o.constants w1.0)))
-      (none_together f c2 (flat_map unit_offences o.opaque)
-      (each_none f (λ (d : ReadDefinition). reserved_in m (pure_title d)) o.definitions
-      (every_map (λ (d : ReadDefinition). None (reserved_read o d)) (λ (d : ReadDefinition). None (reserved_in m (pure_title d))) (λ d q. of_name f m o h (pure_title d) q) o.definitions (none_each f (reserved_read o) o.definitions w2.0)))
-      (each_none f unit_offences o.opaque
-      (every_map (λ (u : Opaque). None (reserved_opaque u) × None (declares_variables u)) (λ (u : Opaque). None (unit_offences u))
-      (λ u q. none_together f (flat_map (passed_offences u.place) u.names) (declares_variables u) q.0 q.1) o.opaque
-      (every_pair (λ (u : Opaque). None (reserved_opaque u)) (λ (u : Opaque). None (declares_variables u)) o.opaque (none_each f reserved_opaque o.opaque w2.1) (none_each f declares_variables o.opaque k3.1)))))))
+      algorithm_clean f m o h a (none_each f (reserved_name o) (declared_names a) v.0) (none_each f (repeated []) (bound_lists a) q6.1) (none_each f (λ (d : Definition). repeated [] d.params) a.definitions q3.0)
+      (none_each f (λ (d : Macro). repeated [] d.params) a.macros q4.0) (none_each f (λ (p : Procedure). repeated [] (names_of (p.params ++ p.variables))) a.procedures q5.0) q6.0
+      (none_each f reserved_label (all_labels a) v.1) (none_each f (text_offences o.extended false) (all_expressions a) x1.0)
+      (none_each f (λ (st : StatementAt). statement_needs o.extended st.statement st.place) (all_statements a) x2.0) (none_each f (procedure_needs o.extended) a.procedures x2.1)
+      in (
+        c,
+        (
+          titles_clean c q1.0 q2.0,
+          none_together f (flat_map (reserved_in m) o.constants) (c2 ++ flat_map unit_offences o.opaque)
+              (each_none f (reserved_in m) o.constants (every_map N (λ (n : Name). None (reserved_in m n)) (of_name f m o h) o.constants (none_each f (reserved_name o) o.constants w1.0)))
+              (none_together f c2 (flat_map unit_offences o.opaque)
+              (each_none f (λ (d : ReadDefinition). reserved_in m (pure_title d)) o.definitions
+              (every_map (λ (d : ReadDefinition). None (reserved_read o d)) (λ (d : ReadDefinition). None (reserved_in m (pure_title d))) (λ d q. of_name f m o h (pure_title d) q) o.definitions (none_each f (reserved_read o) o.definitions w2.0)))
+              (each_none f unit_offences o.opaque
+              (every_map (λ (u : Opaque). None (reserved_opaque u) × None (declares_variables u)) (λ (u : Opaque). None (unit_offences u))
+              (λ u q. none_together f (flat_map (passed_offences u.place) u.names) (declares_variables u) q.0 q.1) o.opaque
+              (every_pair (λ (u : Opaque). None (reserved_opaque u)) (λ (u : Opaque). None (declares_variables u)) o.opaque (none_each f reserved_opaque o.opaque w2.1) (none_each f declares_variables o.opaque k3.1))))),
+        ),
+      )
 
 -- ---- in memory
 

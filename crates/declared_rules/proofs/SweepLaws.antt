@@ -1,25 +1,22 @@
 -- That all marked expressions are looked at, from the greatest number down.
-use Rattle.std.proofs.Common.{◌≡◌, ℕ, zero, suc, ◌+◌, ◌<◌, ◌≤◌, List, [], ◌∷◌, ◌++◌, length, replicate, drop, get_or, slice_index_or, Bool, true, false, ◌&&◌, ◌||◌, nat_eq, not, cond, Option, None, refl, sym, ap, subst, ◌∙◌, arith, append-nil, append_assoc, eqb-true, eq-eqb}
+use Rattle.std.proofs.Common.{◌≡◌, ℕ, zero, suc, ◌+◌, ◌<◌, ◌≤◌, List, [], ◌∷◌, ◌++◌, length, replicate, drop, slice_index_or, Bool, true, false, ◌&&◌, nat_eq, cond, None, refl, sym, ap, subst, ◌∙◌, arith, append-nil, append_assoc, eqb-true}
 use Rattle.std.specs.List.{flat_map}
 use Rattle.std.proofs.lemmas.List.{drop_more, drop_all, length-drop}
 use Rattle.std.proofs.lemmas.Bool.{eqb-false}
 use Rattle.tla_token.specs.declared.place.Place.{Place}
 use Rattle.tla_token.specs.declared.rule.Refusal.{Refusal}
-use Rattle.tla_tree.specs.declared.op.Op.{Op}
 use Rattle.tla_tree.specs.declared.op.Binder.{Binder}
-use Rattle.tla_token.specs.declared.rule.Rule.TheVariants.{NeedsModule}
-use Rattle.outside_sight.specs.ModulesIn.{has_op}
 use Rattle.tla_tree.specs.Tree.{Name, Form, binding, local, strings, Strict, strict, Tree, node, Trees, no_trees, tree}
 use Rattle.tla_tree.specs.Pool.{at, trees_at}
 use Rattle.tla_value.specs.StandardModules.{is_member, is_last}
-use Rattle.pcal_tree.specs.Offences.{offence_if, first}
+use Rattle.pcal_tree.specs.Offences.{first}
 use Rattle.pcal_tree.specs.OffencesModules.{strings_offences}
 use Rattle.pcal_tree.specs.BoundNames.{all_of, lists_of}
 use Rattle.algorithm_answer.specs.Joined.{joined}
 use Rattle.algorithm_answer.proofs.Joins.{joined_assoc, joined_none, first_append}
 use Rattle.outside_sight.specs.declared.modules.Modules.{Modules}
 use Rattle.declared_rules.specs.declared.found.Found.{Found}
-use Rattle.declared_rules.specs.Parts.{Part, bound, expression, in_trees, expr_parts}
+use Rattle.declared_rules.specs.Parts.{bound, expression, in_trees, expr_parts}
 use Rattle.declared_rules.specs.Finding.{is_strings_of, list_offences, sign_in, node_offences, tree_offences, trees_offences, parts_offences, marked, finding, Joins, Adds}
 use Rattle.declared_rules.proofs.JoinLaws.{joins_none, joins_then, joins_as, adds_one}
 use Rattle.declared_rules.proofs.BodyLaws.{trees_parts}

@@ -21,7 +21,7 @@ use Rattle.outside_sight.specs.declared.modules.Modules.{Modules}
 use Rattle.outside_units.specs.declared.passed.Passed.{Passed}
 use Rattle.module_outside.specs.declared.definition.ReadDefinition.{ReadDefinition}
 use Rattle.declared_rules.specs.Parts.{Part, declares, declaration_names}
-use Rattle.declared_rules.specs.Finding.{reserved_in, seen_offences, seen_after}
+use Rattle.declared_rules.specs.Finding.{reserved_in, seen_offences}
 
 -- ---- outside
 

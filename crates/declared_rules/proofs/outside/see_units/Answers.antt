@@ -1,6 +1,6 @@
 -- Proves that the names of all units are seen.
-use Rattle.std.proofs.Common.{List, ap, ◌∙◌}
-use Rattle.tla_tree.specs.Tree.{Name, words}
+use Rattle.std.proofs.Common.{ap, ◌∙◌}
+use Rattle.tla_tree.specs.Tree.{words}
 use Rattle.algorithm_limits.proofs.BoundLemmas.{hides_then, hides_as}
 use Rattle.declared_rules.specs.Titles.{read_words, passed_words}
 use Rattle.declared_rules.proofs.TitleLaws.{titles_read, names_passed}

@@ -1,6 +1,4 @@
 -- Proves that the first offence is found.
-use Rattle.std.proofs.Common.{arith, ◌∙◌}
-use Rattle.pcal_tree.specs.Outside.{unit_names}
 use Rattle.module_outside.specs.WholeAt.{outside_at}
 use Rattle.declared_rules.proofs.FoundLaws.{first_is}
 use Rattle.declared_rules.proofs.refusal.first_found.Goals as goal

@@ -1,7 +1,6 @@
 -- Proves that the names of declarations are looked at.
-use Rattle.std.proofs.Common.{[], ◌∷◌, ◌∙◌, subst}
+use Rattle.std.proofs.Common.{[], ◌∷◌, ◌∙◌}
 use Rattle.pcal_tree.specs.declared.algorithm.Declaration.{Declaration}
-use Rattle.declared_rules.specs.Finding.{AddsNames}
 use Rattle.declared_rules.proofs.NameLaws.{names_as, names_more, names_all, one_each}
 use Rattle.declared_rules.proofs.found.Found.declared.Goals as goal
 

@@ -1,8 +1,8 @@
 -- Proves that a reserved name is found.
-use Rattle.std.proofs.Common.{◌||◌, Bool, sym, ap, ◌∙◌, append-nil}
+use Rattle.std.proofs.Common.{◌||◌, Bool, ap, ◌∙◌}
 use Rattle.tla_token.specs.declared.rule.Rule.TheVariants.{Reserved}
 use Rattle.tla_token.specs.Words.{is_own}
-use Rattle.tla_tree.specs.Tree.{Name, Word}
+use Rattle.tla_tree.specs.Tree.{Word}
 use Rattle.pcal_tree.specs.Offences.{offence_if}
 use Rattle.outside_sight.specs.ModulesIn.{is_standard_in}
 use Rattle.declared_rules.specs.Parts.{declares}

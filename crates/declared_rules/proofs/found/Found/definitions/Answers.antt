@@ -1,13 +1,11 @@
 -- Proves that definitions, their parameters and the names of their bodies are looked at.
-use Rattle.std.proofs.Common.{◌<◌, length, arith, sym, ap, subst, ◌∙◌}
+use Rattle.std.proofs.Common.{arith, ap, ◌∙◌}
 use Rattle.std.proofs.Common.{List, [], ◌∷◌}
 use Rattle.tla_tree.specs.Tree.{Name}
 use Rattle.declared_rules.specs.Parts.{bound}
 use Rattle.tla_tree.proofs.PoolNumbers.{past_at}
-use Rattle.pcal_tree.specs.declared.algorithm.Definition.{Definition}
 use Rattle.pcal_tree.specs.InMemory.{past_definition}
 use Rattle.declared_rules.specs.Parts.{definition_parts}
-use Rattle.declared_rules.specs.Finding.{Adds}
 use Rattle.declared_rules.proofs.JoinLaws.{adds_as, adds_then, adds_more, adds_all}
 use Rattle.declared_rules.proofs.found.Found.definitions.Goals as goal
 

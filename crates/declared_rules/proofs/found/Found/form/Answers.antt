@@ -1,8 +1,7 @@
 -- Proves that what a form offends is found.
-use Rattle.std.proofs.Common.{false, List, Vec, Global, [], ◌∷◌, sym, ap, subst, ◌∙◌}
+use Rattle.std.proofs.Common.{false, List, Vec, Global, [], ◌∷◌, sym, ap, subst}
 use Rattle.tla_tree.specs.Tree.{Name}
 use Rattle.tla_pool.specs.declared.form.Form.{Form}
-use Rattle.tla_pool.specs.declared.form.Strict.{Strict}
 use Rattle.tla_pool.specs.FormOf.{groups_of, strict_of, form_of}
 use Rattle.pcal_tree.specs.BoundNames.{all_of}
 use Rattle.declared_rules.specs.Parts.{bound}

@@ -1,10 +1,8 @@
 -- Proves that globals and the names of their first values are looked at.
-use Rattle.std.proofs.Common.{◌≤◌, length, arith, sym, subst, ◌∙◌}
+use Rattle.std.proofs.Common.{arith, ◌∙◌}
 use Rattle.tla_tree.proofs.PoolNumbers.{past_at}
-use Rattle.pcal_tree.specs.declared.algorithm.Declaration.{Declaration}
 use Rattle.pcal_tree.specs.InMemory.{past_declaration}
 use Rattle.declared_rules.specs.Parts.{global_parts}
-use Rattle.declared_rules.specs.Finding.{Adds}
 use Rattle.declared_rules.proofs.JoinLaws.{adds_then, adds_more, adds_all}
 use Rattle.declared_rules.proofs.found.Found.globals.Goals as goal
 

@@ -1,5 +1,5 @@
 -- What is kept: groups that were passed are looked at.
-use Rattle.std.proofs.Common.{◌≡◌, ◌∷◌, [], length, take}
+use Rattle.std.proofs.Common.{◌≡◌, length, take}
 use Rattle.std.specs.List.{flat_map}
 use Rattle.std.proofs.Common.{Vec, Global}
 use Rattle.tla_tree.specs.Tree.{Name}

@@ -1,5 +1,5 @@
 -- Proves that a label of the translation is found.
-use Rattle.std.proofs.Common.{Bool, ◌∷◌, [], codes, sym, ap, ◌∙◌, append-nil}
+use Rattle.std.proofs.Common.{Bool, ◌∷◌, [], codes, ap, ◌∙◌}
 use Rattle.tla_token.specs.declared.rule.Rule.TheVariants.{Reserved}
 use Rattle.tla_token.specs.Signs.{is_among}
 use Rattle.pcal_tree.specs.Offences.{offence_if}

@@ -1,5 +1,5 @@
 -- Proves that an expression is looked at when it is opened.
-use Rattle.std.proofs.Common.{false, List, ℕ, Bool, sym, ap, ◌∙◌}
+use Rattle.std.proofs.Common.{false, ap, ◌∙◌}
 use Rattle.tla_tree.specs.Pool.{Entry, trees_at}
 use Rattle.tla_value.specs.StandardModules.{is_member}
 use Rattle.declared_rules.specs.Finding.{node_offences, trees_offences}

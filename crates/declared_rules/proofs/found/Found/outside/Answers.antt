@@ -1,5 +1,5 @@
 -- Proves that what is outside is looked at.
-use Rattle.std.proofs.Common.{List, map, ap, sym, ◌∙◌, subst}
+use Rattle.std.proofs.Common.{List, map, ap}
 use Rattle.std.specs.List.{flat_map}
 use Rattle.outside_units.specs.declared.passed.Passed.{Passed}
 use Rattle.module_outside.specs.declared.definition.ReadDefinition.{ReadDefinition}

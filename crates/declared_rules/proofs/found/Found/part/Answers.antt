@@ -1,12 +1,11 @@
 -- Proves that a part is looked at, also where all strings are directly right of `\in`.
-use Rattle.std.proofs.Common.{List, ℕ, Bool, arith, sym, ap, ◌∙◌}
+use Rattle.std.proofs.Common.{List, ℕ, sym, ap, ◌∙◌}
 use Rattle.std.specs.List.{flat_map}
 use Rattle.tla_tree.specs.Pool.{Entry}
-use Rattle.pcal_tree.specs.InMemory.{past_numbers}
 use Rattle.declared_rules.specs.Parts.{expr_parts}
 use Rattle.declared_rules.specs.Finding.{is_strings_of}
 use Rattle.declared_rules.proofs.JoinLaws.{adds_as}
-use Rattle.declared_rules.proofs.SweepLaws.{strings_joined, other_joined}
+use Rattle.declared_rules.proofs.SweepLaws.{strings_joined}
 use Rattle.declared_rules.proofs.found.Found.part.Goals as goal
 
 pub returns-then-is_strings-clause-adds : goal.returns-then-is_strings-clause-adds

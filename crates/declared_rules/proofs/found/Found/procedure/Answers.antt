@@ -1,7 +1,6 @@
 -- Proves that a procedure is looked at.
-use Rattle.std.proofs.Common.{List, [], ◌∷◌, ◌++◌, ap, ◌∙◌}
+use Rattle.std.proofs.Common.{List, [], ◌∷◌, ◌++◌, ap}
 use Rattle.std.specs.List.{flat_map}
-use Rattle.tla_tree.specs.Tree.{Name}
 use Rattle.pcal_tree.specs.declared.algorithm.Declaration.{Declaration}
 use Rattle.declared_rules.specs.Parts.{bound, declaration_names, declaration_parts, body_parts}
 use Rattle.declared_rules.proofs.JoinLaws.{adds_as, adds_then}

@@ -1,9 +1,9 @@
 -- Proves that a process is looked at.
-use Rattle.std.proofs.Common.{List, [], ◌∷◌, ◌++◌, ap, ◌∙◌, append-nil}
+use Rattle.std.proofs.Common.{List, [], ◌∷◌, ap, ◌∙◌, append-nil}
 use Rattle.std.specs.List.{flat_map}
 use Rattle.tla_tree.specs.Tree.{Name}
 use Rattle.pcal_tree.specs.declared.algorithm.Declaration.{Declaration}
-use Rattle.declared_rules.specs.Parts.{Part, bound, declaration_names, declaration_parts, body_parts}
+use Rattle.declared_rules.specs.Parts.{bound, declaration_names, declaration_parts, body_parts}
 use Rattle.declared_rules.proofs.JoinLaws.{adds_as, adds_then}
 use Rattle.declared_rules.proofs.found.Found.process.Goals as goal
 

@@ -1,5 +1,5 @@
 -- Proves that the name of a procedure is looked at.
-use Rattle.std.proofs.Common.{List, [], ◌∷◌, ap}
+use Rattle.std.proofs.Common.{[], ◌∷◌, ap}
 use Rattle.tla_tree.specs.Tree.{Name}
 use Rattle.declared_rules.specs.Parts.{stacks}
 use Rattle.declared_rules.proofs.JoinLaws.{adds_as, adds_then}

@@ -1,6 +1,5 @@
 -- Proves that no offence is lost while marks are gone through.
 use Rattle.std.proofs.Common.{arith, refl, ◌∙◌, rules}
-use Rattle.declared_rules.specs.declared.found.Found.{Found}
 use Rattle.declared_rules.proofs.SweepLaws.{finding_last, finding_unmarked, finding_marked, finding_first, less_marked, none_marked}
 use Rattle.declared_rules.proofs.found.Found.sweep.Goals as goal
 

@@ -1,5 +1,5 @@
 -- Proves that all titles are looked at.
-use Rattle.std.proofs.Common.{List, [], subst}
+use Rattle.std.proofs.Common.{List, subst}
 use Rattle.tla_tree.specs.Tree.{Word}
 use Rattle.pcal_tree.specs.Outside.{unit_names}
 use Rattle.algorithm_limits.specs.DepthsIn.{Hides}

@@ -1,5 +1,5 @@
 -- Proves that what a unit offends is found.
-use Rattle.std.proofs.Common.{Bool, List, [], ◌∷◌, codes, ap, ◌∙◌}
+use Rattle.std.proofs.Common.{Bool, [], ◌∷◌, codes, ap, ◌∙◌}
 use Rattle.tla_token.specs.declared.rule.Rule.TheVariants.{OutsideVariable}
 use Rattle.std.specs.List.{flat_map}
 use Rattle.tla_token.specs.Signs.{is_among}
