@@ -3,3 +3,4 @@ pub mod NumbersOfVariables
 pub mod LevelsTell
 pub mod EarlyTold
 pub mod NamesOfBodies
+pub mod CallsAsSets
