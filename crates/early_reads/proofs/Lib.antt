@@ -4,3 +4,4 @@ pub mod LevelsTell
 pub mod EarlyTold
 pub mod NamesOfBodies
 pub mod CallsAsSets
+mod Rows
