@@ -1,5 +1,5 @@
 -- Proves that the names of statements are met, in the order of the text.
-use Rattle.std.proofs.Common.{ℕ, List, Vec, Global, length, take, refl, sym, ap, subst, ◌∙◌, arith}
+use Rattle.std.proofs.Common.{ℕ, List, Vec, Global, take, refl, sym, ap, subst, ◌∙◌, arith}
 use Rattle.tla_tree.proofs.PoolNumbers.{past_at}
 use Rattle.pcal_tree.specs.declared.algorithm.Bind.{Bind}
 use Rattle.pcal_tree.specs.declared.algorithm.Stmt.{Stmt}
@@ -10,7 +10,7 @@ use Rattle.early_reads.specs.BodyNames.{names_in, names_in_some}
 use Rattle.read_rules.specs.declared.used.Used.{Used}
 use Rattle.read_rules.specs.Using.{Adds}
 use Rattle.read_rules.specs.UsingBodies.{AddsBinds, AddsStmt}
-use Rattle.read_rules.proofs.BodyLaws.{label_adds, simple_adds, if_adds, either_adds, with_adds, while_adds, body_then, body_done, branches_then, branches_over}
+use Rattle.read_rules.proofs.BodyLaws.{label_adds, if_adds, either_adds, with_adds, while_adds, body_then, body_done, branches_then, branches_over}
 use Rattle.read_rules.proofs.used.Used.+bodies.Goals as goal
 
 pub body-loop-stmt-init : goal.body-loop-stmt-init

@@ -1,5 +1,5 @@
 -- Proves that the names of left and right sides are met.
-use Rattle.std.proofs.Common.{◌≡◌, ℕ, get_or, slice_index_or, arith}
+use Rattle.std.proofs.Common.{slice_index_or, arith}
 use Rattle.std.proofs.lemmas.List.{get_or_default}
 use Rattle.tla_tree.proofs.PoolNumbers.{past_at}
 use Rattle.pcal_tree.specs.declared.algorithm.Assignment.{Assignment}
