@@ -3,3 +3,5 @@ pub mod NumbersOfVariables
 pub mod LevelsTell
 pub mod EarlyTold
 pub mod NamesOfBodies
+pub mod CallsAsSets
+mod Rows

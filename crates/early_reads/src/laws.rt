@@ -1,11 +1,11 @@
 //! Laws of variables that are read too early, stated as what functions without a body ensure.
 
-ghost use Rattle.std.specs.Prelude.{◌≡◌, ◌++◌, ℕ, nat_lt, not, ◌&&◌, List, []};
+ghost use Rattle.std.specs.Prelude.{◌≡◌, ℕ, nat_lt, not, ◌&&◌, bytes_eq, List, []};
 ghost use Rattle.std.specs.List.{list_any};
-ghost use Rattle.tla_token.specs.declared.rule.Refusal.{Refusal};
 ghost use Rattle.tla_token.specs.Signs.{is_among};
 ghost use Rattle.tla_tree.specs.Tree.{Word};
-ghost use Rattle.pcal_tree.specs.Algorithm.{Algorithm, Definition, Statements};
+ghost use Rattle.pcal_tree.specs.Algorithm.{Algorithm, Definition, Macro, Statements};
+ghost use Rattle.pcal_tree.specs.OffencesSelf.{without, reached};
 ghost use Rattle.pcal_tree.specs.Offences.{first};
 ghost use Rattle.pcal_tree.specs.OffencesReads.{process_offences, order_offences};
 ghost use Rattle.pcal_tree.specs.Reads.{readings, through};
@@ -34,4 +34,10 @@ pub fn levels_tell_early_reads()
 /// The names that a body uses are found without the paths to them.
 pub fn paths_do_not_matter_to_names()
     ensures { (b : Statements) → used_in_body b ≡ names_in b [] }
+{}
+
+/// Which macros calls reach depends on nothing but which macros they call; and a macro that is reached is called no more, but for the calls in its body.
+pub fn calls_are_a_set()
+    ensures reached { (xs ys : List Word) → ((w : Word) → is_among xs w ≡ is_among ys w) → (newest_first : List Macro) → reached xs newest_first ≡ reached ys newest_first }
+    ensures without { (x : Word) (ms : List Word) (y : Word) → is_among (without x ms) y ≡ (not (bytes_eq x y) && is_among ms y) }
 {}

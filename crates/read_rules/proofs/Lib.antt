@@ -4,3 +4,4 @@ pub mod NumberLaws
 pub mod FoundLaws
 pub mod OrderLaws
 pub mod LocalLaws
+pub mod BodyLaws

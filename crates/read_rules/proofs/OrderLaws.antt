@@ -33,7 +33,7 @@ pub behind_last : (xs : List Word) (x : Word) (before : List Word) → behind (x
 behind_last [] x before = refl
 behind_last (w ∷ xs) x before = behind_last xs x (w ∷ before)
 
-behind_among : (xs before : List Word) (y : Word) → is_among (behind xs before) y ≡ is_among (xs ++ before) y
+pub behind_among : (xs before : List Word) (y : Word) → is_among (behind xs before) y ≡ is_among (xs ++ before) y
 behind_among [] before y = refl
 behind_among (x ∷ xs) before y =
     behind_among xs (x ∷ before) y ∙ list_any-append (λ v. bytes_eq v y) xs (x ∷ before) ∙ moved (is_among xs y) (bytes_eq x y) (is_among before y)

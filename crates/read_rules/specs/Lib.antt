@@ -3,3 +3,4 @@ pub mod NumbersIn
 pub mod Own
 pub mod Order
 pub mod Locals
+pub mod UsingBodies

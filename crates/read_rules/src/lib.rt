@@ -1,6 +1,7 @@
 //! Variables that are read where they have no value yet: where an algorithm is refused by that.
 #![tactic(auto)]
 
+pub mod bodies;
 pub mod declared;
 pub mod identities;
 pub mod levels;

@@ -20,7 +20,8 @@ use tla_tree::{Name, NodeId, PlacedName};
 pub struct Used {
     /// Names that were met.
     pub names: Vec<PlacedName>,
-    bound: Bound,
+    /// Names that are bound.
+    pub bound: Bound,
 }
 
 impl Used {
