@@ -5,7 +5,7 @@ use Rattle.pcal_tree.specs.declared.algorithm.Stmt.{Stmt}
 use Rattle.pcal_tree.specs.InMemory.{statements_at, branches_at}
 use Rattle.pcal_tree.specs.OffencesCounts.{calls_of, calls_of_some}
 use Rattle.pcal_tree.proofs.StatementHeights.{height, heights, branch_heights, either_height}
-use Rattle.read_rules.specs.Calls.{AddsCalls, AddsStmtCalls}
+use Rattle.read_rules.specs.Calls.{AddsStmtCalls}
 use Rattle.read_rules.proofs.CallLaws.{calls_as, label_calls, simple_calls, if_calls, either_calls, with_calls, while_calls, body_calls, body_called, branches_calls, branches_called}
 use Rattle.read_rules.proofs.calls.+calls.Goals as goal
 
