@@ -2,7 +2,6 @@
 use Rattle.std.proofs.Common.{◌≡◌, ℕ, List, [], ◌∷◌, false, codes, refl}
 use Rattle.tla_token.specs.declared.place.Place.{Place}
 use Rattle.tla_token.specs.declared.rule.Rule.TheVariants.{InitLater}
-use Rattle.tla_token.specs.declared.rule.Refusal.{Refusal}
 use Rattle.tla_tree.specs.Tree.{Word, Name, Tree, node, name, no_trees}
 use Rattle.pcal_tree.specs.Algorithm.{Start, unset, equals, done, alone, Declaration, Definition, Algorithm}
 use Rattle.early_reads.specs.Levels.{levels}

@@ -5,3 +5,4 @@ pub mod FoundLaws
 pub mod OrderLaws
 pub mod LocalLaws
 pub mod BodyLaws
+pub mod CallLaws

@@ -4,3 +4,4 @@ pub mod Own
 pub mod Order
 pub mod Locals
 pub mod UsingBodies
+pub mod Calls

@@ -2,6 +2,7 @@
 #![tactic(auto)]
 
 pub mod bodies;
+pub mod calls;
 pub mod declared;
 pub mod identities;
 pub mod levels;
