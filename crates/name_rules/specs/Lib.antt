@@ -1,0 +1,1 @@
+-- Words in which the contracts of this crate are said.
