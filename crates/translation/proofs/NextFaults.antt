@@ -61,7 +61,7 @@ use Rattle.translation.proofs.NamesApart.{writable, self_some, self_none}
 use Rattle.translation.proofs.NextFound.{Finds, FindsOwn, one_mapped}
 use Rattle.translation.proofs.NextHolds.{ways_of}
 use Rattle.translation.proofs.NextLabels.{ReadyHere}
-use Rattle.translation.proofs.NextOfRegion.{one_only}
+use Rattle.translation.proofs.NextOfRegion.{HasSingle, one_only}
 use Rattle.translation.proofs.NextParts.{acts, reads, taken_by, procedure_found, body_found, process_found}
 use Rattle.translation.proofs.NextScopes.{Identified, names_sound, names_by_value, taken_there, set_there}
 use Rattle.translation.proofs.NextSingle.{single_clear}
@@ -324,4 +324,8 @@ module _ (U : Readable) (b : Bool) (title : Word) (o : Outside) (g : Algorithm) 
       to (v, q, a, z) = (let x = bad_of is v a q z in (x.later, x.canonical, by_main a.0 a.1 v a.2 x.later is x.canonical g.main refl x.routine x.runs x.label x.listed x.bad))
 
       from : (t : State) × IsState P t × IsBad (next_holds plain first values (on_variables P s) (on_variables P t)) → (v : Actor) × (q : Trouble) × IsActor P v × Troubled P s v q
-      from (t, it, f) = next_troubles U b title o g h values s t ready k is it proper f
+      from (t, it, f) = next_troubles U b title o g h values s t ready k is (λ c. it) proper f
+
+  -- and where there is no single process, if it is one for any second state
+  pub set_troubles : (HasSingle g → ⊥) → IsState P s → Proper P → (t : State) → IsBad (next_holds plain first values (on_variables P s) (on_variables P t)) → (v : Actor) × (q : Trouble) × IsActor P v × Troubled P s v q
+  set_troubles lacks is proper t f = next_troubles U b title o g h values s t ready k is (λ c. absurd (lacks c)) proper f

@@ -52,6 +52,13 @@ abbrev pub SingleClearLaw : Type 0
 SingleClearLaw = (o : Outside) (g : Algorithm) → IsAcceptedInFile o g → (values : Valuation) (r : Taken) → OneOf r (taken_main g g.main) → (e : Tree) → r.takers ≡ single e → (l : Word) → OneOf l (label_words r.routine.body)
     → ClearItems plain (in_place_of self e) (items_from (program_in plain o g values) r.routine l (at_label r.routine l))
 
+-- there is a single process
+pub record HasSingle (g : Algorithm) : Type 0 where
+  pub taken : Taken
+  pub expression : Tree
+  pub among : OneOf taken (taken_main g g.main)
+  pub is : taken.takers ≡ single expression
+
 module _ (U : Readable) (prepared : PreparedLaw IsAcceptedInFile) (clear : SingleClearLaw) where
   module _ (b : Bool) (title : Word) (o : Outside) (g : Algorithm) (h : IsAcceptedInFile o g) (values : Valuation) (s t : State) (ready : ReadyHere U o g values) where
     abbrev first : Module
@@ -69,7 +76,7 @@ module _ (U : Readable) (prepared : PreparedLaw IsAcceptedInFile) (clear : Singl
     abbrev X : Env
     X = scope_of plain values (definitions_of P ++ extra_of g) S T
 
-    module _ (k : AreConstants first values) (is_canonical : IsState P s) (it : IsState P t) (sound : Sound P s) where
+    module _ (k : AreConstants first values) (is_canonical : IsState P s) (it : HasSingle g → IsState P t) (sound : Sound P s) where
       -- ---- a procedure, and the processes
 
       module _ (vs : List Actor) (all : actors P ≡ Ok vs) where
@@ -139,7 +146,7 @@ module _ (U : Readable) (prepared : PreparedLaw IsAcceptedInFile) (clear : Singl
             taken = (w, only);
             found = process_found b o g h values s t ps e (record { takers = single f; routine = u }) n;
             labels = λ v m.
-                single_true U prepared o g h values ready k.unset s t sound (names_sound o g h title first.region values k s t is_canonical it) (names_by_value o g h title first.region values k s t) v (self_is v (running_one u v vs m))
+                single_true U prepared o g h values ready k.unset s t sound (names_sound o g h title first.region values k s t is_canonical (it (record { taken = record { takers = single f; routine = u }; expression = f; among = in_main u f n; is = refl }))) (names_by_value o g h title first.region values k s t) v (self_is v (running_one u v vs m))
                 (actor v (running_one u v vs m)) u (inl (sym (own_is u v is (subst (OneOf v) order m)))) f (q ∙ ap (λ (z : Actor). Ok (id z)) (sym (one_only w v (subst (OneOf v) only m))))
                 (clear o g h values (record { takers = single f; routine = u }) (in_main u f n) f refl);
           }
@@ -167,4 +174,4 @@ module _ (U : Readable) (prepared : PreparedLaw IsAcceptedInFile) (clear : Singl
 
 -- Next of the region is as the promise asks, of accepted algorithms for whose steps items can be written
 pub next_of_region : (A : Outside → Algorithm → Type 0) → ((o : Outside) (g : Algorithm) → A o g → IsAcceptedInFile o g) → (U : Algorithm → Readable) → PreparedLaw IsAcceptedInFile → ReadyLaw A U → SingleClearLaw → NextOfRegionLaw A
-next_of_region A inside U prepared ready clear b title o g a values s t k is it sound = next_is (U g) prepared clear b title o g (inside o g a) values s t (ready o g a values) k is it sound
+next_of_region A inside U prepared ready clear b title o g a values s t k is it sound = next_is (U g) prepared clear b title o g (inside o g a) values s t (ready o g a values) k is (λ c. it) sound

@@ -26,7 +26,7 @@ use Rattle.translation.specs.Region.{region_of}
 use Rattle.translation.specs.laws.AcceptedAlgorithm.{IsAcceptedInFile}
 use Rattle.translation.proofs.NamesApart.{writable}
 use Rattle.translation.proofs.NextLabels.{ReadyHere}
-use Rattle.translation.proofs.NextOfRegion.{next_is}
+use Rattle.translation.proofs.NextOfRegion.{HasSingle, next_is}
 use Rattle.translation.proofs.NextSingle.{single_clear}
 use Rattle.translation.proofs.NextTitles.{clear}
 use Rattle.translation.proofs.PreparedSteps.{prepared_law}
@@ -41,7 +41,7 @@ module _ (U : Readable) (b : Bool) (title : Word) (o : Outside) (g : Algorithm) 
   abbrev P : Program
   P = program_in plain o g values
 
-  pub next_troubles : AreConstants first values → IsState P s → IsState P t → Proper P → IsBad (next_holds plain first values (on_variables P s) (on_variables P t))
+  pub next_troubles : AreConstants first values → IsState P s → (HasSingle g → IsState P t) → Proper P → IsBad (next_holds plain first values (on_variables P s) (on_variables P t))
       → ((v : Actor) × (k : Trouble) × IsActor P v × Troubled P s v k)
   next_troubles k is it proper bad = by (trouble_of_all P s proper.0) refl
     where

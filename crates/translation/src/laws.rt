@@ -27,7 +27,7 @@ ghost use Rattle.action_builder.specs.laws.Ready.{};
 ghost use Rattle.tla_value.specs.Stops.{plain};
 ghost use Rattle.tla_value.specs.Definitions.{Valuation};
 ghost use Rattle.promise.specs.ConstantsAndStates.{program};
-ghost use Rattle.translation.specs.laws.AcceptedLaws.{extra_of, Stance, may_bind, callable_for, NamesApartLaw, NamesGivenLaw, PreparedLaw, PairsLaw, ReadyLaw, ActionLaw, NextOfRegionLaw, InitOfRegionLaw, RegionPlaced, PromiseKept, FaultsAgree, FaultsKept, CanonicalStepLaw};
+ghost use Rattle.translation.specs.laws.AcceptedLaws.{extra_of, Stance, may_bind, callable_for, NamesApartLaw, NamesGivenLaw, PreparedLaw, PairsLaw, ReadyLaw, ActionLaw, NextOfRegionLaw, InitOfRegionLaw, RegionPlaced, PromiseKept, FaultsAgree, FaultsKept, SetFaults, CanonicalStepLaw};
 ghost use Rattle.promise.specs.NextAndInit.{InitIs};
 ghost use Rattle.pcal_tree.specs.Variables.{declared, vars};
 ghost use Rattle.pcal_tree.specs.Labelled.{labelled};
@@ -208,12 +208,13 @@ pub fn init_is_true_of_the_initial_states()
 /// first to the second, or all are done and nothing changes: for all constants, and all first states from which nothing is in trouble. Else it is false, and never a fault.
 /// Where the constants give the processes different identifiers, something is in trouble in a first state exactly if Next is a fault for some second state. So each module that
 /// a translated file is read as keeps the promise, of Init too, and its Next is a fault where something is in trouble. All states here have values in canonical order, and steps
-/// lead from such states to such states.
+/// lead from such states to such states; but where all processes are of sets, something is in trouble if Next is a fault for any second state.
 pub fn next_is_true_of_the_steps()
     ensures region { NextOfRegionLaw IsAcceptedInFile }
     ensures kept { PromiseKept IsAcceptedInFile }
     ensures faults { FaultsAgree IsAcceptedInFile }
     ensures faults_kept { FaultsKept IsAcceptedInFile }
+    ensures set_faults { SetFaults IsAcceptedInFile }
     ensures canonical { CanonicalStepLaw IsAcceptedInFile }
 {}
 

@@ -1,6 +1,6 @@
 -- The laws of accepted algorithms on which the promise rests, as statements. `Accepted o g` stands for what is known of an algorithm of a text with its labels added, in
 -- a file that has o outside (`IsAcceptedInFile`). Each is the type of a law.
-use Rattle.std.specs.Prelude.{codes, ◌≡◌, ◌↔◌, List, [], ◌∷◌, Bool, ◌||◌, ◌&&◌, not, bytes_eq, cond, Some, None}
+use Rattle.std.specs.Prelude.{codes, ◌≡◌, ◌↔◌, List, [], ◌∷◌, Bool, true, ◌||◌, ◌&&◌, not, bytes_eq, cond, Some, None}
 use Rattle.tla_token.specs.Signs.{is_among}
 use Rattle.tla_tree.specs.Tree.{Word}
 use Rattle.tla_value.specs.Value.{Trouble, IsBad, TrueExactly}
@@ -11,7 +11,8 @@ use Rattle.module_tree.specs.Module.{Module}
 use Rattle.module_tree.specs.ModuleTruth.{process_set_defined, next_holds, action_holds}
 use Rattle.module_tree.specs.laws.PlacelessRegion.{region_placeless}
 use Rattle.module_tree.specs.laws.Outsides.{SameOutside}
-use Rattle.pcal_tree.specs.Algorithm.{Routine, Algorithm, procedure_routines}
+use Rattle.pcal_tree.specs.Algorithm.{Process, Routine, Algorithm, procedure_routines}
+use Rattle.pcal_tree.specs.OffencesReads.{processes_of}
 use Rattle.pcal_tree.specs.Processes.{OneOf, IsActor, Proper}
 use Rattle.pcal_tree.specs.Program.{Program, Actor}
 use Rattle.pcal_tree.specs.Scope.{State}
@@ -68,6 +69,10 @@ FaultsAre g m = (values : Valuation) (s : State)
     AreConstants m values → IsState P s → Proper P
     → (((v : Actor) × (k : Trouble) × IsActor P v × Troubled P s v k) ↔ ((t : State) × IsState P t × IsBad (next_holds plain m values (on_variables P s) (on_variables P t)))))
 
+-- there is no single process, `process P = e`
+abbrev pub AllSets : Algorithm → Type 0
+AllSets g = (p : Process) → OneOf p (processes_of g.main) → p.several ≡ true
+
 module _ (Accepted : Words) where
   -- written names are apart, and definitions read none of them
   abbrev pub NamesApartLaw : Type 0
@@ -110,6 +115,13 @@ module _ (Accepted : Words) where
 
   abbrev pub FaultsKept : Type 0
   FaultsKept = (b : Bool) (o : Outside) (g : Algorithm) (m : Module) → Accepted o g → SameOutside o m.outside → region_placeless m.region ≡ region_placeless (written_region b o g) → FaultsAre g m
+
+  -- where all processes are of sets, some process is in trouble if Next is a fault for any second state, whatever the order of its values
+  abbrev pub SetFaults : Type 0
+  SetFaults = (b : Bool) (title : Word) (o : Outside) (g : Algorithm) → Accepted o g → AllSets g → (values : Valuation) (s t : State)
+      → (let m : Module = record { title = title; outside = o; region = region_of b (with_names o g) } in let P = program g m values in
+      AreConstants m values → IsState P s → Proper P → IsBad (next_holds plain m values (on_variables P s) (on_variables P t))
+      → (v : Actor) × (k : Trouble) × IsActor P v × Troubled P s v k)
 
   -- steps lead from states whose values are in canonical order to such states
   abbrev pub CanonicalStepLaw : Type 0
