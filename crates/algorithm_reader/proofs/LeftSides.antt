@@ -1,5 +1,5 @@
 -- Left sides: their trees in a pool, and how reading goes on behind a subscript or field.
-use Rattle.std.proofs.Common.{◌≡◌, ℕ, zero, suc, ◌+◌, ◌*◌, ◌<◌, ◌≤◌, true, false, List, [], ◌∷◌, length, Ok, Err, Some, Vec, Global, refl, sym, ap, subst, ◌∙◌, arith}
+use Rattle.std.proofs.Common.{◌≡◌, ℕ, zero, suc, ◌+◌, ◌*◌, ◌<◌, ◌≤◌, true, false, List, [], ◌∷◌, length, Ok, Err, Some, refl, sym, ap, subst, ◌∙◌, arith}
 use Rattle.tla_token.specs.declared.place.Place.{Place}
 use Rattle.tla_token.specs.declared.token.Tokens.{Tokens}
 use Rattle.tla_tree.specs.Tree.{Word, Tree, node, tree, no_trees}
@@ -7,7 +7,7 @@ use Rattle.tla_tree.specs.Tree as pure
 use Rattle.tla_tree.specs.Pool.{at, trees_at, Keeps}
 use Rattle.tla_tree.specs.Lexical.{Mark, TokenView, Token}
 use Rattle.tla_tree.specs.Lexical as tk
-use Rattle.tla_tree.specs.Spelling.{Field, Phrase, Phrases, last, more, number, string, constant, name, primed, call, brackets, no_set, set_of, filter, image, no_tuple, tuple, fields, records, function, functions, except, apply, select, list, last_bullet, bullet, quantified, if_then_else, cases, local, infix_of, prefix_of, tree_of, trees_of, start, spell, spell_all, subscript}
+use Rattle.tla_tree.specs.Spelling.{Field, Phrase, Phrases, last, more, number, string, constant, name, primed, call, brackets, no_set, set_of, filter, image, no_tuple, tuple, fields, records, function, functions, except, apply, select, list, last_bullet, bullet, quantified, if_then_else, cases, local, infix_of, prefix_of, tree_of, start, spell, spell_all, subscript}
 use Rattle.tla_tree.specs.Reader.{Out, Reader, ◌>>=◌, then_read, gives, next, tail, peek, a_mark, a_field, is_mark, readers}
 use Rattle.tla_tree.proofs.SoundTokens.{mark_is}
 use Rattle.tla_tree.proofs.SoundLists.{sound}
@@ -15,15 +15,12 @@ use Rattle.tla_tree.proofs.SpellAhead.{held}
 use Rattle.tla_tree.proofs.Limited.{told_ok}
 use Rattle.tla_tree.proofs.LimitedAll.{limited}
 use Rattle.expr_nodes.specs.declared.cursor.Halt.{Halt}
-use Rattle.expr_nodes.specs.ShapeOf.{in_all}
-use Rattle.expr_nodes.specs.ReadIn.{AreIn, Reads, Fails, first_of}
+use Rattle.expr_nodes.specs.ReadIn.{Reads, Fails, first_of}
 use Rattle.expr_nodes.specs.Ahead.{ahead}
-use Rattle.expr_nodes.proofs.MakeLemmas.{one_subscript, more_subscripts}
 use Rattle.pcal_tree.specs.InMemory.{past_number}
-use Rattle.pcal_tree.proofs.InMemoryEach.{past_all_below}
 use Rattle.syntax_reading.specs.TokenReaders.{first, Parts}
 use Rattle.syntax_reading.specs.ReadSimple.{left_by, read_left}
-use Rattle.algorithm_reader.specs.PartsRead.{StandsFor, parts_in, row_at, past_row}
+use Rattle.algorithm_reader.specs.PartsRead.{StandsFor, parts_in}
 use Rattle.algorithm_reader.specs.SimpleRead.{subscripted, selected, LeftStands, LinkOn}
 use Rattle.algorithm_reader.proofs.Gathered.{fails_then}
 
@@ -69,15 +66,6 @@ pub subscripts_begin : (v : Tokens) (i : ℕ) (us : List Token) (xs : Phrases) �
 subscripts_begin v i us xs e = sym (all_begin xs us) ∙ ap (λ (ts : List Token). (first ts).place) (subscripts_spelled (4 * length v.items.items) (ahead v i) us xs e)
 
 -- ---- their trees
-row_in : {ts : List Tree} {is : Vec ℕ Global} {p : Place} (xs : Phrases) → StandsFor row_at past_row trees_of ts is xs → start (first_of xs) ≡ p → AreIn ts is.items (record { first = p; nesting = in_all xs }) xs
-row_in {ts = ts} {is = is} xs h e = record { below = past_all_below (length ts) is.items h.below; trees = h.tree; nesting = refl; first = e }
-
-pub one_alone : {ts : List Tree} {is : Vec ℕ Global} {p : Place} (i : ℕ) (xs : Phrases) → is.items ≡ i ∷ [] → StandsFor row_at past_row trees_of ts is xs → start (first_of xs) ≡ p → at ts i ≡ subscript xs
-one_alone i xs o h e = one_subscript i xs o (row_in xs h e)
-
-pub more_in_tuple : (old new : List Tree) (is : Vec ℕ Global) (p : Place) (i : ℕ) (xs : Phrases) → (length is.items ≡ 1 → ⊥) → at new i ≡ node (pure.strict pure.tuple) p (trees_at old is.items) → StandsFor row_at past_row trees_of old is xs → start (first_of xs) ≡ p → at new i ≡ subscript xs
-more_in_tuple old new is p i xs n t h e = more_subscripts old new is.items (record { first = p; nesting = in_all xs }) i xs n t (row_in xs h e)
-
 pub subscripted_stands : {old mid new : List Tree} {p : Place} {a : Phrase} (xs : Phrases) (i j x : ℕ) (q r : Place) → Keeps old mid → x < length new → at new x ≡ node (pure.strict pure.apply) p (trees_at mid (i ∷ j ∷ [])) → at mid j ≡ subscript xs → LeftStands p old i a → LeftStands p new x (apply a q xs r)
 subscripted_stands xs i j x q r k l t e h = record {
   below = l;

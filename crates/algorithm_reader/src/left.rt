@@ -1,21 +1,21 @@
 //! Reading left sides of assignments: a name with subscripts and fields.
 
 ghost use Rattle.std.specs.Prelude.{◌≡◌, ℕ, ◌<◌, ◌≤◌, IfOk, IfSome, length};
-ghost use Rattle.tla_tree.specs.Pool.{at as tree_at, AllBelow, Keeps};
-ghost use Rattle.tla_tree.specs.Spelling.{Phrase, Phrases, tree_of, trees_of, start, subscript as subscript_of};
+ghost use Rattle.tla_tree.specs.Pool.{at as tree_at, Keeps};
+ghost use Rattle.tla_tree.specs.Spelling.{Phrase, tree_of};
 ghost use Rattle.tla_tree.specs.Reader.{a_word};
-ghost use Rattle.expr_nodes.specs.ReadIn.{Gives, Told, first_of, word_seen};
+ghost use Rattle.expr_nodes.specs.ReadIn.{Gives, Told, word_seen};
 ghost use Rattle.expr_nodes.specs.Ahead.{ahead};
 ghost use Rattle.tla_expr.specs.Numbers.{NumbersFit};
 ghost use Rattle.pcal_tree.specs.InMemory.{past_number};
 ghost use Rattle.syntax_reading.specs.ReadSimple.{read_left as rest_reader};
-ghost use Rattle.algorithm_reader.specs.PartsRead.{ReadsPart, StandsFor, parts_in, Enough, StepLess, row_at, past_row};
+ghost use Rattle.algorithm_reader.specs.PartsRead.{ReadsPart, parts_in, Enough, StepLess};
 ghost use Rattle.algorithm_reader.specs.SimpleRead.{left_reader, subscripted as subscripted_reader, selected as selected_reader, LeftStands, Linked};
 
 use crate::expression::read_subscripts;
 use crate::token_step::{next_token, refused_there};
 use expr_nodes::cursor::{Halt, Word};
-use expr_nodes::make::{name, name_of};
+use expr_nodes::make::{name, name_of, subscript};
 use expr_nodes::spot::{Spot, after_mark, next_at, past_field, past_mark};
 use expr_nodes::view::{Mark, View};
 use std::alloc::{AllocError, Global};
@@ -47,21 +47,6 @@ fn past_word_inside(tokens: &Tokens, at: usize) -> Result<(Word, usize), Halt>
         }
     }
     Err(refused_there(tokens, at, Rule::Syntax))
-}
-
-// `a` in `x[a]`, and `<<a, b>>` in `x[a, b]`.
-#[tactic(auto, using(crate::proofs::LeftSides::one_alone, crate::proofs::LeftSides::more_in_tuple))]
-fn subscript(pool: &mut Pool, ids: Vec<NodeId>, first: Place) -> Result<NodeId, AllocError>
-    requires below { AllBelow (length pool.old) ids.items }
-    requires some { 1 ≤ length ids.items }
-    ensures tree { IfOk result (λ i. (xs : Phrases) → StandsFor row_at past_row trees_of pool.old ids xs → start (first_of xs) ≡ first → tree_at pool.new i ≡ subscript_of xs) }
-    ensures within { IfOk result (λ i. i < length pool.new) }
-    ensures kept { Keeps pool.old pool.new }
-{
-    if ids.len() == 1 {
-        return Ok(ids[0]);
-    }
-    pool.put(Form::Strict(Strict::Tuple), first, ids)
 }
 
 // `a, b]` behind a left side and `[`.

@@ -12,13 +12,13 @@ ghost use Rattle.declared_rules.specs.Finding.{Joins, Adds, AddsNames};
 ghost use Rattle.declared_rules.specs.Titles.{unit_offences, passed_offences, constant_parts, read_parts, read_words, passed_words, defined_names, macro_names, procedure_names, process_names, main_names, kept_titles, other_titles, title_offences, outside_offences};
 
 use crate::found::Found;
-use crate::own::is_own;
 use algorithm_limits::bound::Bound;
 use module_outside::definition::ReadDefinition;
 use module_outside::outside::Outside;
 use outside_units::passed::Passed;
 use pcal_tree::algorithm::{Algorithm, Definition, Macro, Main, Procedure, Process};
 use std::alloc::AllocError;
+use tla_token::own::is_own;
 use tla_token::word::is_among;
 use tla_token::{Place, Rule};
 use tla_tree::{Name, PlacedName};

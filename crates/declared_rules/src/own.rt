@@ -6,32 +6,11 @@ ghost use Rattle.tla_token.specs.Signs.{is_among as is_among_of};
 ghost use Rattle.tla_token.specs.Words.{is_own as is_own_of};
 
 use outside_sight::modules::Modules;
+use tla_token::own::is_own;
 use tla_token::word::is_among;
-
-/// The names that the translation defines itself.
-static OWN: [&str; 11] = [
-    "vars",
-    "pc",
-    "stack",
-    "self",
-    "Init",
-    "Next",
-    "Spec",
-    "Terminating",
-    "Termination",
-    "ProcSet",
-    "defaultInitValue",
-];
 
 /// The labels that the translation has.
 static ENDS: [&str; 2] = ["Done", "Error"];
-
-/// Whether the translation defines this name itself.
-pub fn is_own(word: &[u8]) -> bool
-    ensures { result ≡ is_own_of word.now }
-{
-    is_among(&OWN, word)
-}
 
 /// Whether the translation has this label.
 pub fn is_end(word: &[u8]) -> bool

@@ -37,6 +37,7 @@ pub struct Route {
 /// # Errors
 ///
 /// The rule by which it is refused, and how many tokens are left from there on; or want of memory.
+#[tactic(auto, using(expr_nodes::proofs::MakeLemmas::subscript_in))]
 pub fn subscript_in<F: Fn(&mut Pool, Context, Spot) -> Result<(Read, usize), Halt>>(
     alloc: Global,
     tokens: &Tokens,
@@ -54,7 +55,7 @@ pub fn subscript_in<F: Fn(&mut Pool, Context, Spot) -> Result<(Read, usize), Hal
     let (many, at) = phrases(alloc, tokens, inner, pool, s)?;
     let (_, at) = past_mark(tokens, Spot { at, ..s }, Mark::CloseSquare)?;
     let nesting = many.row.nesting;
-    let id = subscript(pool, many.ids, many.row)?;
+    let id = subscript(pool, many.ids, many.row.first)?;
     Ok((id, nesting, at))
 }
 

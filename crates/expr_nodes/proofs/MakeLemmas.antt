@@ -17,7 +17,8 @@ use Rattle.tla_tree.specs.Spelling.{Field, Phrase, Phrases, last, more, tree_of,
 use Rattle.expr_nodes.specs.ShapeOf.{primary_shape, linked_shape, open_shape, infix_shape, prefix_shape, in_all}
 use Rattle.expr_nodes.specs.ViewSeen.{constant_seen}
 use Rattle.tla_tree.specs.Pool.{at, trees_at, Keeps}
-use Rattle.expr_nodes.specs.ReadIn.{IsIn, AreIn}
+use Rattle.expr_nodes.specs.ReadIn.{IsIn, AreIn, first_of}
+use Rattle.expr_nodes.specs.Subscripts.{subscript_tree}
 use Rattle.expr_nodes.proofs.ShapeLemmas.{start_is}
 
 pub ok_three : {X E : Type 0} {P Q R S : X → Type 0} (r : Result X E) → IfOk r P → IfOk r Q → IfOk r R → ((x : X) → P x → Q x → R x → S x) → IfOk r S
@@ -89,23 +90,26 @@ only_one [] i e d = absurd cc
 only_one (j ∷ []) i e d = ap (λ (k : ℕ). k ∷ []) (sym d)
 only_one (j ∷ k ∷ is) i e d = absurd (omega (arith, e))
 
-abbrev head_of : Tree → Trees → Tree
-head_of t no_trees = t
-head_of t (tree u us) = u
+-- a subscript is the number that is alone, or the tuple
+pub one_subscript : (ts : List Tree) (is : List ℕ) (i : ℕ) (p : Place) → is ≡ i ∷ [] → at ts i ≡ subscript_tree p (trees_at ts is)
+one_subscript ts is i p e = ap (λ (js : List ℕ). subscript_tree p (trees_at ts js)) (sym e)
 
-pub one_subscript : {ts : List Tree} {is : List ℕ} {r : Row} (i : ℕ) (xs : Phrases) → is ≡ i ∷ [] → AreIn ts is r xs → at ts i ≡ spelled.subscript xs
-one_subscript {ts} {is} {r} i (last a) e h = ap (head_of (at ts i)) (subst (λ (js : List ℕ). trees_at ts js ≡ trees_of (last a)) e h.trees)
-one_subscript {ts} {is} {r} i (more a p (last b)) e h = (let f : tree (at ts i) no_trees ≡ tree (tree_of a) (tree (tree_of b) no_trees) = subst (λ (js : List ℕ). trees_at ts js ≡ trees_of (more a p (last b))) e h.trees in absurd cc)
-one_subscript {ts} {is} {r} i (more a p (more b q xs)) e h = (let f : tree (at ts i) no_trees ≡ tree (tree_of a) (tree (tree_of b) (trees_of xs)) = subst (λ (js : List ℕ). trees_at ts js ≡ trees_of (more a p (more b q xs))) e h.trees in absurd cc)
+pub more_subscripts : (ts : List Tree) (is : List ℕ) (p : Place) → (length is ≡ 1 → ⊥) → subscript_tree p (trees_at ts is) ≡ node (pure.strict pure.tuple) p (trees_at ts is)
+more_subscripts ts [] p n = refl
+more_subscripts ts (i ∷ []) p n = absurd (n refl)
+more_subscripts ts (i ∷ j ∷ is) p n = refl
 
-pub more_subscripts : (old new : List Tree) (is : List ℕ) (r : Row) (i : ℕ) (xs : Phrases) → (length is ≡ 1 → ⊥) → at new i ≡ node (pure.strict pure.tuple) r.first (trees_at old is) → AreIn old is r xs → at new i ≡ spelled.subscript xs
-more_subscripts old new is r i (last a) n t h = absurd (n (one_only is h.trees))
+-- that of phrases
+pub subscript_is : {p : Place} (ts : Trees) (xs : Phrases) → ts ≡ trees_of xs → start (first_of xs) ≡ p → subscript_tree p ts ≡ spelled.subscript xs
+subscript_is {p} ts xs e f = ap (subscript_tree p) e ∙ by xs f
   where
-    one_only : (is : List ℕ) → trees_at old is ≡ trees_of (last a) → length is ≡ 1
-    one_only [] e = absurd cc
-    one_only (j ∷ []) e = refl
-    one_only (j ∷ k ∷ is) e = absurd cc
-more_subscripts old new is r i (more a p xs) n t h = t ∙ (λ y. node (pure.strict pure.tuple) (sym h.first y) (h.trees y))
+    by : (xs : Phrases) → start (first_of xs) ≡ p → subscript_tree p (trees_of xs) ≡ spelled.subscript xs
+    by (last a) f = refl
+    by (more a q (last b)) f = ap (λ (r : Place). node (pure.strict pure.tuple) r (trees_of (more a q (last b)))) (sym f)
+    by (more a q (more b r xs)) f = ap (λ (r : Place). node (pure.strict pure.tuple) r (trees_of (more a q (more b r xs)))) (sym f)
+
+pub subscript_in : {ts : List Tree} {is : List ℕ} {r : Row} {xs : Phrases} → AreIn ts is r xs → subscript_tree r.first (trees_at ts is) ≡ spelled.subscript xs
+subscript_in {ts} {is} {r} {xs} h = subscript_is (trees_at ts is) xs h.trees h.first
 
 pub apply_in : {old mid new : List Tree} {is : List ℕ} {r : Row} {f x : Read} {a : Phrase} {xs : Phrases} (j : ℕ) (p q : Place) → Keeps old mid → x.id < length new → at new x.id ≡ node (pure.strict pure.apply) f.shape.start (trees_at mid (f.id ∷ j ∷ []))
     → at mid j ≡ spelled.subscript xs → x.shape ≡ linked_shape f.shape r.nesting → IsIn old f a → AreIn old is r xs → IsIn new x (spelled.apply a p xs q)

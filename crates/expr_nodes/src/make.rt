@@ -14,6 +14,7 @@ ghost use Rattle.tla_tree.specs.Spelling.{Phrase, Phrases, operation as operatio
 ghost use Rattle.expr_nodes.specs.ShapeOf.{primary_shape as primary_shape_of, linked_shape as linked_shape_of, open_shape as open_shape_of, infix_shape as infix_shape_of, prefix_shape as prefix_shape_of};
 ghost use Rattle.expr_nodes.specs.ViewSeen.{constant_seen};
 ghost use Rattle.expr_nodes.specs.ReadIn.{IsIn, AreIn, field_seen};
+ghost use Rattle.expr_nodes.specs.Subscripts.{subscript_tree};
 
 use crate::cursor::{FieldName, Word};
 use crate::quote::unquoted;
@@ -341,23 +342,23 @@ pub fn call(
     put(pool, form, word.place, ids, shape)
 }
 
-/// `a` in `f[a]`, and `<<a, b>>` in `f[a, b]`.
+/// `a` in `f[a]`, and `<<a, b>>` in `f[a, b]`, which begins at the place.
 ///
 /// # Errors
 ///
 /// Only for want of memory.
 #[tactic(auto, using(crate::proofs::MakeLemmas::one_subscript, crate::proofs::MakeLemmas::more_subscripts))]
-pub fn subscript(pool: &mut Pool, ids: Vec<NodeId>, row: Row) -> Result<NodeId, AllocError>
+pub fn subscript(pool: &mut Pool, ids: Vec<NodeId>, first: Place) -> Result<NodeId, AllocError>
     requires below { AllBelow (length pool.old) ids.items }
     requires some { 1 ≤ length ids.items }
-    ensures tree { IfOk result (λ i. (xs : Phrases) → AreIn pool.old ids.items row xs → at pool.new i ≡ spelled.subscript xs) }
+    ensures tree { IfOk result (λ i. at pool.new i ≡ subscript_tree first (trees_at pool.old ids.items)) }
     ensures within { IfOk result (λ i. i < length pool.new) }
     ensures kept { Keeps pool.old pool.new }
 {
     if ids.len() == 1 {
         return Ok(ids[0]);
     }
-    pool.put(Form::Strict(Strict::Tuple), row.first, ids)
+    pool.put(Form::Strict(Strict::Tuple), first, ids)
 }
 
 /// `f[a, b]`
@@ -382,7 +383,7 @@ pub fn apply(
     ensures within { IfOk result (λ x. x.id < length pool.new) }
     ensures kept { Keeps pool.old pool.new }
 {
-    let index = subscript(pool, ids, row)?;
+    let index = subscript(pool, ids, row.first)?;
     let parts = Vec::from_array(alloc, [f.id, index])?;
     let form = Form::Strict(Strict::Apply);
     let shape = linked_shape(f.shape, row.nesting);

@@ -4,29 +4,8 @@ ghost use Rattle.std.specs.Prelude.{◌≡◌};
 ghost use Rattle.outside_sight.specs.ModulesIn.{has_op, with_module, is_standard_in};
 
 use crate::standard::is;
-use tla_token::word::is_among;
+use tla_token::own::is_standard;
 use tla_tree::Op;
-
-/// Names of the standard modules, whether these are extended or not.
-static STANDARD_NAMES: [&str; 12] = [
-    "Nat",
-    "Int",
-    "Seq",
-    "Len",
-    "Append",
-    "Head",
-    "Tail",
-    "SubSeq",
-    "Cardinality",
-    "IsFiniteSet",
-    "PrintT",
-    "Assert",
-];
-
-/// Further names of Sequences, and of TLC.
-static SEQUENCE_NAMES: [&str; 1] = ["SelectSeq"];
-
-static TLC_NAMES: [&str; 4] = ["Print", "JavaTime", "Permutations", "SortSeq"];
 
 /// The standard modules that are extended.
 #[derive(Clone, Copy)]
@@ -78,8 +57,6 @@ impl Modules {
     pub fn is_standard(self, name: &[u8]) -> bool
         ensures { result ≡ is_standard_in self name.now }
     {
-        is_among(&STANDARD_NAMES, name)
-            || (self.sequences && is_among(&SEQUENCE_NAMES, name))
-            || (self.tlc && is_among(&TLC_NAMES, name))
+        is_standard(self.sequences, self.tlc, name)
     }
 }

@@ -6,8 +6,8 @@ ghost use Rattle.tla_token.specs.Lexemes.{is_word as is_word_of};
 ghost use Rattle.first_path.specs.Form.{is_name as is_name_of, is_free as is_free_of, is_small_operand, is_small_right as is_small_right_of, is_fit as is_fit_of};
 ghost use Rattle.pcal_cli.specs.FormSeen.{operand_of, right_of, parts_of};
 
-use crate::names::{is_own, is_reserved, is_standard};
 use tla_token::bytes::{has_letter, is_word};
+use tla_token::own::{is_own, is_reserved, is_standard};
 
 /// The least number past those of the form.
 const PAST_NUMBERS: u128 = 1 << 127;
@@ -65,7 +65,7 @@ fn is_name(word: &[u8]) -> bool
 fn is_free(name: &[u8]) -> bool
     ensures { result ≡ is_free_of name.now }
 {
-    is_name(name) && !(is_reserved(name) || is_own(name) || is_standard(name))
+    is_name(name) && !(is_reserved(name) || is_own(name) || is_standard(false, false, name))
 }
 
 /// Whether no number is past those of the form.

@@ -5,7 +5,6 @@ mod built;
 mod error_line;
 mod form;
 mod form_of;
-mod names;
 mod nodes;
 mod outside;
 mod program;

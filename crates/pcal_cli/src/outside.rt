@@ -17,9 +17,9 @@ ghost use Rattle.pcal_cli.specs.FormSeen.{parts_of, right_of};
 ghost use Rattle.pcal_cli.specs.OutsideTokens.{view_seen, views_ahead, views_of, shown, shown_as, keyword_shown, holds_of, beside_of, clashes as clashes_of};
 
 use crate::form::{Form, Right};
-use crate::names::{is_own, is_sequence_name, is_standard, is_tlc_name};
 use crate::rest::Rest;
 use module_split::unit_start::{begins_at, is_expression_word};
+use tla_token::own::{is_own, is_sequence_name, is_standard, is_tlc_name};
 use tla_token::word::{is_among, is_pluscal_word, is_tla_word};
 use tla_token::{Kind, Sign, Token, Tokens};
 
@@ -165,7 +165,7 @@ fn has_identifier(rest: Rest<'_>, word: &[u8]) -> bool
 fn is_of_standard(word: &[u8]) -> bool
     ensures { result ≡ is_of_standard_of word.now }
 {
-    is_standard(word) || is_sequence_name(word) || is_tlc_name(word)
+    is_standard(false, false, word) || is_sequence_name(word) || is_tlc_name(word)
 }
 
 /// Whether no unit may have this name.
@@ -390,7 +390,7 @@ fn extends(outside: Outside<'_>, name: &[u8]) -> bool
 fn is_given(outside: Outside<'_>, word: &[u8]) -> bool
     ensures { result ≡ is_standard_of (beside_of outside.entry).extended word.now }
 {
-    is_standard(word)
+    is_standard(false, false, word)
         || (extends(outside, b"Sequences") && is_sequence_name(word))
         || (extends(outside, b"TLC") && is_tlc_name(word))
 }

@@ -6,6 +6,7 @@ pub mod fault;
 pub mod feeding;
 pub mod kind;
 pub mod laws;
+pub mod own;
 pub mod part;
 pub mod place;
 pub mod rule;

@@ -9,6 +9,7 @@ use Rattle.expr_nodes.specs.Ahead.{ahead}
 use Rattle.algorithm_reader.specs.PartsRead.{parts_in}
 use Rattle.algorithm_reader.proofs.LeftSides.{subscripts_begin, subscripted_is, subscripted_stands}
 use Rattle.tla_tree.proofs.PoolNumbers.{Keeps-then}
+use Rattle.expr_nodes.proofs.MakeLemmas.{subscript_is}
 use Rattle.algorithm_reader.proofs.left.subscripted.Goals as goal
 
 pub returns-clause-read : goal.returns-clause-read
@@ -20,5 +21,5 @@ returns-clause-read c a p h =
       what = apply a p row.what c.in_ok-end.field-0-0;
       is = subscripted_is (parts_in v) a p (ahead v c.args.at) (ahead v c.in_ok-ids.end) (ahead v c.in_ok-end.end) row.what c.in_ok-end.field-0-0 row.is c.in_ok-end.ensures.value;
       told = subscripted_stands row.what c.args.left c.in_ok-index.index c.in_ok-whole.whole p c.in_ok-end.field-0-0 (Keeps-then _ _ _ c.in_ok-ids.ensures.kept c.in_ok-index.ensures.kept) c.in_ok-whole.ensures.within
-          (c.in_ok-whole.ensures.tree ∙ ap (λ (is : List ℕ). node (pure.strict pure.apply) c.args.place (trees_at c.subscript.new.pool is)) c.in_ok-parts.ensures.items) (c.in_ok-index.ensures.tree row.what row.told begin) h;
+          (c.in_ok-whole.ensures.tree ∙ ap (λ (is : List ℕ). node (pure.strict pure.apply) c.args.place (trees_at c.subscript.new.pool is)) c.in_ok-parts.ensures.items) (c.in_ok-index.ensures.tree ∙ subscript_is _ row.what row.told.tree begin) h;
     }
