@@ -1,1 +1,4 @@
--- Lemmas of this crate.
+mod JoinLaws
+mod UseSame
+mod TellLaws
+mod TreeLaws

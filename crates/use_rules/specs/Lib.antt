@@ -1,1 +1,2 @@
--- Words in which the contracts of this crate are said.
+pub mod Telling
+pub mod Finding
