@@ -2,3 +2,5 @@ mod JoinLaws
 mod UseSame
 mod TellLaws
 mod TreeLaws
+mod CallLaws
+mod BodyLaws

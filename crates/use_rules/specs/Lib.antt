@@ -1,2 +1,4 @@
 pub mod Telling
 pub mod Finding
+pub mod Calling
+pub mod Walking

@@ -1,5 +1,8 @@
 //! Names used as they may not be: where an algorithm is refused by that.
 #![tactic(auto)]
 
+pub mod bodies;
+pub mod calls;
 pub mod found;
+pub mod macros;
 pub mod using;
