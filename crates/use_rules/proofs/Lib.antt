@@ -4,3 +4,4 @@ mod TellLaws
 mod TreeLaws
 mod CallLaws
 mod BodyLaws
+mod KeepLaws

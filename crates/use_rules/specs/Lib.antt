@@ -2,3 +2,4 @@ pub mod Telling
 pub mod Finding
 pub mod Calling
 pub mod Walking
+pub mod Keeping
