@@ -5,3 +5,4 @@ mod TreeLaws
 mod CallLaws
 mod BodyLaws
 mod KeepLaws
+mod SeenLaws

@@ -3,3 +3,4 @@ pub mod Finding
 pub mod Calling
 pub mod Walking
 pub mod Keeping
+pub mod Seeing

@@ -5,4 +5,5 @@ pub mod bodies;
 pub mod calls;
 pub mod found;
 pub mod macros;
+pub mod sight;
 pub mod using;
