@@ -6,3 +6,5 @@ mod CallLaws
 mod BodyLaws
 mod KeepLaws
 mod SeenLaws
+mod RoutineLaws
+mod Rows

@@ -12,6 +12,9 @@ use Rattle.tla_token.specs.declared.rule.Rule.TheVariants.{Arity, NeedsModule, I
 use Rattle.tla_token.specs.Signs.{is_among}
 use Rattle.tla_tree.specs.Tree.{Word, Name, Tree, words}
 use Rattle.tla_value.specs.StandardModules.{StandardName, extends_one, number_modules, integer_modules, sequence_modules, finite_set_modules, tlc_modules, standard_table}
+use Rattle.pcal_tree.specs.declared.algorithm.Declaration.{Declaration}
+use Rattle.pcal_tree.specs.InMemory.{declarations_at}
+use Rattle.pcal_tree.specs.Variables.{declared}
 use Rattle.pcal_tree.specs.Offences.{offence_if}
 use Rattle.pcal_tree.specs.NameUses as names
 use Rattle.pcal_tree.specs.NameUses.{takes, standard, use_of, knowing, known_standard}
@@ -58,7 +61,7 @@ sees_is v s r e h = subst (λ (z : names.Sight). Sees v z) e h
 -- ---- names that are used alike
 
 module _ (u : names.Use) where
-  alike_among : (xs : List Word) (s : names.Sight) (w : Word) → use_of (map (knowing u) xs ++ s) w ≡ cond (is_among xs w) (Some u) (use_of s w)
+  pub alike_among : (xs : List Word) (s : names.Sight) (w : Word) → use_of (map (knowing u) xs ++ s) w ≡ cond (is_among xs w) (Some u) (use_of s w)
   alike_among [] s w = refl
   alike_among (x ∷ xs) s w = by (bytes_eq x w) (alike_among xs s w)
     where
@@ -110,13 +113,17 @@ pub all_passed : (us : List Passed) → flat_map (λ (u : Passed). u.names.items
 all_passed [] = refl
 all_passed (u ∷ us) = ap (λ (ys : List Word). u.names.items ++ ys) (all_passed us)
 
+pub all_declared : (ts : List Tree) (ds : List Declaration) → flat_map (λ (d : Declaration). d.name.word ∷ []) ds ≡ declared (declarations_at ts ds)
+all_declared ts [] = refl
+all_declared ts (d ∷ ds) = ap (λ (ys : List Word). d.name.word ∷ ys) (all_declared ts ds)
+
 -- ---- the latest first
 
 module _ {X : Type 0} (f : X → names.Known) where
   abbrev pub latest : List X → names.Sight → names.Sight
   latest xs s = reverse (map f xs) ++ s
 
-  latest_more : (xs : List X) (i : ℕ) (x : X) (s : names.Sight) → x ≡ get_or xs i x → i < length xs → f x ∷ latest (take i xs) s ≡ latest (take (i + 1) xs) s
+  pub latest_more : (xs : List X) (i : ℕ) (x : X) (s : names.Sight) → x ≡ get_or xs i x → i < length xs → f x ∷ latest (take i xs) s ≡ latest (take (i + 1) xs) s
   latest_more xs i x s e l =
       ap (λ (ks : names.Sight). ks ++ s) (sym (reverse-append (map f (take i xs)) (f x ∷ [])) ∙ ap reverse (sym (map-append f (take i xs) (x ∷ []))))
       ∙ ap (λ (ys : List X). latest ys s) (ap (λ (z : X). take i xs ++ z ∷ []) e ∙ sym (take_more xs i x l))

@@ -4,3 +4,4 @@ pub mod Calling
 pub mod Walking
 pub mod Keeping
 pub mod Seeing
+pub mod Routines

@@ -1,5 +1,6 @@
 -- What names may be used as, in memory.
-use Rattle.std.specs.Prelude.{◌≡◌, ◌==◌, Bool, true, cond, bytes_eq, codes, Option, Some, None}
+use Rattle.std.specs.Prelude.{◌≡◌, ◌==◌, List, Bool, true, cond, bytes_eq, codes, Option, Some, None}
+use Rattle.std.specs.List.{list_any}
 use Rattle.std.specs.Map.{lookup}
 use Rattle.std.specs.Cmp.Lexicographic.{pointwise}
 use Rattle.tla_token.specs.declared.place.Place.{Place}
@@ -39,3 +40,7 @@ use_in v x = known_or (lookup (pointwise ◌==◌ x) v.uses.entries) (always_use
 -- names may be used as in this
 pub record Sees (v : Sight) (s : names.Sight) : Type 0 where
   pub same : (x : Word) → Alike (use_seen (use_in v x)) (use_of s x)
+
+-- where these names are variables besides
+abbrev pub within_use : Sight → List Word → Word → Use
+within_use v hs x = cond (list_any (pointwise ◌==◌ x) hs) known.Variable (use_in v x)

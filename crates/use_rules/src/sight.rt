@@ -5,6 +5,8 @@ ghost use Rattle.std.specs.List.{flat_map};
 ghost use Rattle.tla_tree.specs.Tree.{Tree, words};
 ghost use Rattle.pcal_tree.specs.NameUses as names;
 ghost use Rattle.pcal_tree.specs.NameUses.{knowing};
+ghost use Rattle.pcal_tree.specs.InMemory.{declarations_at};
+ghost use Rattle.pcal_tree.specs.Variables.{declared};
 ghost use Rattle.pcal_tree.specs.OffencesNames.{defined_outside, sight_outside};
 ghost use Rattle.outside_sight.specs.ModulesIn.{standard_of, AreModules};
 ghost use Rattle.outside_units.specs.Passing.{passed_seen};
@@ -21,6 +23,7 @@ use outside_sight::modules::Modules;
 use outside_sight::sight::Sight as OutsideSight;
 use outside_sight::standard::{is, standard_name};
 use outside_units::passed::Passed;
+use pcal_tree::algorithm::Declaration;
 use std::alloc::{AllocError, Global};
 use tla_tree::{Name, PlacedName};
 
@@ -63,8 +66,8 @@ fn modules_among(alloc: Global, extended: &[PlacedName]) -> Result<Modules, Allo
     Ok(sight.modules)
 }
 
-// How many names these are.
-fn how_many(names: &[PlacedName]) -> usize
+/// How many names these are.
+pub fn how_many(names: &[PlacedName]) -> usize
     ensures { result ≡ length names.now }
 {
     names.len()
@@ -109,6 +112,21 @@ impl Sight {
     {
         for one in list {
             self.set(&one.name, known)?;
+        }
+        Ok(())
+    }
+
+    /// Variables.
+    ///
+    /// # Errors
+    ///
+    /// Only for want of memory.
+    pub fn set_variables(&mut self, list: &[Declaration]) -> Result<(), AllocError>
+        ensures { OnOk result ((ts : List Tree) (s : names.Sight) → Sees self.old s → Sees self.new (names.seeing_variables (declared (declarations_at ts list.now)) s)) }
+    {
+        for i in 0..list.len() {
+            let one = &list[i];
+            self.set(&one.name.name, Use::Variable)?;
         }
         Ok(())
     }
