@@ -1,1 +1,10 @@
--- Lemmas of this crate.
+mod JoinLaws
+mod UseSame
+mod TellLaws
+mod TreeLaws
+mod CallLaws
+mod BodyLaws
+mod KeepLaws
+mod SeenLaws
+mod RoutineLaws
+mod Rows

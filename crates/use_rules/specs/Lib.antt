@@ -1,1 +1,7 @@
--- Words in which the contracts of this crate are said.
+pub mod Telling
+pub mod Finding
+pub mod Calling
+pub mod Walking
+pub mod Keeping
+pub mod Seeing
+pub mod Routines

@@ -6,6 +6,10 @@ ghost use Rattle.pcal_tree.specs.Offences.{first};
 ghost use Rattle.pcal_tree.specs.OffencesNames.{use_offences_of};
 ghost use Rattle.module_outside.specs.WholeAt.{outside_at};
 
+use crate::macros::all_callees;
+use crate::routines::{of_definitions, of_globals, of_main, of_procedures};
+use crate::sight::seen_outside;
+use algorithm_limits::order::least;
 use module_outside::outside::Outside;
 use pcal_tree::algorithm::Algorithm;
 use std::alloc::{AllocError, Global};
@@ -27,5 +31,12 @@ pub fn use_refusal(
     requires { past_algorithm algorithm.now ≤ length pool.now }
     ensures { IfOk result (λ r. r ≡ first (use_offences_of (algorithm_at pool.now algorithm.now) (outside_at pool.now outside.now))) }
 {
-    Err(AllocError)
+    let callees = all_callees(alloc, pool, &algorithm.macros, &algorithm.procedures)?;
+    let mut sight = seen_outside(alloc, outside)?;
+    sight.set_variables(&algorithm.globals)?;
+    let definitions = of_definitions(alloc, pool, &mut sight, &algorithm.definitions)?;
+    let globals = of_globals(alloc, pool, &sight, &algorithm.globals)?;
+    let procedures = of_procedures(alloc, pool, &callees, &sight, &algorithm.procedures)?;
+    let main = of_main(alloc, pool, &callees, &sight, &algorithm.main)?;
+    Ok(least(globals, least(definitions, least(procedures, main))))
 }
