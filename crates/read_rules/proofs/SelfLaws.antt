@@ -1,5 +1,5 @@
 -- The first `self` of what stands in lists, and of the macros that are reached.
-use Rattle.std.proofs.Common.{◌≡◌, ℕ, ◌+◌, ◌-◌, ◌<◌, ◌≤◌, nat_lt, Bool, true, false, ◌&&◌, ◌||◌, not, List, [], ◌∷◌, ◌++◌, length, take, map, reverse, get_or, Option, None, refl, sym, ap, ◌∙◌, subst, cond, bytes_eq, arith, append-nil, le-ltb, lt-ltb}
+use Rattle.std.proofs.Common.{◌≡◌, ℕ, ◌+◌, ◌-◌, ◌<◌, ◌≤◌, nat_lt, Bool, true, false, ◌||◌, List, [], ◌∷◌, ◌++◌, length, take, map, reverse, get_or, Option, None, refl, sym, ap, ◌∙◌, cond, bytes_eq, arith, append-nil, le-ltb, lt-ltb}
 use Rattle.std.specs.List.{flat_map}
 use Rattle.std.proofs.lemmas.List.{take_more, take_all, map-append, reverse-append}
 use Rattle.std.proofs.lemmas.List.Folds.{list_any-append}
@@ -21,7 +21,7 @@ use Rattle.algorithm_limits.proofs.Tables.{number_of_with}
 use Rattle.algorithm_answer.specs.Joined.{joined}
 use Rattle.algorithm_answer.proofs.Joins.{joined_assoc, joined_none, first_append}
 use Rattle.early_reads.proofs.CallsAsSets.{among_without}
-use Rattle.read_rules.specs.Calls.{is_called, AreCalled, AddsCalls}
+use Rattle.read_rules.specs.Calls.{AreCalled, AddsCalls}
 use Rattle.read_rules.specs.Selves.{calls_of_procedure}
 use Rattle.read_rules.proofs.CallLaws.{calls_as, calls_then}
 use Rattle.read_rules.proofs.FoundLaws.{Found, found_all, flat_mapped}

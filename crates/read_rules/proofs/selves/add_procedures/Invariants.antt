@@ -1,5 +1,5 @@
 -- What is kept: the macros that the procedures call that were passed are marked.
-use Rattle.std.proofs.Common.{List, map, take}
+use Rattle.std.proofs.Common.{List, take}
 use Rattle.std.specs.List.{flat_map}
 use Rattle.tla_tree.specs.Tree.{Tree}
 use Rattle.pcal_tree.specs.InMemory.{procedure_at}

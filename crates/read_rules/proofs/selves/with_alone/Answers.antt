@@ -10,7 +10,7 @@ use Rattle.pcal_tree.specs.OffencesCounts.{calls_of}
 use Rattle.pcal_tree.specs.OffencesSelf.{selves, used_by_procedure, reached}
 use Rattle.algorithm_answer.specs.Joined.{joined}
 use Rattle.algorithm_limits.specs.Numbers.{Numbers}
-use Rattle.read_rules.specs.Calls.{AddsCalls, AreCalled}
+use Rattle.read_rules.specs.Calls.{AddsCalls}
 use Rattle.read_rules.specs.Selves.{calls_of_procedure}
 use Rattle.read_rules.proofs.CallLaws.{calls_then}
 use Rattle.read_rules.proofs.SelfLaws.{SelvesIn, called_all, alone_selves}

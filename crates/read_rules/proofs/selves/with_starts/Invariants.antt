@@ -1,9 +1,6 @@
 -- What is kept: the first of what was found and of the offences of the declarations that were passed.
-use Rattle.std.proofs.Common.{[]}
-use Rattle.std.specs.List.{flat_map}
 use Rattle.pcal_tree.specs.InMemory.{declaration_at}
 use Rattle.pcal_tree.specs.OffencesSelf.{selves}
-use Rattle.pcal_tree.specs.Reads.{used, initial}
 use Rattle.read_rules.proofs.FoundLaws.{Found}
 use Rattle.read_rules.proofs.SelfLaws.{used_by_start}
 use Rattle.read_rules.proofs.selves.with_starts.Given as goal
