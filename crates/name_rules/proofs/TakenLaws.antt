@@ -1,5 +1,5 @@
 -- That the names which are taken outside are added.
-use Rattle.std.proofs.Common.{◌≡◌, ℕ, List, [], ◌∷◌, ◌++◌, map, refl, sym, ap, ◌∙◌}
+use Rattle.std.proofs.Common.{◌≡◌, ℕ, zero, suc, ◌≤◌, List, [], ◌∷◌, ◌++◌, length, map, refl, sym, ap, ◌∙◌, arith}
 use Rattle.std.specs.List.{flat_map}
 use Rattle.tla_tree.specs.Tree.{Word, Tree}
 use Rattle.tla_tree.specs.Pool.{Entry, at, trees_at, tree_in}
@@ -23,6 +23,12 @@ pub node_hides : (ts : List Tree) (a b c : List Word) (e : ℕ) (n : Entry) → 
 node_hides ts a b c e n is g h =
     hides_as a c _ _ (bound_both (lists_of n.form) (lists_in_all (trees_at ts n.parts)) ∙ ap (λ (t : Tree). bound_words (lists_in t)) (sym is))
     (hides_then a b c (bound_words (lists_of n.form)) (bound_words (lists_in_all (trees_at ts n.parts))) g h)
+
+-- a number past the pool is an expression without names
+pub past_pool : (ts : List Tree) (e : ℕ) → length ts ≤ e → bound_words (lists_in (at ts e)) ≡ []
+past_pool [] e l = refl
+past_pool (t ∷ ts) zero l = absurd (omega (arith, l))
+past_pool (t ∷ ts) (suc e) l = past_pool ts e (omega (arith, l))
 
 -- ---- definitions
 

@@ -111,9 +111,10 @@ fn add_definition(
 {
     taken.add_all(&definition.params)?;
     if definition.body < pool.len() {
-        add_tree(taken, pool, definition.body)?;
+        add_tree(taken, pool, definition.body)
+    } else {
+        Ok(())
     }
-    Ok(())
 }
 
 // Those of definitions that were read.

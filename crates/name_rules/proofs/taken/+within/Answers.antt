@@ -8,7 +8,8 @@ use Rattle.pcal_tree.specs.BoundNames.{lists_of, lists_in_all}
 use Rattle.algorithm_limits.proofs.BoundLemmas.{hides_none, hides_as}
 use Rattle.written_names.specs.Kept.{bound_words, expr_words}
 use Rattle.written_names.proofs.KeptBodies.{trees_words}
-use Rattle.name_rules.proofs.TakenLaws.{hides_more, hides_all, node_hides}
+use Rattle.declared_rules.proofs.TitleLaws.{hides_more, hides_all}
+use Rattle.name_rules.proofs.TakenLaws.{node_hides}
 use Rattle.name_rules.proofs.taken.+within.Goals as goal
 
 pub add_tree-add_parts-requires : goal.add_tree-add_parts-requires
