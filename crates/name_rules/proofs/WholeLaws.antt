@@ -4,7 +4,7 @@ use Rattle.std.specs.List.{flat_map}
 use Rattle.tla_token.specs.declared.rule.Refusal.{Refusal}
 use Rattle.tla_value.specs.Outside.{Outside}
 use Rattle.pcal_tree.specs.Algorithm.{Algorithm}
-use Rattle.pcal_tree.specs.Offences.{sooner, first}
+use Rattle.pcal_tree.specs.Offences.{first}
 use Rattle.pcal_tree.specs.OffencesModules.{module_needs, outside_variables}
 use Rattle.pcal_tree.specs.OffencesNames.{use_offences_of, repeated_names}
 use Rattle.pcal_tree.specs.OffencesOfNames.{name_offences}

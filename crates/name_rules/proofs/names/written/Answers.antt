@@ -1,5 +1,5 @@
 -- Proves that these are the written names.
-use Rattle.std.proofs.Common.{List, sym, ap, ◌∙◌}
+use Rattle.std.proofs.Common.{List, ap, ◌∙◌}
 use Rattle.std.proofs.lemmas.Result.{IfOk-weaker}
 use Rattle.tla_tree.specs.Tree.{Word, words, Name}
 use Rattle.pcal_tree.specs.Algorithm as tree

@@ -1,5 +1,5 @@
 -- Proves that the names that an expression binds are added.
-use Rattle.std.proofs.Common.{ℕ, List, length, take, slice_index_or, sym, ap, ◌∙◌, subst, arith}
+use Rattle.std.proofs.Common.{ℕ, List, slice_index_or, sym, ap, ◌∙◌, subst, arith}
 use Rattle.std.proofs.lemmas.List.{get_or_default}
 use Rattle.std.proofs.lemmas.Result.{on_ok_weaker}
 use Rattle.tla_tree.specs.Pool.{Entry, AllBelow, trees_at}

@@ -1,7 +1,7 @@
 -- Proves that the names that a definition binds are added.
-use Rattle.std.proofs.Common.{◌≤◌, ℕ, [], List, length, sym, ap, subst}
+use Rattle.std.proofs.Common.{◌≤◌, ℕ, sym, ap, subst}
 use Rattle.std.proofs.lemmas.Result.{on_ok_weaker}
-use Rattle.tla_tree.specs.Tree.{Word, words}
+use Rattle.tla_tree.specs.Tree.{words}
 use Rattle.tla_tree.specs.Pool.{at}
 use Rattle.pcal_tree.specs.BoundNames.{lists_in}
 use Rattle.algorithm_limits.proofs.BoundLemmas.{hides_none, hides_then, hides_as}
