@@ -1,1 +1,3 @@
--- Lemmas of this crate.
+-- That names are right, or the first that is wrong.
+pub mod WholeLaws
+pub mod TakenLaws

@@ -1,1 +1,1 @@
--- Words in which the contracts of this crate are said.
+pub mod Taken

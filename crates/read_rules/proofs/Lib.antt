@@ -6,3 +6,4 @@ pub mod OrderLaws
 pub mod LocalLaws
 pub mod BodyLaws
 pub mod CallLaws
+pub mod SelfLaws

@@ -11,6 +11,10 @@ use Rattle.algorithm_limits.specs.Numbers.{Numbers, number_of}
 abbrev pub is_called : Numbers → Word → Bool
 is_called es x = nat_lt 0 (number_of es x)
 
+-- the macros that are marked are these
+abbrev pub AreCalled : Numbers → List Word → Type 0
+AreCalled es ms = (x : Word) → is_called es x ≡ is_among ms x
+
 -- these are called besides
 pub record AddsCalls (old new : Numbers) (ms : List Word) : Type 0 where
   pub calls : (x : Word) → is_called new x ≡ (is_among ms x || is_called old x)

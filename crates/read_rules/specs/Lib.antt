@@ -5,3 +5,4 @@ pub mod Order
 pub mod Locals
 pub mod UsingBodies
 pub mod Calls
+pub mod Selves

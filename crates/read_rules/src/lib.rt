@@ -1,4 +1,4 @@
-//! Variables that are read where they have no value yet: where an algorithm is refused by that.
+//! Variables that are read where they have no value yet, and `self` where no process is: where an algorithm is refused by that.
 #![tactic(auto)]
 
 pub mod bodies;
@@ -10,6 +10,8 @@ pub mod locals;
 pub mod order;
 pub mod own;
 pub mod reads;
+pub mod selves;
 pub mod used;
 
 pub use reads::read_refusal;
+pub use selves::self_refusal;

@@ -1,0 +1,16 @@
+-- Proves that the names of units that are passed on are added.
+use Rattle.outside_units.specs.declared.passed.Passed.{Passed}
+use Rattle.algorithm_limits.proofs.BoundLemmas.{hides_none, hides_as}
+use Rattle.declared_rules.proofs.TitleLaws.{hides_more, hides_all}
+use Rattle.name_rules.proofs.taken.add_passed.Goals as goal
+
+pub loop-unit-init : goal.loop-unit-init
+loop-unit-init c = hides_none c.args.taken.now
+
+pub loop-unit-preserved : goal.loop-unit-preserved
+loop-unit-preserved c =
+    hides_more (λ (u : Passed). u.names.items) c.args.list.now c.args.taken.now c.loop-unit.taken c.add_names.new.taken c.loop-unit.unit-index c.unit-item.result c.unit-item.is c.loop-unit-test.true c.loop-unit.invariant
+    (hides_as c.loop-unit.taken c.add_names.new.taken _ _ c.deref.ensures.value c.in_ok-add_names.ensures)
+
+pub returns : goal.returns
+returns c = hides_all (λ (u : Passed). u.names.items) c.args.list.now c.args.taken.now c.loop-unit.taken c.loop-unit.unit-index c.loop-unit-test.false c.loop-unit.invariant
