@@ -1,5 +1,5 @@
 -- What calls offend, by what is kept of macros and procedures.
-use Rattle.std.proofs.Common.{◌≡◌, ℕ, zero, suc, ◌+◌, ◌-◌, ◌<◌, ◌≤◌, Bool, true, false, ◌&&◌, nat_lt, nat_eq, List, [], ◌∷◌, ◌++◌, length, drop, get_or, cond, bytes_eq, Option, Some, None, refl, sym, ap, ◌∙◌, subst, arith, lt-ltb, true≢false}
+use Rattle.std.proofs.Common.{◌≡◌, ℕ, zero, suc, ◌+◌, ◌-◌, ◌<◌, ◌≤◌, Bool, true, false, ◌&&◌, nat_lt, List, [], ◌∷◌, ◌++◌, length, drop, get_or, cond, bytes_eq, Option, Some, None, refl, sym, ap, ◌∙◌, subst, arith, lt-ltb, true≢false}
 use Rattle.std.specs.Prelude.{◌==◌}
 use Rattle.std.specs.List.{flat_map}
 use Rattle.std.specs.Map.{lookup}
@@ -8,14 +8,13 @@ use Rattle.std.proofs.lemmas.Bool.{and_parts}
 use Rattle.std.proofs.lemmas.List.{drop_more, drop_all}
 use Rattle.tla_token.specs.declared.place.Place.{Place}
 use Rattle.tla_token.specs.declared.rule.Refusal.{Refusal}
-use Rattle.tla_token.specs.declared.rule.Rule.TheVariants.{NotVariable}
-use Rattle.tla_tree.specs.Tree.{Word, Form, name, strict, apply, select, Tree, node, Trees, root_place}
+use Rattle.tla_tree.specs.Tree.{Word, Form, strict, apply, select, Tree, node, Trees, root_place}
 use Rattle.tla_tree.specs.Pool.{Entry, at, trees_at, tree_in}
 use Rattle.pcal_tree.specs.Algorithm.{Name, Procedure}
-use Rattle.pcal_tree.specs.Offences.{offence, first}
-use Rattle.pcal_tree.specs.Paths.{root_form, root, root_of_first}
+use Rattle.pcal_tree.specs.Offences.{first}
+use Rattle.pcal_tree.specs.Paths.{root_form, root}
 use Rattle.pcal_tree.specs.NameUses.{Use, takes, variable, argument, standard, unread, Sight, use_of, applied_offences, left_offences, handed_use}
-use Rattle.pcal_tree.specs.OffencesNames.{count, Calls, call_offences, parameter_use, seeing_parameters}
+use Rattle.pcal_tree.specs.OffencesNames.{Calls, call_offences, parameter_use, seeing_parameters}
 use Rattle.pcal_tree.specs.laws.MacroUses.{offences_as, applied, assigned, handed}
 use Rattle.algorithm_limits.specs.Numbers.{number_of}
 use Rattle.tla_pool.specs.declared.form.Form as form

@@ -1,20 +1,17 @@
 -- What uses tell, as more of them are kept, each once.
-use Rattle.std.proofs.Common.{◌≡◌, ℕ, List, [], ◌∷◌, ◌++◌, Bool, true, false, ◌||◌, Option, Some, None, refl, sym, ap, ◌∙◌, append-nil}
+use Rattle.std.proofs.Common.{◌≡◌, List, [], ◌∷◌, ◌++◌, Bool, true, false, ◌||◌, Option, Some, None, refl, sym, ap, ◌∙◌, append-nil}
 use Rattle.std.specs.Prelude.{if◌then◌else◌}
 use Rattle.std.specs.List.{list_any, flat_map}
 use Rattle.std.proofs.lemmas.List.Folds.{list_any-append}
 use Rattle.std.proofs.lemmas.Grind.{flat_map-append}
 use Rattle.tla_token.specs.declared.rule.Refusal.{Refusal}
-use Rattle.pcal_tree.specs.Offences.{sooner, first}
-use Rattle.pcal_tree.specs.NameUses.{Sight}
+use Rattle.pcal_tree.specs.Offences.{first}
 use Rattle.pcal_tree.proofs.SetLaws.{any_flat, Sound}
 use Rattle.pcal_tree.proofs.FirstLaws.{same_first}
 use Rattle.algorithm_answer.specs.Joined.{joined}
 use Rattle.algorithm_answer.proofs.Joins.{joined_assoc, joined_none, first_append}
 use Rattle.tla_value.proofs.OrderSets.{either_twice}
 use Rattle.indexmap.specs.IndexSet.{insert_key}
-use Rattle.use_rules.specs.declared.using.NameUse.{NameUse}
-use Rattle.use_rules.specs.Telling.{looked, told_by}
 
 -- ---- first ones
 

@@ -1,9 +1,8 @@
 -- What is kept of macros and procedures, as more of them are known.
 use Rattle.std.proofs.Common.{◌≡◌, ℕ, suc, ◌+◌, ◌-◌, ◌<◌, ◌≤◌, Bool, true, false, List, [], ◌∷◌, ◌++◌, length, take, drop, map, get_or, reverse, cond, bytes_eq, Option, Some, None, refl, sym, ap, ◌∙◌, subst, arith, true≢false}
-use Rattle.std.specs.Prelude.{◌==◌, if◌then◌else◌}
+use Rattle.std.specs.Prelude.{if◌then◌else◌}
 use Rattle.std.specs.List.{flat_map}
 use Rattle.std.specs.Map.{lookup}
-use Rattle.std.specs.Cmp.Lexicographic.{pointwise}
 use Rattle.std.proofs.lemmas.List.{drop_more, drop_all, take_more, take_all, map-append, length-map, reverse-append}
 use Rattle.std.proofs.lemmas.Slice.Eq.{bytes_eq-Decides}
 use Rattle.indexmap.specs.IndexMap.{insert_entry}
@@ -12,11 +11,11 @@ use Rattle.tla_token.specs.declared.rule.Refusal.{Refusal}
 use Rattle.tla_tree.specs.Tree.{Word, Tree, Trees}
 use Rattle.pcal_tree.specs.declared.algorithm.Macro as code_macro
 use Rattle.pcal_tree.specs.declared.algorithm.Procedure as code_procedure
-use Rattle.pcal_tree.specs.Algorithm.{Name, Statements, Macro, Procedure}
-use Rattle.pcal_tree.specs.InMemory.{statements_at, declarations_at, declaration_at, macro_at, procedure_at}
+use Rattle.pcal_tree.specs.Algorithm.{Name, Macro, Procedure}
+use Rattle.pcal_tree.specs.InMemory.{statements_at, declarations_at, declaration_at, macro_at}
 use Rattle.pcal_tree.specs.Offences.{first}
 use Rattle.pcal_tree.specs.NameUses.{Sight}
-use Rattle.pcal_tree.specs.OffencesNames.{count, Calls, call_offences, in_body, macro_offences, seeing_parameters}
+use Rattle.pcal_tree.specs.OffencesNames.{count, call_offences, in_body, macro_offences, seeing_parameters}
 use Rattle.algorithm_answer.specs.Joined.{joined}
 use Rattle.algorithm_answer.proofs.Joins.{first_append}
 use Rattle.algorithm_limits.specs.Numbers.{Numbers, number_of, with_number}

@@ -1,9 +1,8 @@
 -- What is found in routines, and told by what is known where they stand.
 use Rattle.std.proofs.Common.{◌≡◌, ℕ, ◌+◌, ◌<◌, ◌≤◌, Bool, true, false, List, [], ◌∷◌, ◌++◌, length, take, drop, map, get_or, reverse, cond, Option, Some, None, refl, sym, ap, ◌∙◌, subst, append-nil, append_assoc}
-use Rattle.std.specs.List.{list_any, flat_map}
+use Rattle.std.specs.List.{flat_map}
 use Rattle.std.proofs.lemmas.List.{drop_more, drop_all, take_more, take_all, map-append}
 use Rattle.std.proofs.lemmas.Grind.{flat_map-append}
-use Rattle.tla_token.specs.declared.place.Place.{Place}
 use Rattle.tla_token.specs.declared.rule.Refusal.{Refusal}
 use Rattle.tla_token.specs.Signs.{is_among}
 use Rattle.tla_tree.specs.Tree.{Word, Name, Tree, words}
@@ -11,7 +10,7 @@ use Rattle.tla_tree.specs.Pool.{at}
 use Rattle.pcal_tree.specs.declared.algorithm.Declaration as code
 use Rattle.pcal_tree.specs.declared.algorithm.Definition as code_definition
 use Rattle.pcal_tree.specs.Algorithm.{Declaration, Statements, Procedure}
-use Rattle.pcal_tree.specs.InMemory.{start_at, declaration_at, declarations_at, definition_at, definitions_at}
+use Rattle.pcal_tree.specs.InMemory.{start_at, declarations_at, definition_at, definitions_at}
 use Rattle.pcal_tree.specs.Offences.{first}
 use Rattle.pcal_tree.specs.NameUses as names
 use Rattle.pcal_tree.specs.NameUses.{takes, variable, use_of, knowing, seeing_plain, seeing_variables}
@@ -22,12 +21,9 @@ use Rattle.algorithm_answer.specs.Joined.{joined}
 use Rattle.algorithm_answer.proofs.Joins.{joined_assoc, joined_none, first_append}
 use Rattle.algorithm_limits.specs.DepthsIn.{Hides}
 use Rattle.algorithm_limits.proofs.BoundLemmas.{hides_then, hides_as}
-use Rattle.algorithm_limits.proofs.Tables.{equal}
 use Rattle.outside_sight.specs.SightIn.{Binds}
 use Rattle.outside_sight.proofs.SightLaws.{binds_all}
-use Rattle.use_rules.specs.declared.using.Kind.{Kind}
 use Rattle.use_rules.specs.declared.using.NameUse.{NameUse}
-use Rattle.use_rules.specs.declared.using.Use.{Use}
 use Rattle.use_rules.specs.declared.using.Use.TheVariants as known
 use Rattle.use_rules.specs.declared.found.Found.{Found}
 use Rattle.use_rules.specs.declared.sight.Sight.{Sight}
@@ -115,7 +111,7 @@ pub routine_told : (C : Calls) (ps : List Procedure) (s : names.Sight) (ts : Lis
 routine_told C ps s ts new i j k ds es b r f q e a h m t =
     let w = seeing_variables (declared (declarations_at ts ds ++ declarations_at ts es)) s in
     t ∙ told_inside new k (λ v. in_declared (declarations_at ts ds) v ++ (in_declared (declarations_at ts es) v ++ in_body C ps b v)) w w f q (inside_empty new.bound w e)
-        (tells_then new i k (in_declared (declarations_at ts ds)) (λ v. in_declared (declarations_at ts es) v ++ in_body C ps b v) a (tells_then i j k (in_declared (declarations_at ts es)) (in_body C ps b) h m))
+    (tells_then new i k (in_declared (declarations_at ts ds)) (λ v. in_declared (declarations_at ts es) v ++ in_body C ps b v) a (tells_then i j k (in_declared (declarations_at ts es)) (in_body C ps b) h m))
     ∙ ap first (sym (append_assoc (in_declared (declarations_at ts ds) w) (in_declared (declarations_at ts es) w) (in_body C ps b w))
     ∙ ap (λ (rs : List Refusal). rs ++ in_body C ps b w) (sym (flat_map-append (λ (d : Declaration). in_start d.start w) (declarations_at ts ds) (declarations_at ts es))))
 

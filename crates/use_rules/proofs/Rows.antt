@@ -1,5 +1,5 @@
 -- Small rows, by computation: which parameter a name is, and what uses tell.
-use Rattle.std.proofs.Common.{◌≡◌, List, [], ◌∷◌, Some, None, false, codes, refl}
+use Rattle.std.proofs.Common.{◌≡◌, [], ◌∷◌, Some, None, false, codes, refl}
 use Rattle.tla_token.specs.declared.place.Place.{Place}
 use Rattle.tla_token.specs.declared.rule.Rule.TheVariants.{Unknown, Arity}
 use Rattle.tla_tree.specs.Tree.{Word, Name}

@@ -1,13 +1,12 @@
 -- What names may be used as, as more of them are known.
-use Rattle.std.proofs.Common.{◌≡◌, ℕ, ◌+◌, ◌<◌, ◌≤◌, Bool, true, false, not, ◌&&◌, ◌||◌, nat_eq, List, [], ◌∷◌, ◌++◌, length, take, map, get_or, reverse, cond, bytes_eq, codes, Option, Some, None, refl, sym, ap, ◌∙◌, subst, eq-eqb}
-use Rattle.std.specs.List.{list_any, flat_map}
+use Rattle.std.proofs.Common.{◌≡◌, ℕ, ◌+◌, ◌<◌, ◌≤◌, Bool, true, false, not, ◌&&◌, ◌||◌, nat_eq, List, [], ◌∷◌, ◌++◌, length, take, map, get_or, reverse, cond, bytes_eq, codes, Option, Some, refl, sym, ap, ◌∙◌, subst, eq-eqb}
+use Rattle.std.specs.List.{flat_map}
 use Rattle.std.specs.Map.{lookup}
 use Rattle.std.proofs.lemmas.List.{take_more, take_all, map-append, length-map, reverse-append}
 use Rattle.std.proofs.lemmas.List.Folds.{list_any-append}
 use Rattle.std.proofs.lemmas.Grind.{flat_map-append}
 use Rattle.indexmap.specs.IndexMap.{insert_entry}
 use Rattle.tla_token.specs.declared.place.Place.{Place}
-use Rattle.tla_token.specs.declared.rule.Refusal.{Refusal}
 use Rattle.tla_token.specs.declared.rule.Rule.TheVariants.{Arity, NeedsModule, Infinite}
 use Rattle.tla_token.specs.Signs.{is_among}
 use Rattle.tla_tree.specs.Tree.{Word, Name, Tree, words}
@@ -35,7 +34,7 @@ use Rattle.use_rules.specs.declared.using.Use.{Use}
 use Rattle.use_rules.specs.declared.using.Use.TheVariants as known
 use Rattle.use_rules.specs.declared.sight.Sight.{Sight}
 use Rattle.use_rules.specs.Telling.{use_seen, use_as}
-use Rattle.use_rules.specs.Seeing.{Alike, standard_use, always_use, known_or, use_in, Sees}
+use Rattle.use_rules.specs.Seeing.{Alike, standard_use, always_use, known_or, Sees}
 use Rattle.use_rules.proofs.KeepLaws.{inserted}
 
 -- ---- one more name

@@ -1,5 +1,5 @@
 -- Uses of names are kept once where they are the same; and what a use offends.
-use Rattle.std.proofs.Common.{◌≡◌, ℕ, List, [], ◌∷◌, ◌++◌, Bool, true, false, ◌&&◌, nat_eq, Option, Some, None, refl, sym, ap, ◌∙◌, eqb-true, true≢false}
+use Rattle.std.proofs.Common.{◌≡◌, ℕ, List, ◌++◌, Bool, true, false, ◌&&◌, nat_eq, Option, None, refl, sym, ap, ◌∙◌, eqb-true, true≢false}
 use Rattle.std.proofs.lemmas.Bool.{and_parts}
 use Rattle.tla_token.specs.declared.rule.Refusal.{Refusal}
 use Rattle.pcal_tree.specs.Offences.{first}

@@ -7,17 +7,16 @@ use Rattle.tla_token.specs.declared.place.Place.{Place}
 use Rattle.tla_token.specs.declared.rule.Rule.TheVariants.{Unknown, Arity, NotVariable}
 use Rattle.tla_token.specs.declared.rule.Refusal.{Refusal}
 use Rattle.tla_tree.specs.Tree.{Word, Form, strict, apply, select, Tree, Trees, root_place}
-use Rattle.tla_tree.specs.Pool.{at, trees_at}
+use Rattle.tla_tree.specs.Pool.{at}
 use Rattle.pcal_tree.specs.Algorithm.{Name, Procedure}
 use Rattle.pcal_tree.specs.Offences.{offence, offence_if, first}
 use Rattle.pcal_tree.specs.Paths.{root}
 use Rattle.pcal_tree.specs.NameUses.{Use, variable, Sight, use_of, left_offences, handed_use}
 use Rattle.pcal_tree.specs.OffencesNames.{count, Calls, call_offences, parameter_use, seeing_parameters}
-use Rattle.algorithm_answer.specs.Joined.{joined}
 use Rattle.algorithm_limits.specs.Numbers.{number_of}
 use Rattle.use_rules.specs.declared.macros.MacroUses.{MacroUses}
 use Rattle.use_rules.specs.declared.macros.Callees.{Callees}
-use Rattle.use_rules.specs.Telling.{told_by, looked}
+use Rattle.use_rules.specs.Telling.{looked}
 
 -- ---- arguments
 

@@ -1,7 +1,6 @@
 -- What was found of offences and of uses of names, as more is looked at.
-use Rattle.std.specs.Prelude.{◌≡◌, ◌++◌, List, Option, length, take}
+use Rattle.std.specs.Prelude.{◌≡◌, List, Option, length, take}
 use Rattle.tla_token.specs.declared.rule.Refusal.{Refusal}
-use Rattle.tla_tree.specs.Tree.{Word}
 use Rattle.pcal_tree.specs.Offences.{first}
 use Rattle.pcal_tree.specs.NameUses.{Sight}
 use Rattle.algorithm_answer.specs.Joined.{joined}

@@ -1,5 +1,5 @@
 -- What names may be used as, in memory.
-use Rattle.std.specs.Prelude.{◌≡◌, ◌==◌, List, Bool, true, cond, bytes_eq, codes, Option, Some, None}
+use Rattle.std.specs.Prelude.{◌≡◌, ◌==◌, List, true, cond, bytes_eq, codes, Option, Some, None}
 use Rattle.std.specs.List.{list_any}
 use Rattle.std.specs.Map.{lookup}
 use Rattle.std.specs.Cmp.Lexicographic.{pointwise}

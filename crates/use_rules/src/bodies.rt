@@ -141,12 +141,7 @@ impl Found {
     ///
     /// Only for want of memory.
     #[cycle(bodies)]
-    pub fn body(
-        &mut self,
-        pool: &Pool,
-        callees: &Callees,
-        stmts: &[Stmt],
-    ) -> Result<(), AllocError>
+    pub fn body(&mut self, pool: &Pool, callees: &Callees, stmts: &[Stmt]) -> Result<(), AllocError>
         requires { past_statements stmts.now ≤ length pool.now }
         ensures { OnOk result ((C : Calls) (ps : List Procedure) → Means callees.now C ps → Tells self.old self.new (in_body C ps (statements_at pool.now stmts.now))) }
     {

@@ -29,7 +29,10 @@ use tla_tree::{Name, NodeId, PlacedName};
 fn is_subscripted(form: &Form, parts: usize) -> bool
     ensures { result ≡ (is_subscripted_of (form_of form.now) && nat_lt 0 parts) }
 {
-    matches!(form, Form::Strict(Strict::Apply) | Form::Strict(Strict::Select(_))) && parts > 0
+    matches!(
+        form,
+        Form::Strict(Strict::Apply) | Form::Strict(Strict::Select(_))
+    ) && parts > 0
 }
 
 // Which parameter has this name.
@@ -212,12 +215,7 @@ impl Found {
         if past == 0 {
             self.refuse(or_offence(None, true, Rule::Unknown, place));
         } else {
-            self.refuse(or_offence(
-                None,
-                past - 1 != arguments,
-                Rule::Arity,
-                name.place,
-            ));
+            self.refuse(or_offence(None, past - 1 != arguments, Rule::Arity, name.place));
         }
     }
 }

@@ -77,12 +77,7 @@ fn applied_offence(known: Use, arguments: usize, right: bool, place: Place) -> O
         Use::Standard(arity, extended, infinite) => {
             let found = or_offence(None, arity != arguments, Rule::Arity, place);
             let found = or_offence(found, !extended, Rule::NeedsModule, place);
-            or_offence(
-                found,
-                may_not_stand(infinite, right),
-                Rule::Infinite,
-                place,
-            )
+            or_offence(found, may_not_stand(infinite, right), Rule::Infinite, place)
         }
         Use::Unread => or_offence(None, true, Rule::OpaqueUnit, place),
     }

@@ -2,7 +2,6 @@
 use Rattle.std.proofs.Common.{take}
 use Rattle.use_rules.specs.Calling.{Means}
 use Rattle.use_rules.specs.Keeping.{procedures_at, calls_at}
-use Rattle.use_rules.proofs.KeepLaws.{macros_more}
 use Rattle.use_rules.proofs.macros.all_callees.Given as goal
 
 abbrev pub invariant-loop-one : goal.invariant-loop-one

@@ -2,7 +2,7 @@
 use Rattle.std.proofs.Common.{◌≡◌, ◌-◌, List, length, get_or, refl, sym, ap, ◌∙◌, subst}
 use Rattle.pcal_tree.specs.declared.algorithm.Declaration.{Declaration}
 use Rattle.pcal_tree.specs.declared.algorithm.Procedure.{Procedure}
-use Rattle.use_rules.proofs.KeepLaws.{procedures_more, procedures_all}
+use Rattle.use_rules.proofs.KeepLaws.{procedures_more}
 use Rattle.use_rules.proofs.macros.arities.Goals as goal
 
 pub loop-i-preserved : goal.loop-i-preserved

@@ -1,13 +1,10 @@
 -- Proves that the first offence of definitions is found, and that they are known then.
-use Rattle.std.proofs.Common.{◌≡◌, ℕ, List, Option, Some, length, get_or, sym, ap, ◌∙◌, subst, arith}
-use Rattle.tla_tree.specs.Tree.{Name, words}
-use Rattle.tla_tree.specs.Pool.{at}
+use Rattle.std.proofs.Common.{◌≡◌, ℕ, List, Some, length, get_or, sym, ap, ◌∙◌, subst, arith}
+use Rattle.tla_tree.specs.Tree.{Name}
 use Rattle.tla_tree.proofs.PoolNumbers.{past_at}
 use Rattle.pcal_tree.specs.declared.algorithm.Definition.{Definition}
-use Rattle.pcal_tree.specs.InMemory.{past_definition, definitions_at}
-use Rattle.pcal_tree.specs.Offences.{first}
+use Rattle.pcal_tree.specs.InMemory.{past_definition}
 use Rattle.pcal_tree.specs.NameUses as names
-use Rattle.pcal_tree.specs.OffencesNames.{in_whole}
 use Rattle.use_rules.proofs.RoutineLaws.{defining_start, defining_step, defining_told, known_inside, inside_latest}
 use Rattle.use_rules.proofs.SeenLaws.{sees_is, latest_all}
 use Rattle.use_rules.proofs.routines.of_definitions.Goals as goal

@@ -9,4 +9,4 @@ pub returns : goal.returns
 returns c = λ s h.
     c.tell.ensures s [] h (none_own _ c.new-own.ensures)
     ∙ told_inside c.new-found.result c.declared.new.self (in_declared (declarations_at c.args.pool.now c.args.list.now)) s s c.new-found.ensures.first c.new-found.ensures.free
-      (inside_empty c.new-found.result.bound s c.new-found.ensures.bound) c.in_ok-declared.ensures
+    (inside_empty c.new-found.result.bound s c.new-found.ensures.bound) c.in_ok-declared.ensures

@@ -1,8 +1,6 @@
 -- Proves that the first offence of all is found.
-use Rattle.std.proofs.Common.{List, ◌++◌, ap, ◌∙◌, arith}
+use Rattle.std.proofs.Common.{◌++◌, ap, ◌∙◌, arith}
 use Rattle.tla_tree.proofs.PoolNumbers.{past_at}
-use Rattle.pcal_tree.specs.declared.algorithm.Declaration.{Declaration}
-use Rattle.pcal_tree.specs.declared.algorithm.Stmt.{Stmt}
 use Rattle.pcal_tree.specs.InMemory.{declarations_at, statements_at, procedure_at, past_procedure, past_declarations, past_statements}
 use Rattle.pcal_tree.specs.Offences.{first}
 use Rattle.pcal_tree.specs.OffencesNames.{in_procedure}

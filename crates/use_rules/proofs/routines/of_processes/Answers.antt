@@ -1,12 +1,8 @@
 -- Proves that the first offence of all is found.
-use Rattle.std.proofs.Common.{List, ◌++◌, ap, ◌∙◌, arith}
+use Rattle.std.proofs.Common.{arith}
 use Rattle.tla_tree.proofs.PoolNumbers.{past_at}
-use Rattle.pcal_tree.specs.declared.algorithm.Declaration.{Declaration}
-use Rattle.pcal_tree.specs.declared.algorithm.Stmt.{Stmt}
-use Rattle.pcal_tree.specs.InMemory.{declarations_at, statements_at, process_at, past_process, past_declarations, past_statements}
-use Rattle.pcal_tree.specs.Offences.{first}
+use Rattle.pcal_tree.specs.InMemory.{process_at, past_process}
 use Rattle.pcal_tree.specs.OffencesNames.{in_process}
-use Rattle.use_rules.specs.Routines.{routine_offences}
 use Rattle.use_rules.proofs.RoutineLaws.{each_next, each_done}
 use Rattle.use_rules.proofs.routines.of_processes.Goals as goal
 

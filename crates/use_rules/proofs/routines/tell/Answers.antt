@@ -1,6 +1,5 @@
 -- Proves that the first offence is told.
 use Rattle.std.proofs.Common.{sym, ◌∙◌}
-use Rattle.tla_tree.specs.Tree.{Word}
 use Rattle.pcal_tree.specs.NameUses as names
 use Rattle.pcal_tree.specs.Offences.{first}
 use Rattle.pcal_tree.specs.laws.MacroUses.{offences_as}

@@ -14,4 +14,4 @@ returns c = λ s h.
     let start : Found = record { first = c.new-found.result.first; free = c.new-found.result.free; bound = c.add_all.new.self } in
     c.tell.ensures s [] h (none_own _ c.new-own.ensures)
     ∙ told_inside start c.expr.new.self (in_whole (at c.args.pool.now c.args.e)) s (seeing_plain xs s) c.new-found.ensures.first c.new-found.ensures.free
-      (inside_params c.new-found.result.bound c.add_all.new.self xs s c.new-found.ensures.bound c.in_ok-add_all.ensures) c.in_ok-expr.ensures
+    (inside_params c.new-found.result.bound c.add_all.new.self xs s c.new-found.ensures.bound c.in_ok-add_all.ensures) c.in_ok-expr.ensures

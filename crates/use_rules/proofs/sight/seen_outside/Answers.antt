@@ -1,7 +1,7 @@
 -- Proves that what is outside is known.
-use Rattle.std.proofs.Common.{List, [], ◌++◌, map, reverse, refl, subst}
+use Rattle.std.proofs.Common.{List, ◌++◌, map, reverse, refl, subst}
 use Rattle.std.specs.List.{flat_map}
-use Rattle.tla_tree.specs.Tree.{Word, Name, words}
+use Rattle.tla_tree.specs.Tree.{Name, words}
 use Rattle.outside_sight.specs.ModulesIn.{AreModules}
 use Rattle.outside_units.specs.declared.passed.Passed.{Passed}
 use Rattle.outside_units.specs.Passing.{passed_seen}
@@ -22,7 +22,7 @@ returns c = λ ts.
     let start : Sight = record { uses = c.new.result; modules = m } in
     let s = always_known (words o.extended.items) in
     let read = subst (λ (ds : List ReadDefinition). Sees c.set_read.new.self (map defined_outside (reverse (map (definition_seen ts) ds)) ++ s)) c.deref-2.ensures.value
-        (c.in_ok-set_read.ensures ts s (always_seen m (words o.extended.items) modules start c.new.ensures.empty refl)) in
+    (c.in_ok-set_read.ensures ts s (always_seen m (words o.extended.items) modules start c.new.ensures.empty refl)) in
     let r = map defined_outside (reverse (map (definition_seen ts) o.definitions.items)) ++ s in
     let placed = subst (λ (xs : List Name). Sees c.set_placed.new.self (map (names.knowing (names.takes 0)) (words xs) ++ r)) c.deref-3.ensures.value (c.in_ok-set_placed.ensures r (names.takes 0) read refl) in
     let q = map (names.knowing (names.takes 0)) (words o.constants.items) ++ r in

@@ -10,7 +10,7 @@ use Rattle.pcal_tree.proofs.StatementHeights.{height, heights, branch_heights, e
 use Rattle.use_rules.specs.declared.found.Found.{Found}
 use Rattle.use_rules.specs.Finding.{Tells}
 use Rattle.use_rules.specs.Walking.{TellsBinds, TellsStmt}
-use Rattle.use_rules.proofs.BodyLaws.{label_tells, simple_tells, if_tells, either_tells, with_tells, while_tells, body_then, body_done, branches_then, branches_over}
+use Rattle.use_rules.proofs.BodyLaws.{label_tells, if_tells, either_tells, with_tells, while_tells, body_then, body_done, branches_then, branches_over}
 use Rattle.use_rules.proofs.found.Found.+bodies.Goals as goal
 
 pub body-loop-stmt-init : goal.body-loop-stmt-init

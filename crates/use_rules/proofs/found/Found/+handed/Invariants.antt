@@ -1,5 +1,4 @@
 -- Why the calls that go through an argument end.
-use Rattle.use_rules.proofs.CallLaws.{shifted}
 use Rattle.use_rules.proofs.found.Found.+handed.Given as goal
 
 abbrev pub decreases-handed : goal.decreases-handed

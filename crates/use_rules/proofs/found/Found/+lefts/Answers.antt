@@ -1,5 +1,5 @@
 -- Proves what is asked of the function that goes through a left side.
-use Rattle.std.proofs.Common.{ℕ, ◌≤◌, ◌<◌, List, length, drop, slice_index_or, sym, ap, ◌∙◌, subst, refl, arith}
+use Rattle.std.proofs.Common.{ℕ, ◌≤◌, ◌<◌, List, length, drop, slice_index_or, sym, ap, ◌∙◌, subst, arith}
 use Rattle.std.proofs.lemmas.List.{get_or_default}
 use Rattle.tla_tree.specs.Pool.{Entry, at, trees_at}
 use Rattle.pcal_tree.specs.InMemory.{past_numbers}

@@ -1,15 +1,14 @@
 -- Proves what is asked of the functions that go through an expression.
-use Rattle.std.proofs.Common.{ℕ, List, length, take, slice_index_or, sym, ap, ◌∙◌, subst, refl, arith}
+use Rattle.std.proofs.Common.{ℕ, List, length, take, slice_index_or, ap, ◌∙◌, subst, refl, arith}
 use Rattle.std.proofs.lemmas.List.{get_or_default}
 use Rattle.tla_tree.specs.Tree.{Form, seen_names}
-use Rattle.tla_tree.specs.Pool.{Entry, AllBelow, trees_at}
-use Rattle.tla_tree.specs.Shapes.{Shaped}
+use Rattle.tla_tree.specs.Pool.{Entry, trees_at}
 use Rattle.tla_tree.proofs.PoolNumbers.{AllBelow-at}
 use Rattle.tla_value.specs.StandardModules.{is_member}
 use Rattle.tla_pool.specs.FormOf.{form_of}
 use Rattle.pcal_tree.specs.OffencesNames.{form_offences, in_parts}
 use Rattle.use_rules.specs.Finding.{Tells, TellsParts}
-use Rattle.use_rules.proofs.TreeLaws.{parts_more, parts_done, node_met}
+use Rattle.use_rules.proofs.TreeLaws.{parts_more, node_met}
 use Rattle.use_rules.proofs.found.Found.+trees.Goals as goal
 
 pub expr-returns : goal.expr-returns

@@ -1,6 +1,5 @@
 -- Proves that what a `with` names is looked at, and bound.
-use Rattle.std.proofs.Common.{List, [], ◌∷◌, refl, sym, subst}
-use Rattle.tla_tree.specs.Tree.{Word}
+use Rattle.std.proofs.Common.{[], ◌∷◌, refl, sym, subst}
 use Rattle.tla_tree.specs.Pool.{at}
 use Rattle.pcal_tree.specs.declared.algorithm.Bind.{Bind}
 use Rattle.pcal_tree.specs.Algorithm.{Name, no_binds}

@@ -1,5 +1,5 @@
 -- Proves that a use is told as what its name may be used as.
-use Rattle.std.proofs.Common.{Some, sym, ◌∙◌, ap, Bool, refl, subst}
+use Rattle.std.proofs.Common.{Some, sym, ◌∙◌, ap, refl, subst}
 use Rattle.std.specs.List.{list_any}
 use Rattle.tla_tree.specs.Tree.{Word}
 use Rattle.algorithm_limits.proofs.Tables.{equal}

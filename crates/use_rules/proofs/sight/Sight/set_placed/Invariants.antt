@@ -1,6 +1,6 @@
 -- What is kept: the first names may be used so, as many as were looked at.
 use Rattle.std.proofs.Common.{◌≡◌, [], ◌∷◌, Some, take}
-use Rattle.tla_tree.specs.Tree.{Word, Name}
+use Rattle.tla_tree.specs.Tree.{Name}
 use Rattle.pcal_tree.specs.NameUses as names
 use Rattle.use_rules.specs.Telling.{use_seen}
 use Rattle.use_rules.specs.Seeing.{Sees}
