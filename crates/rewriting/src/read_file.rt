@@ -1,19 +1,17 @@
 //! A file's algorithm, read in the syntax that it is in; and the file with it in another.
 
-ghost use Rattle.std.specs.Prelude.{◌≡◌, ◌<◌, ◌≤◌, ◌^◌, [], length, codes, nat_eq, None, Some, Err, IfOk, IfErr, if◌then◌else◌};
+ghost use Rattle.std.specs.Prelude.{◌≡◌, ◌<◌, ◌≤◌, ◌^◌, [], length, codes, nat_eq, None, Some, IfOk, IfErr, if◌then◌else◌};
 ghost use Rattle.std.specs.List.{starts_with};
-ghost use Rattle.tla_token.specs.declared.rule.Refusal as refusals;
 ghost use Rattle.tla_token.specs.declared.rule.Stop.TheVariants as stop;
 ghost use Rattle.tla_token.specs.Readings.{IsGivenRefused};
-ghost use Rattle.tla_token.specs.TokensSeen.{tokens_seen};
 ghost use Rattle.tla_tree.specs.Pool.{Keeps};
 ghost use Rattle.tla_expr.specs.Numbers.{NumbersFit};
 ghost use Rattle.pcal_tree.specs.InMemory.{algorithm_at, past_algorithm};
-ghost use Rattle.pcal_tree.specs.Grammar.{p_syntax, c_syntax, Spells};
+ghost use Rattle.pcal_tree.specs.Grammar.{p_syntax, c_syntax};
 ghost use Rattle.pcal_tree.specs.Syntaxes.{syntax_of};
 ghost use Rattle.module_tree.specs.FileOffences.{splitting_offences};
 ghost use Rattle.module_split.specs.Splitting.{Splits};
-ghost use Rattle.algorithm_answer.specs.Answered.{AreAnswered};
+ghost use Rattle.reading_answer.specs.AlgorithmRead.{AlgorithmRead};
 ghost use Rattle.printed_text.specs.Rewrites.{Rewrites};
 ghost use Rattle.file_answer.specs.Refusals.{IsStop};
 ghost use Rattle.file_answer.specs.Spelling.{AnswersRewriting};
@@ -91,11 +89,7 @@ fn algorithm_tokens(alloc: Global, parts: &Parts<'_>) -> Result<Tokens, Stop>
 // The algorithm that these tokens are, in C-syntax or in P-syntax.
 fn read_in(alloc: Global, tokens: &Tokens, is_c: bool, pool: &mut Pool) -> Result<Algorithm, Stop>
     requires { NumbersFit tokens.now }
-    ensures kept { Keeps pool.old pool.new }
-    ensures past { IfOk result (λ a. past_algorithm a ≤ length pool.new) }
-    ensures spelled { IfOk result (λ a. Spells (if is_c then c_syntax else p_syntax) (tokens_seen tokens.now) (algorithm_at pool.new a)) }
-    ensures answered { IfOk result (λ a. AreAnswered (if is_c then c_syntax else p_syntax) (tokens_seen tokens.now) tokens.now.end None) }
-    ensures refused { (r : refusals.Refusal) → result ≡ Err (stop.Refused r) → AreAnswered (if is_c then c_syntax else p_syntax) (tokens_seen tokens.now) tokens.now.end (Some r) }
+    ensures { AlgorithmRead (if is_c then c_syntax else p_syntax) tokens.now pool.old pool.new result }
 {
     if is_c {
         read_c(alloc, tokens, pool)

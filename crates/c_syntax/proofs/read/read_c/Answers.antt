@@ -14,24 +14,19 @@ use Rattle.c_syntax.proofs.read.read_c.Goals as goal
 pub answered-requires : goal.answered-requires
 answered-requires c = below c_syntax read_algorithm read_limited_algorithm reads_within c.args.tokens.now c.read_algorithm-read.new.pool c.read_algorithm-read.result c.read_algorithm-read.ensures.read
 
-pub returns-clause-past : goal.returns-clause-past
-returns-clause-past c = past_there c_syntax read_algorithm read_limited_algorithm reads_within c.args.tokens.now c.read_algorithm-read.new.pool c.read_algorithm-read.result c.read_algorithm-read.ensures.read c.answered.result c.answered.ensures.kept
-
-pub returns-clause-spelled : goal.returns-clause-spelled
-returns-clause-spelled c =
-    spelled_there c_syntax read_algorithm read_limited_algorithm reads_within c.args.tokens.now c.read_algorithm-read.new.pool c.read_algorithm-read.result c.read_algorithm-read.ensures.read c.answered.result c.answered.ensures.kept c.answered.ensures.fine
-
-pub returns-clause-answered : goal.returns-clause-answered
-returns-clause-answered c =
-    answered_there c_syntax read_algorithm read_limited_algorithm reads_within c.args.tokens.now c.read_algorithm-read.new.pool c.read_algorithm-read.result c.read_algorithm-read.ensures.read c.answered.result c.answered.ensures.fine
-
-pub returns-clause-refused : goal.returns-clause-refused
-returns-clause-refused c = λ r e.
-    answers c_syntax read_algorithm read_limited_algorithm reads_within c.args.tokens.now c.read_algorithm-read.new.pool c.read_algorithm-read.result c.read_algorithm-read.ensures.read (Some r) (c.answered.ensures.refused r e)
-
-pub returns-clause-stopped : goal.returns-clause-stopped
-returns-clause-stopped c = λ r e l. late_is_read c_syntax (tokens_seen c.args.tokens.now) c.args.tokens.now.end r (returns-clause-refused c r e) l
-
-pub returns-clause-completed : goal.returns-clause-completed
+pub returns : goal.returns
 unfolding reads_all
-returns-clause-completed c = λ r a. completed_there c_syntax read_algorithm reads_all (views (tokens_seen c.args.tokens.now)) a.passed r.rule a.stops
+returns c =
+    let v = c.args.tokens.now in
+    let new = c.read_algorithm-read.new.pool in
+    let got = c.read_algorithm-read.result in
+    let read = c.read_algorithm-read.ensures.read in
+    record {
+      kept = c.read_algorithm-read.ensures.kept;
+      past = past_there c_syntax read_algorithm read_limited_algorithm reads_within v new got read c.answered.result c.answered.ensures.kept;
+      spelled = spelled_there c_syntax read_algorithm read_limited_algorithm reads_within v new got read c.answered.result c.answered.ensures.kept c.answered.ensures.fine;
+      answered = answered_there c_syntax read_algorithm read_limited_algorithm reads_within v new got read c.answered.result c.answered.ensures.fine;
+      refused = λ r e. answers c_syntax read_algorithm read_limited_algorithm reads_within v new got read (Some r) (c.answered.ensures.refused r e);
+      stopped = λ r e l. late_is_read c_syntax (tokens_seen v) v.end r (answers c_syntax read_algorithm read_limited_algorithm reads_within v new got read (Some r) (c.answered.ensures.refused r e)) l;
+      completed = λ r a. completed_there c_syntax read_algorithm reads_all (views (tokens_seen v)) a.passed r.rule a.stops;
+    }

@@ -1,0 +1,2 @@
+-- What reading an algorithm's tokens answers.
+pub mod AlgorithmRead
