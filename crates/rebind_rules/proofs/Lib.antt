@@ -12,4 +12,5 @@ pub mod NameWords
 pub mod UnitLaws
 pub mod ProcessLaws
 pub mod OutsideLaws
+pub mod WholeLaws
 mod Rows

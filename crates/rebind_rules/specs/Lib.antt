@@ -8,3 +8,4 @@ pub mod Macros
 pub mod Units
 pub mod Processes
 pub mod OutsideWords
+pub mod Whole
