@@ -1,0 +1,13 @@
+-- Proves that a call is looked at.
+use Rattle.std.proofs.Common.{Some, None}
+use Rattle.pcal_tree.specs.OffencesRebind.{any_name}
+use Rattle.rebind_rules.proofs.TellLaws.{adds_none}
+use Rattle.rebind_rules.proofs.PutLaws.{called_adds}
+use Rattle.rebind_rules.proofs.walk.Walk.called.Goals as goal
+
+pub returns-in_ok-put-in-Some : goal.returns-in_ok-put-in-Some
+returns-in_ok-put-in-Some c = λ C ts h e.
+    called_adds c.args.sight.now c.args.keeps.now C c.args.self.now c.put.new.self (Some c.in-Some.kept.now) c.args.name.now ts h c.in-Some.ensures.some (c.in_ok-put-in-Some.ensures ts e)
+
+pub returns-in-None : goal.returns-in-None
+returns-in-None c = λ C ts h e. called_adds c.args.sight.now c.args.keeps.now C c.args.self.now c.args.self.now None c.args.name.now ts h c.in-None.ensures.none (adds_none c.args.sight.now any_name c.args.self.now)

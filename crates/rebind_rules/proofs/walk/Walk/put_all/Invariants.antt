@@ -1,0 +1,13 @@
+-- What is kept: what is left still gives the whole.
+use Rattle.std.proofs.Common.{◌≡◌, drop}
+use Rattle.tla_tree.specs.Tree.{Trees}
+use Rattle.pcal_tree.specs.OffencesRebind.{any_name, putting_in}
+use Rattle.rebind_rules.specs.declared.walk.Walk.{Walk}
+use Rattle.rebind_rules.specs.Gathering.{lists_of, each_pieces}
+use Rattle.rebind_rules.specs.Telling.{held_where, Adds}
+use Rattle.rebind_rules.proofs.walk.Walk.put_all.Given as goal
+
+abbrev pub invariant-loop-binding : goal.invariant-loop-binding
+invariant-loop-binding l =
+    (ts : Trees) → lists_of l.args ≡ each_pieces ts → (k : Walk) → Adds l.sight any_name l.self k (λ ms r. held_where ms (putting_in l.params ts r r) (drop l.binding-index l.list))
+    → Adds l.sight any_name l.fn.self k (λ ms r. held_where ms (putting_in l.params ts r r) l.list)

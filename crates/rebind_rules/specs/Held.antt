@@ -1,0 +1,59 @@
+-- The test for equal things that may offend, and what is hashed of one.
+use Rattle.std.specs.Prelude.{◌≡◌, ◌==◌, Bool, true, false, ◌&&◌, ◌++◌, nat_eq, List}
+use Rattle.std.specs.Bool.{Decides}
+use Rattle.std.specs.Cmp.{IsEquivalence, IsPartialEquivalence}
+use Rattle.std.specs.Cmp.Lexicographic.{pointwise}
+use Rattle.std.specs.Hash as fed
+use Rattle.std.proofs.Common.{ap, subst, refl, eqb-true, eq-eqb, sym}
+use Rattle.std.proofs.lemmas.Bool.{and_parts, and_from}
+use Rattle.tla_tree.specs.Tree.{Word}
+use Rattle.tla_tree.specs.Same.{equivalence_by, partial_by}
+use Rattle.algorithm_limits.proofs.Tables.{equal_is, equal_itself}
+use Rattle.rebind_rules.specs.declared.binding.Binding.{Binding}
+use Rattle.rebind_rules.specs.declared.binding.Binding.TheVariants.{Bound, Standing, Beneath}
+
+abbrev pub same_held : Binding → Binding → Bool
+same_held (Bound x l c) (Bound y m d) = pointwise ◌==◌ x y && (nat_eq l m && nat_eq c d)
+same_held (Standing x) (Standing y) = pointwise ◌==◌ x y
+same_held (Beneath x u) (Beneath y v) = pointwise ◌==◌ x y && pointwise ◌==◌ u v
+same_held _ _ = false
+
+pub held_sound : (a b : Binding) → same_held a b ≡ true → a ≡ b
+held_sound (Bound x l c) (Bound y m d) e =
+    let h = and_parts (pointwise ◌==◌ x y) (nat_eq l m && nat_eq c d) e in
+    let k = and_parts (nat_eq l m) (nat_eq c d) h.1 in
+    λ i. Bound (equal_is x y h.0 i) (eqb-true l m k.0 i) (eqb-true c d k.1 i)
+held_sound (Standing x) (Standing y) e = λ i. Standing (equal_is x y e i)
+held_sound (Beneath x u) (Beneath y v) e =
+    let h = and_parts (pointwise ◌==◌ x y) (pointwise ◌==◌ u v) e in λ i. Beneath (equal_is x y h.0 i) (equal_is u v h.1 i)
+held_sound (Bound x l c) (Standing y) e = cc
+held_sound (Bound x l c) (Beneath y v) e = cc
+held_sound (Standing x) (Bound y m d) e = cc
+held_sound (Standing x) (Beneath y v) e = cc
+held_sound (Beneath x u) (Bound y m d) e = cc
+held_sound (Beneath x u) (Standing y) e = cc
+
+held_itself : (a : Binding) → same_held a a ≡ true
+held_itself (Bound x l c) = and_from (pointwise ◌==◌ x x) (nat_eq l l && nat_eq c c) (equal_itself x) (and_from (nat_eq l l) (nat_eq c c) (eq-eqb l l refl) (eq-eqb c c refl))
+held_itself (Standing x) = equal_itself x
+held_itself (Beneath x u) = and_from (pointwise ◌==◌ x x) (pointwise ◌==◌ u u) (equal_itself x) (equal_itself u)
+
+pub same_held-Decides : (a b : Binding) → Decides (same_held a b) (a ≡ b)
+same_held-Decides a b = (held_sound a b, λ h. subst (λ (z : Binding). same_held a z ≡ true) h (held_itself a))
+
+pub same_equivalence : IsEquivalence same_held
+same_equivalence = equivalence_by same_held same_held-Decides
+
+pub same_partial : IsPartialEquivalence same_held
+same_partial = partial_by same_held same_held-Decides
+
+abbrev fed_word : Word → fed.HashWrites
+fed_word x = fed.slice fed.u8 x
+
+abbrev pub fed_held : Binding → fed.HashWrites
+fed_held (Bound x l c) = fed_word x ++ (fed.u32 l ++ fed.u32 c)
+fed_held (Standing x) = fed_word x
+fed_held (Beneath x u) = fed_word x ++ fed_word u
+
+pub fed_same : (a b : Binding) → same_held a b ≡ true → fed_held a ≡ fed_held b
+fed_same a b h = ap fed_held (held_sound a b h)

@@ -1,0 +1,69 @@
+//! What may offend where a macro is called: names that are bound in it, and names for which other text may be put in.
+
+use std::hash::{Hash, Hasher};
+use tla_tree::Name;
+
+/// What may offend, in a scope.
+#[derive(Drop)]
+pub enum Binding {
+    /// A name that is bound, and the line and column where.
+    Bound(Name, u32, u32),
+    /// A free name, for which other text may be put in.
+    Standing(Name),
+    /// The same where another name is bound.
+    Beneath(Name, Name),
+}
+
+impl PartialEq for Binding {
+    ghost use Rattle.rebind_rules.specs.Held.{same_held, same_partial};
+
+    ghost eq = { same_held };
+
+    ghost laws = { same_partial };
+
+    fn eq(&self, other: &Binding) -> bool {
+        match self {
+            Binding::Bound(a, line, col) => match other {
+                Binding::Bound(b, m, n) => a == b && line == m && col == n,
+                _ => false,
+            },
+            Binding::Standing(a) => match other {
+                Binding::Standing(b) => a == b,
+                _ => false,
+            },
+            Binding::Beneath(a, under) => match other {
+                Binding::Beneath(b, below) => a == b && under == below,
+                _ => false,
+            },
+        }
+    }
+}
+
+impl Eq for Binding {
+    ghost use Rattle.rebind_rules.specs.Held.{same_equivalence};
+
+    ghost laws = { same_equivalence };
+}
+
+impl Hash for Binding {
+    ghost use Rattle.rebind_rules.specs.Held.{fed_held, fed_same};
+
+    ghost hash_input = { fed_held };
+
+    ghost respects_eq = { fed_same };
+
+    fn hash<H: Hasher>(&self, state: &mut H) {
+        match self {
+            Binding::Bound(name, line, col) => {
+                name.hash(state);
+                line.hash(state);
+                col.hash(state);
+            }
+            Binding::Standing(name) => name.hash(state),
+            Binding::Beneath(name, under) => {
+                name.hash(state);
+                under.hash(state);
+            }
+        }
+    }
+}

@@ -1,0 +1,73 @@
+//! What is the same wherever it is looked: which names may not be bound again, and for which names other text may be put in.
+
+ghost use Rattle.std.specs.Prelude.{◌≡◌, ◌==◌, ◌&&◌, not, List, codes};
+ghost use Rattle.std.specs.List.{list_any};
+ghost use Rattle.std.specs.Cmp.Lexicographic.{pointwise};
+ghost use Rattle.tla_token.specs.Words.{is_own as is_own_of};
+ghost use Rattle.tla_tree.specs.Tree.{Word};
+ghost use Rattle.outside_sight.specs.ModulesIn.{AreModules};
+ghost use Rattle.pcal_tree.specs.OffencesRebind.{may_rebind};
+
+use crate::names::Names;
+use algorithm_limits::bound::Bound;
+use outside_sight::modules::Modules;
+use tla_token::word::is_among;
+use tla_tree::Name;
+
+/// The names that the translation defines itself.
+static OWN: [&str; 11] = [
+    "vars",
+    "pc",
+    "stack",
+    "self",
+    "Init",
+    "Next",
+    "Spec",
+    "Terminating",
+    "Termination",
+    "ProcSet",
+    "defaultInitValue",
+];
+
+// Whether the translation defines this name itself.
+fn is_own(word: &[u8]) -> bool
+    ensures { result ≡ is_own_of word.now }
+{
+    is_among(&OWN, word)
+}
+
+/// The standard modules that are extended, the name of a process's identifier, and the names for which other text may be put in.
+#[derive(Drop)]
+pub struct Sight {
+    pub modules: Modules,
+    pub process: Name,
+    pub stands: Bound,
+}
+
+impl Sight {
+    // Whether it is an offence against this rule that a name is bound again; own and standard names are another rule's.
+    #[tactic(auto, using(crate::proofs::ScopeLaws::may_rebind_in))]
+    fn may_rebind(&self, name: &Name) -> bool
+        ensures { (ms : List Word) → AreModules self.now.modules ms → result ≡ may_rebind ms name.now }
+    {
+        !(is_own(name.bytes()) || self.modules.is_standard(name.bytes()))
+    }
+
+    /// Whether a name that is bound offends, where it is in scope or isn't.
+    #[tactic(auto, using(crate::proofs::ScopeLaws::rebinds_in))]
+    pub fn rebinds(&self, in_scope: bool, name: &Name) -> bool
+        ensures { (ms : List Word) → AreModules self.now.modules ms → result ≡ (in_scope && may_rebind ms name.now) }
+    {
+        let counts = self.may_rebind(name);
+        in_scope && counts
+    }
+
+    /// Whether other text may be put in for a name, where these are bound.
+    pub fn lets(&self, bound: &Names, name: &Name) -> bool
+        ensures { result ≡ (list_any (pointwise ◌==◌ name.now) self.now.stands && not (list_any (pointwise ◌==◌ name.now) bound.now)) }
+    {
+        let stands = self.stands.has(name);
+        let is_bound = bound.has(name);
+        stands && !is_bound
+    }
+}
