@@ -1,1 +1,5 @@
 -- Words in which the contracts of this crate are said.
+pub mod PlainPuts
+pub mod Joins
+pub mod Sets
+pub mod UsesIn

@@ -1,6 +1,9 @@
 //! Definitions that are used after what they read was assigned: where an algorithm is refused by that.
 #![tactic(auto)]
 
+pub mod assigned;
+pub mod names;
 pub mod stale;
+pub mod uses;
 
 pub use stale::stale_refusal;
