@@ -3,3 +3,6 @@ pub mod PlainPuts
 pub mod SetLaws
 pub mod PathLaws
 pub mod UseLaws
+pub mod PutLaws
+pub mod WalkLaws
+pub mod StepLaws

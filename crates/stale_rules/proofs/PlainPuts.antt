@@ -10,7 +10,7 @@ use Rattle.pcal_tree.specs.OffencesStale.{jumps_use}
 use Rattle.pcal_tree.specs.Paths.{roots, again, rounds}
 use Rattle.pcal_tree.specs.laws.MacroSpots.{Use, value, left, other, uses, uses_of_all, uses_of_assignments, uses_of_binds, Origin, earlier, assigned, Trail, At, unlabelled, at_label, inside, Seen, on_trail, Called, CallSeen, joined, assigning, one_end, end_of, end_of_some, one_seen, seen_in, seen_in_some, Put, put_origin, put_trail, put_use, put_seen, put_at, put_called, MacroSeen, before_on, seen_from, seen_in_call, seen_in_body, starting}
 use Rattle.pcal_tree.specs.laws.MacroSummaries.{argument}
-use Rattle.stale_rules.specs.PlainPuts.{plain}
+use Rattle.stale_rules.specs.PlainPuts.{plain, way}
 
 -- ---- lists
 
@@ -18,7 +18,7 @@ assigned_kept : (os : List Origin) (xs : List Word) → flat_map (put_origin (pl
 assigned_kept os [] = refl
 assigned_kept os (x ∷ xs) = ap (λ (r : List Origin). assigned x ∷ r) (assigned_kept os xs)
 
-uses_kept : (os : List Origin) (us : List Use) → flat_map (put_use (plain os)) us ≡ us
+pub uses_kept : (os : List Origin) (us : List Use) → flat_map (put_use (plain os)) us ≡ us
 uses_kept os [] = refl
 uses_kept os (value n ∷ us) = ap (λ (r : List Use). value n ∷ r) (uses_kept os us)
 uses_kept os (left n ∷ us) = ap (λ (r : List Use). left n ∷ r) (uses_kept os us)
@@ -33,7 +33,7 @@ seen_put P q (u ∷ us) = ap (λ (r : List Seen). on_trail (put_trail P q) (put_
     on_append q [] vs = refl
     on_append q (u ∷ us) vs = ap (λ (r : List Seen). record { use_of = u; trail = q } ∷ r) (on_append q us vs)
 
-seen_kept : (os : List Origin) (q : Trail) (us : List Use) → flat_map (put_seen (plain os)) (on_trail q us) ≡ on_trail (put_trail (plain os) q) us
+pub seen_kept : (os : List Origin) (q : Trail) (us : List Use) → flat_map (put_seen (plain os)) (on_trail q us) ≡ on_trail (put_trail (plain os) q) us
 seen_kept os q us = seen_put (plain os) q us ∙ ap (on_trail (put_trail (plain os) q)) (uses_kept os us)
 
 -- ---- one put after another
@@ -199,11 +199,7 @@ pub body_put : (S : CallSeen) → Commutes S → (os : List Origin) (ps : List P
     → put_called (plain os) (seen_in_body S ps b s) ≡ seen_in_body S ps b (put_at (plain os) s)
 body_put S c os ps b s = λ i. record { seen = list_seen_put S c os ps b s i; end = end_put S c os b s i }
 
--- the body of a loop where it isn't reached and where it is, after anything
-abbrev pub way : Called → Called → Trail → Called
-way unreached reached None = unreached
-way unreached reached (Some os) = reached
-
+-- the body of a loop after anything
 pub body_any : (S : CallSeen) → Commutes S → (ps : List Procedure) (b : Statements) (q : Trail)
     → put_called (plain (before_on q)) (way (seen_in_body S ps b (starting false None)) (seen_in_body S ps b (starting false (Some (earlier ∷ [])))) q)
     ≡ seen_in_body S ps b (unlabelled q)

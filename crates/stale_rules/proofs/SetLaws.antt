@@ -54,7 +54,7 @@ names_all old new xs i l h f = h f ∙ ap (λ (ys : List Word). list_any f old |
 
 -- ---- what paths have assigned
 
-origins_any : (f : Origin → Bool) (a : Assigned) → list_any f (origins a) ≡ ((a.earlier && f earlier) || list_any (λ x. f (assigned x)) a.names)
+pub origins_any : (f : Origin → Bool) (a : Assigned) → list_any f (origins a) ≡ ((a.earlier && f earlier) || list_any (λ x. f (assigned x)) a.names)
 origins_any f a = by a.earlier
   where
     by : (b : Bool) → list_any f (cond b (earlier ∷ []) [] ++ map assigned a.names) ≡ ((b && f earlier) || list_any (λ x. f (assigned x)) a.names)

@@ -3,3 +3,6 @@ pub mod PlainPuts
 pub mod Joins
 pub mod Sets
 pub mod UsesIn
+pub mod PutIn
+pub mod SeenIn
+pub mod StepsIn

@@ -3,7 +3,10 @@
 
 pub mod assigned;
 pub mod names;
+pub mod put;
 pub mod stale;
+pub mod steps;
 pub mod uses;
+pub mod walk;
 
 pub use stale::stale_refusal;

@@ -2,6 +2,7 @@
 
 ghost use Rattle.std.specs.Prelude.{◌≡◌, ◌<◌, ◌≤◌, [], ◌∷◌, ◌++◌, length, IfOk, OnOk};
 ghost use Rattle.tla_tree.specs.Pool.{at, trees_at, AllBelow};
+ghost use Rattle.pcal_tree.specs.InMemory.{past_numbers};
 ghost use Rattle.pcal_tree.specs.Reads.{named};
 ghost use Rattle.pcal_tree.specs.laws.MacroSpots.{uses, uses_of_all};
 ghost use Rattle.stale_rules.specs.UsesIn.{of_kind, uses_of, uses_as};
@@ -110,5 +111,19 @@ fn add_parts(
     for i in 0..parts.len() {
         add_uses(list, pool, parts[i])?;
     }
+    Ok(())
+}
+
+/// Those of several expressions.
+///
+/// # Errors
+///
+/// Only for want of memory.
+#[tactic(auto, using(pcal_tree::proofs::InMemoryEach::past_all_below))]
+pub fn add_all_uses(list: &mut Vec<Use>, pool: &Pool, es: &[NodeId]) -> Result<(), AllocError>
+    requires { past_numbers es.now ≤ length pool.now }
+    ensures { OnOk result (uses_of list.new.items ≡ uses_of list.old.items ++ uses_of_all (trees_at pool.now es.now)) }
+{
+    add_parts(list, pool, es, pool.len())?;
     Ok(())
 }
