@@ -6,3 +6,7 @@ pub mod UseLaws
 pub mod PutLaws
 pub mod WalkLaws
 pub mod StepLaws
+pub mod BodyLaws
+pub mod StaleLaws
+pub mod OnceLaws
+pub mod KnownLaws

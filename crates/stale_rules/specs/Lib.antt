@@ -6,3 +6,7 @@ pub mod UsesIn
 pub mod PutIn
 pub mod SeenIn
 pub mod StepsIn
+pub mod WaysIn
+pub mod KnownIn
+pub mod BodiesIn
+pub mod MacrosIn

@@ -21,10 +21,10 @@ pub record Begins (w : Walk) (z : At) : Type 0 where
   pub at : Like (at_of w) z
 
 -- a walk goes on where a path leads to another place
-pub record Moves (old new : Walk) (path : Option Assigned) : Type 0 where
+pub record Moves (old new : Walk) (to : Option Assigned) : Type 0 where
   pub seen : new.seen.items ≡ old.seen.items
   pub labelled : new.labelled ≡ false
-  pub path : LikeTrail (trail_of new.path) (trail_of path)
+  pub path : LikeTrail (trail_of new.path) (trail_of to)
 
 abbrev pub Restarts : Ways → Ways → Paths → Type 0
 Restarts old new start = Moves old.unreached new.unreached start.unreached × Moves old.reached new.reached start.reached

@@ -2,11 +2,14 @@
 #![tactic(auto)]
 
 pub mod assigned;
+pub mod bodies;
+pub mod known;
 pub mod names;
 pub mod put;
 pub mod stale;
 pub mod steps;
 pub mod uses;
 pub mod walk;
+pub mod ways;
 
 pub use stale::stale_refusal;

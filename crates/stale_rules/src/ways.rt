@@ -1,10 +1,9 @@
 //! What is seen in statements, where no path leads to them and where one does, at once.
 
-ghost use Rattle.std.specs.Prelude.{◌≡◌, ◌≤◌, None, Some, [], ◌∷◌, length, IfOk, OnOk};
-ghost use Rattle.tla_tree.specs.Pool.{trees_at};
-ghost use Rattle.pcal_tree.specs.InMemory.{past_numbers};
+ghost use Rattle.std.specs.Prelude.{◌≡◌, false, None, Some, [], ◌∷◌, IfOk, OnOk};
 ghost use Rattle.pcal_tree.specs.laws.MacroSpots.{earlier, Called, Trail, unlabelled, at_label, starting};
 ghost use Rattle.pcal_tree.proofs.SpotCalls.{Like};
+ghost use Rattle.stale_rules.specs.BodiesIn.{no_paths};
 ghost use Rattle.stale_rules.specs.SeenIn.{seen_of, at_of, IsLoop, stepping, looping};
 ghost use Rattle.stale_rules.specs.Sets.{trail_of};
 ghost use Rattle.stale_rules.specs.UsesIn.{uses_of};
@@ -24,6 +23,18 @@ pub struct Paths {
     pub unreached: Option<Assigned>,
     /// Where one does.
     pub reached: Option<Assigned>,
+}
+
+impl Paths {
+    /// None leads there.
+    pub fn none() -> Paths
+        ensures { result ≡ no_paths }
+    {
+        Paths {
+            unreached: None,
+            reached: None,
+        }
+    }
 }
 
 impl Walk {
