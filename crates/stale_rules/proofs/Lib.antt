@@ -10,3 +10,4 @@ pub mod BodyLaws
 pub mod StaleLaws
 pub mod OnceLaws
 pub mod KnownLaws
+pub mod JumpLaws

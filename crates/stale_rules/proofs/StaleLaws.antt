@@ -19,7 +19,6 @@ use Rattle.pcal_tree.proofs.SetLaws.{Same, any_flat, any_map, any_same, any_none
 use Rattle.pcal_tree.proofs.SpotCalls.{met, passes, SeenLike}
 use Rattle.pcal_tree.proofs.SpotMacros.{any_turned}
 
-
 -- a name as a use after x was assigned
 abbrev one_test : List Reading → (Refusal → Bool) → Name → Word → Bool
 one_test ds f k x = is_among (through ds k.word) x && f (record { rule = DefinedStale; place = k.place })

@@ -10,3 +10,4 @@ pub mod WaysIn
 pub mod KnownIn
 pub mod BodiesIn
 pub mod MacrosIn
+pub mod JumpsIn

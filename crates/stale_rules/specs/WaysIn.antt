@@ -10,7 +10,6 @@ use Rattle.stale_rules.specs.PlainPuts.{Going}
 use Rattle.stale_rules.specs.SeenIn.{seen_of, at_of, Walks}
 use Rattle.stale_rules.specs.Sets.{trail_of}
 
-
 -- both go on so
 abbrev pub Goes : Ways → Ways → Going → Type 0
 Goes old new f = Walks old.unreached new.unreached f × Walks old.reached new.reached f

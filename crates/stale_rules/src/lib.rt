@@ -3,6 +3,7 @@
 
 pub mod assigned;
 pub mod bodies;
+pub mod jumps;
 pub mod known;
 pub mod names;
 pub mod put;

@@ -86,11 +86,7 @@ pub fn add_binds(list: &mut Vec<Use>, pool: &Pool, binds: &[Bind]) -> Result<(),
 }
 
 // The variables of left sides.
-fn add_roots(
-    names: &mut Names,
-    pool: &Pool,
-    assignments: &[Assignment],
-) -> Result<(), AllocError>
+fn add_roots(names: &mut Names, pool: &Pool, assignments: &[Assignment]) -> Result<(), AllocError>
     requires { greatest (map past_assignment assignments.now) ≤ length pool.now }
     ensures { OnOk result (Joins names.old names.new (roots (assignments_at pool.now assignments.now))) }
 {
@@ -122,11 +118,7 @@ fn add_self(alloc: Global, list: &mut Vec<Use>, place: Place) -> Result<(), Allo
 }
 
 // These names, as uses at a place.
-fn add_others(
-    list: &mut Vec<Use>,
-    names: &[PlacedName],
-    place: Place,
-) -> Result<(), AllocError>
+fn add_others(list: &mut Vec<Use>, names: &[PlacedName], place: Place) -> Result<(), AllocError>
     ensures { OnOk result (uses_of list.new.items ≡ uses_of list.old.items ++ others_at place (words names.now)) }
 {
     for one in names {

@@ -39,12 +39,7 @@ pub struct Use {
 ///
 /// Only for want of memory.
 #[tactic(auto, using(crate::proofs::UseLaws::one_more))]
-pub fn add_use(
-    list: &mut Vec<Use>,
-    kind: Kind,
-    name: &Name,
-    place: Place,
-) -> Result<(), AllocError>
+pub fn add_use(list: &mut Vec<Use>, kind: Kind, name: &Name, place: Place) -> Result<(), AllocError>
     ensures { OnOk result (uses_of list.new.items ≡ uses_of list.old.items ++ of_kind kind (named name.now place) ∷ []) }
 {
     let name = PlacedName {

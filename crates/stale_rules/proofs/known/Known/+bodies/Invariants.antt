@@ -26,9 +26,9 @@ decreases-branches l = 4 * branch_heights l.list.now + 3
 abbrev pub invariant-body-loop-stmt : goal.invariant-body-loop-stmt
 invariant-body-loop-stmt l =
     (ms : List MacroSeen) (ps : List Procedure) → Knows l.self ms ps → (k : Ways) → Goes l.ways k (λ z. seen_in_body (seen_in_call ms) ps (statements_at l.pool (drop l.stmt-index l.stmts)) z)
-        → Goes l.fn.ways k (λ z. seen_in_body (seen_in_call ms) ps (statements_at l.pool l.stmts) z)
+    → Goes l.fn.ways k (λ z. seen_in_body (seen_in_call ms) ps (statements_at l.pool l.stmts) z)
 
 abbrev pub invariant-branches-loop-i : goal.invariant-branches-loop-i
 invariant-branches-loop-i l =
     (ms : List MacroSeen) (ps : List Procedure) → Knows l.self ms ps → (k : Ways) (e : Paths) → Branches l.ways k l.start l.ends e (in_some (seen_in_call ms) ps (branches_at l.pool (drop l.i l.list)))
-        → Branches l.fn.ways k l.start no_paths e (in_some (seen_in_call ms) ps (branches_at l.pool l.list))
+    → Branches l.fn.ways k l.start no_paths e (in_some (seen_in_call ms) ps (branches_at l.pool l.list))
