@@ -224,7 +224,7 @@ with_goes us f a b c d u v w =
 
 -- ---- loops
 
-is_way : (w v : Walk) (z : At) (f : Going) → Begins w z → Walks w v f → IsWay v (f z)
+pub is_way : (w v : Walk) (z : At) (f : Going) → Begins w z → Walks w v f → IsWay v (f z)
 is_way w v z f b h =
     let u = h z b.at in record { end = u.0; seen = λ K. u.1 K ∙ ap (λ (gs : List Group). list_any (passes K) (seen_of gs ++ (f z).seen)) b.seen }
 

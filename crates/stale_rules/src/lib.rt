@@ -5,6 +5,7 @@ pub mod assigned;
 pub mod bodies;
 pub mod jumps;
 pub mod known;
+pub mod macros;
 pub mod names;
 pub mod put;
 pub mod stale;
