@@ -1,1 +1,13 @@
 -- Lemmas of this crate.
+pub mod PlainPuts
+pub mod SetLaws
+pub mod PathLaws
+pub mod UseLaws
+pub mod PutLaws
+pub mod WalkLaws
+pub mod StepLaws
+pub mod BodyLaws
+pub mod StaleLaws
+pub mod OnceLaws
+pub mod KnownLaws
+pub mod JumpLaws

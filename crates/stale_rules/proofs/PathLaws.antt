@@ -1,0 +1,48 @@
+-- Paths in memory, and what is seen on them: what no test tells apart.
+use Rattle.std.proofs.Common.{◌≡◌, Bool, true, false, ◌||◌, List, [], ◌∷◌, ◌++◌, Option, Some, None, refl, sym, ap, ◌∙◌, cond, map, append-nil, append_assoc}
+use Rattle.std.specs.List.{list_any, flat_map}
+use Rattle.std.proofs.lemmas.List.Folds.{list_any-append}
+use Rattle.pcal_tree.proofs.SetLaws.{Same, same_both, any_flat, any_map, any_same, any_none, any_or}
+use Rattle.pcal_tree.proofs.SpotCalls.{LikeTrail, Like, met, passes, SeenLike, like_then}
+use Rattle.pcal_tree.proofs.SpotMacros.{any_turned}
+use Rattle.pcal_tree.specs.Paths.{again, rounds}
+use Rattle.pcal_tree.specs.laws.MacroSpots.{Use, Origin, earlier, assigned, Trail, At, Seen, on_trail, joined, Put, put_origin, put_trail, put_use, put_seen, put_at}
+use Rattle.stale_rules.specs.declared.assigned.Assigned.{Assigned}
+use Rattle.stale_rules.specs.Joins.{Joins}
+use Rattle.stale_rules.specs.Sets.{origins, trail_of}
+
+-- ---- paths
+
+pub like_itself : (q : Trail) → LikeTrail q q
+like_itself None = tt
+like_itself (Some xs) = λ f. refl
+
+pub like_turned : (q r : Trail) → LikeTrail q r → LikeTrail r q
+like_turned None None l = tt
+like_turned (Some xs) (Some ys) l = λ f. sym (l f)
+like_turned None (Some ys) l = absurd l
+like_turned (Some xs) None l = absurd l
+
+pub like_none : LikeTrail (trail_of None) (trail_of None)
+like_none = tt
+
+pub like_copy : (n c a : Assigned) → n.names ≡ [] → n.earlier ≡ false → Joins (origins n) (origins c) (origins a) → LikeTrail (trail_of (Some c)) (trail_of (Some a))
+like_copy n c a e h j f = j f ∙ (λ i. list_any f (cond (h i) (earlier ∷ []) [] ++ map assigned (e i)) || list_any f (origins a))
+
+pub like_join : (a b c : Assigned) → Joins (origins a) (origins c) (origins b) → LikeTrail (trail_of (Some c)) (joined (trail_of (Some a)) (trail_of (Some b)))
+like_join a b c j f = j f ∙ sym (list_any-append f (origins a) (origins b))
+
+pub like_joined : (q r o p : Trail) → LikeTrail q r → LikeTrail o p → LikeTrail (joined q o) (joined r p)
+like_joined None None o p l k = k
+like_joined (Some xs) (Some ys) None None l k = l
+like_joined (Some xs) (Some ys) (Some us) (Some vs) l k = same_both xs ys us vs l k
+like_joined (Some xs) (Some ys) None (Some vs) l k = absurd k
+like_joined (Some xs) (Some ys) (Some us) None l k = absurd k
+like_joined None (Some ys) o p l k = absurd l
+like_joined (Some xs) None o p l k = absurd l
+
+pub joined_after : (q r o : Trail) → joined (joined q r) o ≡ joined q (joined r o)
+joined_after None r o = refl
+joined_after (Some xs) None o = refl
+joined_after (Some xs) (Some ys) None = refl
+joined_after (Some xs) (Some ys) (Some zs) = ap (λ (os : List Origin). Some os) (append_assoc xs ys zs)

@@ -1,0 +1,153 @@
+//! What is seen in statements.
+
+ghost use Rattle.std.specs.Prelude.{◌≤◌, List, length, IfOk, OnOk};
+ghost use Rattle.pcal_tree.specs.Algorithm.{Procedure};
+ghost use Rattle.pcal_tree.specs.InMemory.{simple_at, statements_at, branches_at, past_simple, past_stmt, past_statements, past_branches};
+ghost use Rattle.pcal_tree.specs.laws.MacroSpots.{MacroSeen, seen_in_call, seen_in_body, unlabelled};
+ghost use Rattle.stale_rules.specs.BodiesIn.{one, GoesStmt, in_some, no_paths};
+ghost use Rattle.stale_rules.specs.KnownIn.{Knows};
+ghost use Rattle.stale_rules.specs.WaysIn.{Goes, Branches};
+
+use crate::known::Known;
+use crate::steps::{add_binds, step};
+use crate::uses::add_uses;
+use crate::walk::Ways;
+use crate::ways::Paths;
+use pcal_tree::algorithm::{Simple, Stmt};
+use std::alloc::{AllocError, Global};
+use tla_pool::Pool;
+use tla_token::Place;
+
+impl Known {
+    // A statement that has none in it.
+    fn simple(
+        &self,
+        alloc: Global,
+        pool: &Pool,
+        ways: &mut Ways,
+        place: Place,
+        simple: &Simple,
+    ) -> Result<(), AllocError>
+        requires { past_simple simple.now ≤ length pool.now }
+        ensures { OnOk result ((ms : List MacroSeen) (ps : List Procedure) → Knows self.now ms ps → Goes ways.old ways.new (one (seen_in_call ms) ps place (simple_at pool.now simple.now))) }
+    {
+        match simple {
+            Simple::Macro(name, args) => self.call(alloc, pool, ways, name, args)?,
+            _ => {
+                let step = step(alloc, pool, &self.jumps, place, simple)?;
+                ways.pass(alloc, pool, &step)?;
+            }
+        }
+        Ok(())
+    }
+
+    // A statement.
+    #[cycle(bodies)]
+    fn stmt(
+        &self,
+        alloc: Global,
+        pool: &Pool,
+        ways: &mut Ways,
+        stmt: &Stmt,
+    ) -> Result<(), AllocError>
+        requires { past_stmt stmt.now ≤ length pool.now }
+        ensures { OnOk result ((ms : List MacroSeen) (ps : List Procedure) → Knows self.now ms ps → GoesStmt (seen_in_call ms) ps pool.now stmt.now ways.old ways.new) }
+    {
+        match stmt {
+            Stmt::Label(_, _) => ways.begin(alloc),
+            Stmt::Simple(span, simple) => self.simple(alloc, pool, ways, span.first, simple)?,
+            Stmt::If(_, e, then, otherwise) => {
+                let mut uses = Vec::new(alloc);
+                add_uses(&mut uses, pool, *e)?;
+                ways.pass_uses(alloc, pool, uses)?;
+                let start = ways.take_paths();
+                let first = self.fork(alloc, pool, ways, &start, Paths::none(), then)?;
+                let ends = self.fork(alloc, pool, ways, &start, first, otherwise)?;
+                ways.end(ends);
+            }
+            Stmt::Either(_, list) => {
+                ways.pass_uses(alloc, pool, Vec::new(alloc))?;
+                let start = ways.take_paths();
+                let ends = self.branches(alloc, pool, ways, &start, list)?;
+                ways.end(ends);
+            }
+            Stmt::With(_, binds, body) => {
+                let mut uses = Vec::new(alloc);
+                add_binds(&mut uses, pool, binds)?;
+                ways.pass_uses(alloc, pool, uses)?;
+                self.body(alloc, pool, ways, body)?;
+                ways.unlabel();
+            }
+            Stmt::While(_, e, body) => {
+                let mut uses = Vec::new(alloc);
+                add_uses(&mut uses, pool, *e)?;
+                let mut inner = Ways::new(alloc, false);
+                self.body(alloc, pool, &mut inner, body)?;
+                ways.go_round(alloc, pool, &uses, &inner)?;
+            }
+        }
+        Ok(())
+    }
+
+    // A branch, from where these paths lead; its end is joined to those of the branches before.
+    #[cycle(bodies)]
+    fn fork(
+        &self,
+        alloc: Global,
+        pool: &Pool,
+        ways: &mut Ways,
+        start: &Paths,
+        before: Paths,
+        body: &[Stmt],
+    ) -> Result<Paths, AllocError>
+        requires { past_statements body.now ≤ length pool.now }
+        ensures { IfOk result (λ r. (ms : List MacroSeen) (ps : List Procedure) → Knows self.now ms ps → Branches ways.old ways.new start.now before r (λ q. seen_in_body (seen_in_call ms) ps (statements_at pool.now body.now) (unlabelled q))) }
+    {
+        ways.restart(alloc, start)?;
+        self.body(alloc, pool, ways, body)?;
+        let ends = ways.join_ends(before)?;
+        Ok(ends)
+    }
+
+    // All branches of a statement, and their ends.
+    #[cycle(bodies)]
+    fn branches(
+        &self,
+        alloc: Global,
+        pool: &Pool,
+        ways: &mut Ways,
+        start: &Paths,
+        list: &[Vec<Stmt>],
+    ) -> Result<Paths, AllocError>
+        requires { past_branches list.now ≤ length pool.now }
+        ensures { IfOk result (λ r. (ms : List MacroSeen) (ps : List Procedure) → Knows self.now ms ps → Branches ways.old ways.new start.now no_paths r (in_some (seen_in_call ms) ps (branches_at pool.now list.now))) }
+    {
+        let mut ends = Paths::none();
+        for i in 0..list.len() {
+            ends = self.fork(alloc, pool, ways, start, ends, &list[i])?;
+        }
+        Ok(ends)
+    }
+
+    /// A list of statements. It calls itself as deep as statements are in statements.
+    ///
+    /// # Errors
+    ///
+    /// Only for want of memory.
+    #[cycle(bodies)]
+    pub fn body(
+        &self,
+        alloc: Global,
+        pool: &Pool,
+        ways: &mut Ways,
+        stmts: &[Stmt],
+    ) -> Result<(), AllocError>
+        requires { past_statements stmts.now ≤ length pool.now }
+        ensures { OnOk result ((ms : List MacroSeen) (ps : List Procedure) → Knows self.now ms ps → Goes ways.old ways.new (λ z. seen_in_body (seen_in_call ms) ps (statements_at pool.now stmts.now) z)) }
+    {
+        for stmt in stmts {
+            self.stmt(alloc, pool, ways, stmt)?;
+        }
+        Ok(())
+    }
+}

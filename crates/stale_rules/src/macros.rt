@@ -1,0 +1,75 @@
+//! What is seen in macros.
+
+ghost use Rattle.std.specs.Prelude.{◌≡◌, ◌≤◌, List, length, map, reverse, IfOk};
+ghost use Rattle.tla_tree.specs.Nesting.{greatest};
+ghost use Rattle.pcal_tree.specs.Algorithm.{Procedure};
+ghost use Rattle.pcal_tree.specs.InMemory.{macro_at, past_macro};
+ghost use Rattle.pcal_tree.specs.laws.MacroSpots.{MacroSeen, macros_seen};
+ghost use Rattle.stale_rules.specs.KnownIn.{IsSummary, Knows};
+ghost use Rattle.stale_rules.specs.MacrosIn.{macro_seen};
+ghost use Rattle.stale_rules.specs.StepsIn.{AreJumps};
+
+use crate::known::{Known, Summary};
+use crate::steps::Jump;
+use crate::walk::Ways;
+use algorithm_limits::table::Table;
+use pcal_tree::algorithm::Macro;
+use std::alloc::{AllocError, Global};
+use tla_pool::Pool;
+use tla_tree::PlacedName;
+
+// The same names once more.
+fn copied_names(alloc: Global, names: &[PlacedName]) -> Result<Vec<PlacedName>, AllocError>
+    ensures { IfOk result (λ r. r.items ≡ names.now) }
+{
+    let mut list = Vec::new(alloc);
+    for one in names {
+        list.push(one.copied()?)?;
+    }
+    Ok(list)
+}
+
+// What is seen in a macro, by what is known of the older ones.
+fn summary(alloc: Global, pool: &Pool, known: &Known, one: &Macro) -> Result<Summary, AllocError>
+    requires { past_macro one.now ≤ length pool.now }
+    ensures { IfOk result (λ r. (ms : List MacroSeen) (ps : List Procedure) → Knows known.now ms ps → IsSummary r (macro_seen ps ms (macro_at pool.now one.now))) }
+{
+    let mut plain = Ways::new(alloc, false);
+    known.body(alloc, pool, &mut plain, &one.body)?;
+    let mut labelled = Ways::new(alloc, true);
+    known.body(alloc, pool, &mut labelled, &one.body)?;
+    Ok(Summary {
+        params: copied_names(alloc, &one.params)?,
+        plain,
+        labelled,
+    })
+}
+
+/// What is seen in macros, where this is what calls of procedures use.
+///
+/// # Errors
+///
+/// Only for want of memory.
+pub fn known_macros(
+    alloc: Global,
+    pool: &Pool,
+    macros: &[Macro],
+    jumps: Vec<Jump>,
+) -> Result<Known, AllocError>
+    requires { greatest (map past_macro macros.now) ≤ length pool.now }
+    ensures { IfOk result (λ r. (ps : List Procedure) → AreJumps jumps.items ps → Knows r (macros_seen ps (reverse (map (macro_at pool.now) macros.now))) ps) }
+{
+    let mut known = Known {
+        numbers: Table::new(alloc),
+        summaries: Vec::new(alloc),
+        jumps,
+    };
+    for one in macros {
+        let summary = summary(alloc, pool, &known, one)?;
+        known.summaries.push(summary)?;
+        let summaries = known.summaries.as_slice();
+        let number = summaries.len();
+        known.numbers.set(one.name.name.copied()?, number)?;
+    }
+    Ok(known)
+}
