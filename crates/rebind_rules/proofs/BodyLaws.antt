@@ -1,10 +1,10 @@
 -- What statements offend, one after another.
 use Rattle.std.proofs.Common.{◌≡◌, ℕ, ◌+◌, ◌<◌, ◌≤◌, Bool, List, [], ◌∷◌, ◌++◌, length, take, drop, map, get_or, Vec, Global, refl, sym, ap, ◌∙◌, subst, append-nil, append_assoc}
 use Rattle.std.specs.List.{flat_map}
-use Rattle.std.proofs.lemmas.List.{drop_more, drop_all, take_more, take_all, map-append}
+use Rattle.std.proofs.lemmas.List.{drop_more, drop_all}
 use Rattle.tla_token.specs.declared.rule.Refusal.{Refusal}
 use Rattle.tla_tree.specs.Tree.{Word, Name, Tree, words}
-use Rattle.tla_tree.specs.Pool.{at, trees_at}
+use Rattle.tla_tree.specs.Pool.{at}
 use Rattle.pcal_tree.specs.declared.mark.Mark.{Mark}
 use Rattle.pcal_tree.specs.declared.algorithm.Span.{Span}
 use Rattle.pcal_tree.specs.declared.algorithm.Assignment.{Assignment}
@@ -24,10 +24,10 @@ use Rattle.algorithm_limits.specs.DepthsIn.{Hides}
 use Rattle.algorithm_limits.proofs.BoundLemmas.{hides_none, hides_then, hides_as}
 use Rattle.rebind_rules.specs.declared.sight.Sight.{Sight}
 use Rattle.rebind_rules.specs.declared.walk.Walk.{Walk}
-use Rattle.rebind_rules.specs.Telling.{told, Around, Seen, Adds, AddsNaming}
+use Rattle.rebind_rules.specs.Telling.{told, Adds, AddsNaming}
 use Rattle.rebind_rules.specs.Bodies.{bind_name, bind_number, AddsBind, AddsBinds, AddsStmt}
 use Rattle.rebind_rules.proofs.ScopeLaws.{around_hides}
-use Rattle.rebind_rules.proofs.TellLaws.{first_same_after, first_then, adds_none, adds_as, adds_then, adds_within}
+use Rattle.rebind_rules.proofs.TellLaws.{first_then, adds_none, adds_as, adds_then, adds_within}
 
 -- ---- first values
 

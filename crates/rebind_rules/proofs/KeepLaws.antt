@@ -1,5 +1,5 @@
 -- What is kept of macros and procedures, as more is kept.
-use Rattle.std.proofs.Common.{◌≡◌, ℕ, ◌+◌, ◌<◌, length, take, get_or, Bool, true, false, ◌||◌, List, [], ◌∷◌, ◌++◌, Option, Some, None, refl, sym, ap, ◌∙◌, subst, cond, bytes_eq, codes, true≢false}
+use Rattle.std.proofs.Common.{◌≡◌, ℕ, ◌+◌, ◌<◌, length, take, get_or, Bool, true, false, List, [], ◌∷◌, ◌++◌, Option, Some, None, refl, sym, ap, ◌∙◌, subst, cond, bytes_eq, codes, true≢false}
 use Rattle.std.specs.Prelude.{if◌then◌else◌}
 use Rattle.std.specs.Map.{lookup}
 use Rattle.std.proofs.lemmas.List.{take_more}
@@ -14,12 +14,11 @@ use Rattle.outside_sight.specs.ModulesIn.{AreModules}
 use Rattle.pcal_tree.specs.Offences.{first}
 use Rattle.pcal_tree.proofs.RebindNames.{around_none}
 use Rattle.pcal_tree.specs.OffencesRebind.{Standings, naming, brought, rebound_all, any_name, bound_by, Calls, putting_in}
-use Rattle.rebind_rules.specs.declared.binding.Binding.{Binding}
 use Rattle.rebind_rules.specs.declared.sight.Sight.{Sight}
 use Rattle.rebind_rules.specs.declared.walk.Walk.{Walk}
 use Rattle.rebind_rules.specs.declared.kept.Kept.{Kept}
 use Rattle.rebind_rules.specs.declared.kept.Keeps.{Keeps}
-use Rattle.rebind_rules.specs.Telling.{sure, held_where, told, Around, Lets, Seen, Adds}
+use Rattle.rebind_rules.specs.Telling.{sure, held_where, told, Around, Lets, Adds}
 use Rattle.algorithm_limits.specs.DepthsIn.{Hides}
 use Rattle.rebind_rules.proofs.TellLaws.{adds_as, adds_then, adds_within, naming_alone}
 use Rattle.rebind_rules.specs.Keeping.{Within, kept_by, kept_tells, Tells, Means}

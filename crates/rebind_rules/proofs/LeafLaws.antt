@@ -1,5 +1,5 @@
 -- What one name offends, that is bound or for which other text may be put in.
-use Rattle.std.proofs.Common.{◌≡◌, ℕ, ◌+◌, ◌<◌, ◌≤◌, length, drop, get_or, Bool, true, false, not, ◌&&◌, ◌||◌, List, [], ◌∷◌, ◌++◌, map, Option, cond, codes, refl, sym, ap, ◌∙◌, append-nil, append_assoc}
+use Rattle.std.proofs.Common.{◌≡◌, ℕ, ◌+◌, ◌<◌, ◌≤◌, length, drop, get_or, Bool, true, false, not, ◌&&◌, ◌||◌, List, [], ◌∷◌, ◌++◌, map, Option, cond, refl, sym, ap, ◌∙◌, append-nil, append_assoc}
 use Rattle.std.specs.Prelude.{if◌then◌else◌}
 use Rattle.std.specs.List.{list_any, flat_map}
 use Rattle.std.proofs.lemmas.Bool.{and_parts}
@@ -17,18 +17,17 @@ use Rattle.algorithm_answer.proofs.Joins.{first_append}
 use Rattle.outside_sight.specs.ModulesIn.{AreModules}
 use Rattle.pcal_tree.specs.Offences.{offence_if, first}
 use Rattle.pcal_tree.specs.OffencesRebind.{Standings, naming, in_scope, brought, may_rebind, rebound, rebound_all}
-use Rattle.pcal_tree.specs.laws.MacroSummaries.{union}
-use Rattle.pcal_tree.specs.laws.MacroBindings.{standing, beneath, offences_where, none_found, unsettled, bound_inside, standing_inside, beneath_inside, offences_seen}
+use Rattle.pcal_tree.specs.laws.MacroBindings.{standing, beneath, offences_where, none_found, unsettled, bound_inside, standing_inside, offences_seen}
 use Rattle.pcal_tree.proofs.FirstLaws.{same_first}
 use Rattle.pcal_tree.proofs.SetLaws.{any_flat, any_union}
-use Rattle.pcal_tree.proofs.RebindNames.{scope_of_names, says_bound, says_standing, says_beneath}
+use Rattle.pcal_tree.proofs.RebindNames.{scope_of_names, says_bound, says_standing}
 use Rattle.rebind_rules.specs.Held.{same_held, held_sound}
 use Rattle.rebind_rules.specs.declared.binding.Binding.{Binding}
 use Rattle.rebind_rules.specs.declared.sight.Sight.{Sight}
 use Rattle.rebind_rules.specs.declared.walk.Walk.{Walk}
 use Rattle.rebind_rules.specs.Telling.{binding_of, sure, held_where, told, Seen, Gains, Adds}
 use Rattle.rebind_rules.proofs.ScopeLaws.{among_any}
-use Rattle.rebind_rules.proofs.TellLaws.{first_same_after, first_then, first_sure, adds_none, adds_as, gains_adds}
+use Rattle.rebind_rules.proofs.TellLaws.{first_same_after, first_then, first_sure, gains_adds}
 
 -- ---- an offence
 

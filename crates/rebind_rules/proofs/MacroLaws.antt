@@ -1,7 +1,7 @@
 -- What is kept of macros one after another, and of procedures from the last one on.
-use Rattle.std.proofs.Common.{◌≡◌, ℕ, zero, suc, ◌+◌, ◌-◌, ◌<◌, ◌≤◌, Bool, true, false, ◌||◌, List, [], ◌∷◌, ◌++◌, length, take, drop, map, reverse, get_or, refl, sym, ap, ◌∙◌, subst, arith, cond, bytes_eq, codes}
-use Rattle.std.specs.List.{list_any, flat_map}
-use Rattle.std.proofs.lemmas.List.{drop_more, take_more, take_all, map-append, reverse-append}
+use Rattle.std.proofs.Common.{◌≡◌, ℕ, zero, suc, ◌+◌, ◌-◌, ◌<◌, Bool, true, false, ◌||◌, List, [], ◌∷◌, ◌++◌, length, take, drop, map, reverse, get_or, refl, sym, ap, ◌∙◌, subst, arith, cond, bytes_eq, codes}
+use Rattle.std.specs.List.{list_any}
+use Rattle.std.proofs.lemmas.List.{drop_more, take_more, map-append, reverse-append}
 use Rattle.std.proofs.lemmas.List.Folds.{list_any-append}
 use Rattle.std.proofs.lemmas.Bool.{or_left, or_right}
 use Rattle.indexmap.specs.IndexMap.{insert_entry}
@@ -16,7 +16,7 @@ use Rattle.pcal_tree.specs.declared.algorithm.Procedure as declared_procedure
 use Rattle.pcal_tree.specs.Algorithm.{Macro, Procedure}
 use Rattle.pcal_tree.specs.InMemory.{macro_at, procedure_at}
 use Rattle.pcal_tree.specs.Offences.{first}
-use Rattle.pcal_tree.specs.OffencesRebind.{Standings, naming, brought, rebound_all, any_name, self_alone, Calls, starts_rebind, call_rebinds, body_rebinds, putting_in, macro_rebinds, texts_rebind}
+use Rattle.pcal_tree.specs.OffencesRebind.{Standings, naming, brought, rebound_all, any_name, self_alone, Calls, starts_rebind, call_rebinds, body_rebinds, macro_rebinds, texts_rebind}
 use Rattle.pcal_tree.proofs.FirstLaws.{same_first}
 use Rattle.pcal_tree.proofs.SetLaws.{among_flat}
 use Rattle.rebind_rules.specs.declared.sight.Sight.{Sight}
@@ -25,7 +25,7 @@ use Rattle.rebind_rules.specs.declared.kept.Kept.{Kept}
 use Rattle.rebind_rules.specs.declared.kept.Keeps.{Keeps}
 use Rattle.rebind_rules.specs.declared.kept.Calls as kept
 use Rattle.rebind_rules.specs.Telling.{told, Lets, Seen, Adds}
-use Rattle.rebind_rules.specs.Keeping.{Within, Tells, Means, Knows, KnowsCalls}
+use Rattle.rebind_rules.specs.Keeping.{Within, Tells, Means, KnowsCalls}
 use Rattle.rebind_rules.specs.Macros.{macro_names, Ready, MacrosAt}
 use Rattle.rebind_rules.proofs.TellLaws.{first_same_before, adds_none, adds_then}
 use Rattle.rebind_rules.proofs.PutLaws.{lets_here}

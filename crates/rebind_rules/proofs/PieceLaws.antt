@@ -3,7 +3,7 @@ use Rattle.std.proofs.Common.{◌≡◌, ℕ, zero, suc, ◌+◌, ◌<◌, ◌�
 use Rattle.std.specs.Prelude.{◌==◌}
 use Rattle.std.specs.List.{list_any, flat_map}
 use Rattle.std.specs.Cmp.Lexicographic.{pointwise}
-use Rattle.std.proofs.lemmas.List.{drop_more, drop_all, take_more, take_all, map-append}
+use Rattle.std.proofs.lemmas.List.{drop_more, drop_all, take_more, map-append}
 use Rattle.tla_tree.specs.Tree.{Word, Name, Form, binding, local, Tree, Trees, no_trees, tree, seen_names}
 use Rattle.tla_tree.specs.declared.op.Binder.{Binder}
 use Rattle.tla_tree.specs.Shapes.{Shaped}
@@ -19,7 +19,7 @@ use Rattle.pcal_tree.specs.BoundNames.{all_of}
 use Rattle.pcal_tree.specs.OffencesRebind.{Piece, binds, frees, free_piece, pieces, pieces_in}
 use Rattle.rebind_rules.specs.declared.pieces.Piece as declared
 use Rattle.rebind_rules.specs.declared.pieces.Pieces.{Pieces}
-use Rattle.rebind_rules.specs.Gathering.{piece_of, list_of, lists_of, each_pieces, own_pieces, form_pieces, Gathers, GathersParts}
+use Rattle.rebind_rules.specs.Gathering.{piece_of, list_of, each_pieces, own_pieces, form_pieces, Gathers, GathersParts}
 
 -- ---- one after another
 

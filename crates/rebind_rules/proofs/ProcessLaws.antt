@@ -1,5 +1,5 @@
 -- What a process offends.
-use Rattle.std.proofs.Common.{◌≡◌, ℕ, Bool, true, false, ◌||◌, List, [], ◌∷◌, ◌++◌, length, take, map, refl, sym, ap, ◌∙◌, subst, cond, bytes_eq, codes}
+use Rattle.std.proofs.Common.{◌≡◌, Bool, true, false, List, [], ◌∷◌, ◌++◌, length, take, refl, sym, ap, ◌∙◌, subst, cond, bytes_eq, codes}
 use Rattle.std.specs.List.{flat_map}
 use Rattle.tla_token.specs.declared.rule.Refusal.{Refusal}
 use Rattle.tla_token.specs.Signs.{is_among}
@@ -16,9 +16,9 @@ use Rattle.pcal_tree.specs.OffencesRebind.{Standings, stands_for, naming, brough
 use Rattle.rebind_rules.specs.declared.sight.Sight.{Sight}
 use Rattle.rebind_rules.specs.declared.walk.Walk.{Walk}
 use Rattle.rebind_rules.specs.Telling.{told, Lets, Seen, Adds, AddsNaming}
-use Rattle.rebind_rules.specs.Keeping.{Within, Tells}
+use Rattle.rebind_rules.specs.Keeping.{Tells}
 use Rattle.rebind_rules.specs.Processes.{body_scope, Singles}
-use Rattle.rebind_rules.proofs.TellLaws.{first_same_before, adds_as, adds_then, adds_within}
+use Rattle.rebind_rules.proofs.TellLaws.{adds_then, adds_within}
 use Rattle.rebind_rules.proofs.PutLaws.{lets_here}
 use Rattle.rebind_rules.proofs.MacroLaws.{adds_first}
 use Rattle.rebind_rules.proofs.UnitLaws.{LocalWords, local_words}

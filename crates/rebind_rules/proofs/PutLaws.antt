@@ -1,14 +1,13 @@
 -- What is put in where something is called, and what is kept of what is called.
-use Rattle.std.proofs.Common.{◌≡◌, ℕ, zero, suc, arith, ◌+◌, ◌<◌, ◌≤◌, Bool, true, false, ◌&&◌, ◌||◌, List, [], ◌∷◌, ◌++◌, length, drop, map, get_or, Vec, Global, Option, Some, None, IsTrue, ◌↔◌, refl, sym, ap, ◌∙◌, subst, cond, bytes_eq, append-nil, true≢false}
-use Rattle.std.specs.List.{list_any, flat_map}
+use Rattle.std.proofs.Common.{◌≡◌, ℕ, zero, suc, arith, ◌+◌, ◌<◌, ◌≤◌, Bool, true, false, ◌&&◌, ◌||◌, List, [], ◌∷◌, ◌++◌, length, drop, get_or, Vec, Global, Option, Some, None, IsTrue, ◌↔◌, refl, sym, ap, ◌∙◌, cond, bytes_eq, append-nil}
+use Rattle.std.specs.List.{flat_map}
 use Rattle.std.proofs.lemmas.List.{drop_more, drop_all}
 use Rattle.std.proofs.lemmas.Grind.{flat_map-append}
 use Rattle.std.proofs.lemmas.Slice.Eq.{bytes_eq-Decides}
-use Rattle.std.proofs.lemmas.Bool.{or_right}
 use Rattle.tla_token.specs.declared.rule.Rule.TheVariants.{Rebind}
 use Rattle.tla_token.specs.declared.rule.Refusal.{Refusal}
 use Rattle.tla_token.specs.Signs.{is_among}
-use Rattle.tla_tree.specs.Tree.{Word, Name, Trees, no_trees, tree, words}
+use Rattle.tla_tree.specs.Tree.{Word, Name, Trees, no_trees, tree}
 use Rattle.outside_sight.specs.ModulesIn.{AreModules}
 use Rattle.pcal_tree.specs.Offences.{offence_if, first}
 use Rattle.pcal_tree.specs.OffencesRebind.{Standings, naming, in_scope, brought, may_rebind, rebound, rebound_all, any_name, Piece, binds, frees, pieces, piece_names, bound_by, Calls, putting_in}
@@ -18,11 +17,11 @@ use Rattle.rebind_rules.specs.declared.sight.Sight.{Sight}
 use Rattle.rebind_rules.specs.declared.walk.Walk.{Walk}
 use Rattle.rebind_rules.specs.declared.kept.Kept.{Kept}
 use Rattle.rebind_rules.specs.declared.kept.Keeps.{Keeps}
-use Rattle.rebind_rules.specs.Telling.{sure, told, Around, Lets, Seen, Gains, Adds}
+use Rattle.rebind_rules.specs.Telling.{sure, told, Lets, Seen, Gains, Adds}
 use Rattle.rebind_rules.specs.Gathering.{piece_of, list_of, lists_of, each_pieces}
 use Rattle.rebind_rules.specs.Keeping.{argument_of, Within, kept_by, kept_tells, Knows}
 use Rattle.algorithm_answer.specs.Joined.{joined}
-use Rattle.rebind_rules.proofs.TellLaws.{first_same_before, first_sure, adds_as, adds_then, gains_adds}
+use Rattle.rebind_rules.proofs.TellLaws.{first_same_before, first_sure, adds_then, gains_adds}
 use Rattle.rebind_rules.proofs.LeafLaws.{put_seen, gains_first}
 
 -- ---- where arguments are put in

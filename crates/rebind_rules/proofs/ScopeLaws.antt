@@ -1,8 +1,8 @@
 -- Names that may not be bound again, and scopes with more names around.
-use Rattle.std.proofs.Common.{◌≡◌, Bool, true, false, not, ◌||◌, ◌&&◌, List, [], ◌∷◌, ◌++◌, cond, refl, sym, ap, ◌∙◌, subst}
+use Rattle.std.proofs.Common.{◌≡◌, Bool, not, ◌||◌, ◌&&◌, List, [], ◌∷◌, ◌++◌, cond, refl, sym, ap, ◌∙◌}
 use Rattle.std.specs.List.{list_any}
 use Rattle.tla_token.specs.Signs.{is_among}
-use Rattle.tla_token.specs.Words.{is_own, is_standard}
+use Rattle.tla_token.specs.Words.{is_own}
 use Rattle.tla_tree.specs.Tree.{Word}
 use Rattle.algorithm_limits.specs.DepthsIn.{Hides}
 use Rattle.algorithm_limits.proofs.Tables.{equal, same_test}

@@ -5,10 +5,10 @@ use Rattle.std.proofs.lemmas.List.{drop_more, drop_all}
 use Rattle.tla_token.specs.declared.rule.Refusal.{Refusal}
 use Rattle.tla_tree.specs.Tree.{Word}
 use Rattle.algorithm_limits.specs.DepthsIn.{Hides}
-use Rattle.algorithm_limits.proofs.BoundLemmas.{first_kept, hides_none, hides_then, hides_as}
+use Rattle.algorithm_limits.proofs.BoundLemmas.{first_kept}
 use Rattle.algorithm_answer.specs.Joined.{joined}
-use Rattle.algorithm_answer.proofs.Joins.{joined_assoc, joined_none, first_append}
-use Rattle.pcal_tree.specs.Offences.{sooner, first}
+use Rattle.algorithm_answer.proofs.Joins.{first_append}
+use Rattle.pcal_tree.specs.Offences.{first}
 use Rattle.pcal_tree.specs.OffencesRebind.{Standings, naming}
 use Rattle.rebind_rules.specs.declared.sight.Sight.{Sight}
 use Rattle.rebind_rules.specs.declared.walk.Walk.{Walk}

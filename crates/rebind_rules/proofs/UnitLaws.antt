@@ -1,7 +1,6 @@
 -- What is declared and defined, and bodies where they stand.
-use Rattle.std.proofs.Common.{◌≡◌, ℕ, ◌+◌, ◌<◌, ◌≤◌, Bool, List, [], ◌∷◌, ◌++◌, length, take, drop, map, get_or, refl, sym, ap, ◌∙◌, subst, append-nil, append_assoc}
-use Rattle.std.specs.List.{flat_map}
-use Rattle.std.proofs.lemmas.List.{drop_more, drop_all, take_more, take_all, map-append}
+use Rattle.std.proofs.Common.{◌≡◌, ℕ, ◌+◌, ◌<◌, ◌≤◌, List, [], ◌∷◌, ◌++◌, length, take, drop, map, get_or, refl, sym, ap, ◌∙◌, subst, append-nil, append_assoc}
+use Rattle.std.proofs.lemmas.List.{drop_more, drop_all, map-append}
 use Rattle.std.proofs.lemmas.Grind.{flat_map-append}
 use Rattle.tla_token.specs.declared.rule.Refusal.{Refusal}
 use Rattle.tla_tree.specs.Tree.{Word, Name, Tree, words}
@@ -10,16 +9,16 @@ use Rattle.pcal_tree.specs.declared.algorithm.Declaration as memory
 use Rattle.pcal_tree.specs.declared.algorithm.Definition as memory_definition
 use Rattle.pcal_tree.specs.declared.algorithm.Procedure as memory_procedure
 use Rattle.pcal_tree.specs.Algorithm.{Declaration, Definition, Procedure}
-use Rattle.pcal_tree.specs.InMemory.{statements_at, declarations_at, definition_at, definitions_at, procedure_at}
+use Rattle.pcal_tree.specs.InMemory.{statements_at, declarations_at, definitions_at, procedure_at}
 use Rattle.pcal_tree.specs.Offences.{first}
 use Rattle.pcal_tree.specs.OffencesNames.{names_of}
 use Rattle.pcal_tree.specs.Variables.{declared}
 use Rattle.pcal_tree.specs.OffencesRebind.{Standings, naming, rebound, rebound_all, any_name, start_rebinds, starts_rebind, whole_rebinds, body_rebinds, Calls, definitions_rebind, locals_rebind, procedure_rebinds}
 use Rattle.algorithm_limits.specs.DepthsIn.{Hides}
-use Rattle.algorithm_limits.proofs.BoundLemmas.{hides_none, hides_then, hides_as}
+use Rattle.algorithm_limits.proofs.BoundLemmas.{hides_none, hides_then}
 use Rattle.rebind_rules.specs.declared.sight.Sight.{Sight}
 use Rattle.rebind_rules.specs.declared.walk.Walk.{Walk}
-use Rattle.rebind_rules.specs.Telling.{told, Seen, Adds, AddsNaming}
+use Rattle.rebind_rules.specs.Telling.{told, Adds, AddsNaming}
 use Rattle.rebind_rules.specs.Units.{declared_names}
 use Rattle.rebind_rules.proofs.TellLaws.{first_then, seen_kept, seen_more, adds_as, adds_then, adds_within, naming_alone}
 use Rattle.rebind_rules.proofs.BodyLaws.{bind_adds}

@@ -1,7 +1,7 @@
 -- The first offence of an algorithm is what was found at last.
-use Rattle.std.proofs.Common.{◌≡◌, ℕ, ◌+◌, ◌<◌, ◌≤◌, Bool, true, false, ◌||◌, List, [], ◌∷◌, ◌++◌, length, take, map, reverse, get_or, Option, None, refl, sym, ap, ◌∙◌, subst, cond, bytes_eq, codes, append-nil, append_assoc}
+use Rattle.std.proofs.Common.{◌≡◌, ℕ, ◌+◌, ◌<◌, Bool, true, false, ◌||◌, List, [], ◌∷◌, ◌++◌, length, take, map, reverse, get_or, None, refl, sym, ap, ◌∙◌, subst, cond, bytes_eq, codes, append-nil}
 use Rattle.std.specs.List.{list_any, flat_map}
-use Rattle.std.proofs.lemmas.List.{take_more, take_all}
+use Rattle.std.proofs.lemmas.List.{take_more}
 use Rattle.std.proofs.lemmas.List.Folds.{list_any-append}
 use Rattle.std.proofs.lemmas.Grind.{flat_map-append}
 use Rattle.std.proofs.lemmas.Bool.{or_left, or_right}
@@ -17,11 +17,11 @@ use Rattle.outside_sight.proofs.SightLaws.{binds_more}
 use Rattle.pcal_tree.specs.declared.algorithm.Macro as declared
 use Rattle.pcal_tree.specs.declared.algorithm.Algorithm as declared_algorithm
 use Rattle.pcal_tree.specs.Algorithm.{Definition, Procedure, Algorithm}
-use Rattle.pcal_tree.specs.InMemory.{macro_at, procedure_at, definitions_at, algorithm_at}
+use Rattle.pcal_tree.specs.InMemory.{macro_at, procedure_at, algorithm_at}
 use Rattle.pcal_tree.specs.Offences.{first}
 use Rattle.pcal_tree.specs.Outside.{unit_names}
 use Rattle.pcal_tree.specs.Variables.{declared}
-use Rattle.pcal_tree.specs.OffencesRebind.{Standings, naming, any_name, self_alone, starts_rebind, call_rebinds, Calls, macro_rebinds, texts_rebind, procedure_rebinds, main_rebinds, definitions_rebind, standing_outside, standing_inside, rebind_offences_of}
+use Rattle.pcal_tree.specs.OffencesRebind.{Standings, any_name, self_alone, starts_rebind, call_rebinds, Calls, macro_rebinds, texts_rebind, procedure_rebinds, main_rebinds, definitions_rebind, standing_outside, standing_inside, rebind_offences_of}
 use Rattle.pcal_tree.proofs.FirstLaws.{same_first}
 use Rattle.pcal_tree.proofs.RebindNames.{around_none}
 use Rattle.rebind_rules.specs.declared.binding.Binding.{Binding}
@@ -32,7 +32,7 @@ use Rattle.rebind_rules.specs.declared.kept.Keeps.{Keeps}
 use Rattle.rebind_rules.specs.declared.kept.Calls as kept
 use Rattle.rebind_rules.specs.declared.rebinds.Sights.{Sights}
 use Rattle.rebind_rules.specs.Telling.{sure, held_where, told, Seen, Adds, AddsNaming}
-use Rattle.rebind_rules.specs.Keeping.{Within, Means, Knows, KnowsCalls}
+use Rattle.rebind_rules.specs.Keeping.{Within, Means, KnowsCalls}
 use Rattle.rebind_rules.specs.Macros.{macro_names, Ready, MacrosAt}
 use Rattle.rebind_rules.specs.Processes.{Singles}
 use Rattle.rebind_rules.specs.Whole.{AreSights, Begins, insides}

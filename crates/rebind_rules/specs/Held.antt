@@ -1,10 +1,10 @@
 -- The test for equal things that may offend, and what is hashed of one.
-use Rattle.std.specs.Prelude.{◌≡◌, ◌==◌, Bool, true, false, ◌&&◌, ◌++◌, nat_eq, List}
+use Rattle.std.specs.Prelude.{◌≡◌, ◌==◌, Bool, true, false, ◌&&◌, ◌++◌, nat_eq}
 use Rattle.std.specs.Bool.{Decides}
 use Rattle.std.specs.Cmp.{IsEquivalence, IsPartialEquivalence}
 use Rattle.std.specs.Cmp.Lexicographic.{pointwise}
 use Rattle.std.specs.Hash as fed
-use Rattle.std.proofs.Common.{ap, subst, refl, eqb-true, eq-eqb, sym}
+use Rattle.std.proofs.Common.{ap, subst, refl, eqb-true, eq-eqb}
 use Rattle.std.proofs.lemmas.Bool.{and_parts, and_from}
 use Rattle.tla_tree.specs.Tree.{Word}
 use Rattle.tla_tree.specs.Same.{equivalence_by, partial_by}

@@ -4,7 +4,7 @@ use Rattle.std.specs.Map.{lookup}
 use Rattle.std.specs.Cmp.Lexicographic.{pointwise}
 use Rattle.tla_token.specs.declared.rule.Refusal.{Refusal}
 use Rattle.tla_token.specs.Signs.{is_among}
-use Rattle.tla_tree.specs.Tree.{Word, Name, Trees, words}
+use Rattle.tla_tree.specs.Tree.{Word, Name, Trees}
 use Rattle.outside_sight.specs.ModulesIn.{AreModules}
 use Rattle.pcal_tree.specs.Algorithm.{Procedure}
 use Rattle.pcal_tree.specs.Offences.{first}

@@ -1,5 +1,5 @@
 -- Proves that what each tree brings is gathered.
-use Rattle.std.proofs.Common.{ℕ, List, [], ◌∷◌, ◌++◌, slice_index_or, arith, ap, ◌∙◌}
+use Rattle.std.proofs.Common.{List, [], ◌∷◌, ◌++◌, slice_index_or, arith, ap, ◌∙◌}
 use Rattle.std.proofs.lemmas.List.{get_or_default, map-append}
 use Rattle.tla_tree.proofs.PoolNumbers.{past_at}
 use Rattle.pcal_tree.specs.InMemory.{past_number}

@@ -1,7 +1,7 @@
 -- What is kept: what is left still gives the whole.
-use Rattle.std.proofs.Common.{map, drop}
+use Rattle.std.proofs.Common.{drop}
 use Rattle.std.specs.List.{flat_map}
-use Rattle.pcal_tree.specs.OffencesRebind.{any_name, rebound, rebound_all}
+use Rattle.pcal_tree.specs.OffencesRebind.{any_name, rebound}
 use Rattle.rebind_rules.specs.declared.walk.Walk.{Walk}
 use Rattle.rebind_rules.specs.Telling.{Adds}
 use Rattle.rebind_rules.specs.Bodies.{bind_name}

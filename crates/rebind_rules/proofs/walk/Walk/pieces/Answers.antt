@@ -1,7 +1,7 @@
 -- Proves that all that an argument brings is looked at.
 use Rattle.std.proofs.Common.{[], ◌∷◌}
 use Rattle.std.specs.List.{flat_map}
-use Rattle.pcal_tree.specs.OffencesRebind.{naming, rebound_all, any_name, piece_names}
+use Rattle.pcal_tree.specs.OffencesRebind.{rebound_all, any_name, piece_names}
 use Rattle.rebind_rules.specs.declared.pieces.Piece.{Piece}
 use Rattle.rebind_rules.specs.Gathering.{list_of}
 use Rattle.rebind_rules.proofs.TellLaws.{adds_as, list_then, list_done}

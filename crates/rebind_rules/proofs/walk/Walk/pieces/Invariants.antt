@@ -1,7 +1,7 @@
 -- What is kept: what is left still gives the whole.
 use Rattle.std.proofs.Common.{[], ◌∷◌, drop}
 use Rattle.std.specs.List.{flat_map}
-use Rattle.pcal_tree.specs.OffencesRebind.{naming, rebound_all, any_name, piece_names}
+use Rattle.pcal_tree.specs.OffencesRebind.{rebound_all, any_name, piece_names}
 use Rattle.rebind_rules.specs.declared.walk.Walk.{Walk}
 use Rattle.rebind_rules.specs.Telling.{Adds}
 use Rattle.rebind_rules.specs.Gathering.{list_of}

@@ -1,5 +1,5 @@
 -- Proves that the body of a process is looked at.
-use Rattle.std.proofs.Common.{Bool, List, false, sym, subst}
+use Rattle.std.proofs.Common.{Bool, List, sym, subst}
 use Rattle.tla_tree.specs.Pool.{at}
 use Rattle.pcal_tree.specs.declared.algorithm.Stmt.{Stmt}
 use Rattle.pcal_tree.specs.InMemory.{statements_at}

@@ -1,5 +1,5 @@
 -- Proves that what is kept is looked at where arguments are put in.
-use Rattle.std.proofs.Common.{[], ◌∷◌, Some, None, sym, subst}
+use Rattle.std.proofs.Common.{Some, None, sym, subst}
 use Rattle.tla_tree.specs.Tree.{Word, Name}
 use Rattle.pcal_tree.specs.OffencesRebind.{any_name, rebound, putting_in}
 use Rattle.pcal_tree.specs.laws.MacroBindings.{offences_where}

@@ -2,7 +2,6 @@
 use Rattle.std.proofs.Common.{ℕ, List, ◌++◌, refl, sym, ap, ◌∙◌, subst}
 use Rattle.tla_tree.specs.Tree.{Word, Name, no_trees}
 use Rattle.tla_tree.specs.Pool.{trees_at}
-use Rattle.pcal_tree.specs.Algorithm.{Procedure}
 use Rattle.pcal_tree.specs.declared.algorithm.Simple.{Simple}
 use Rattle.pcal_tree.specs.InMemory.{simple_at}
 use Rattle.pcal_tree.specs.OffencesRebind.{any_name, Calls, jump_rebinds, call_rebinds, each_rebinds, one_rebinds}

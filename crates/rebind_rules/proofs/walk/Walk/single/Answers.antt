@@ -1,5 +1,5 @@
 -- Proves that the body of a single process is looked at where its identifier is put in.
-use Rattle.std.proofs.Common.{◌≡◌, List, [], ◌∷◌, ◌++◌, ap, ◌∙◌, subst}
+use Rattle.std.proofs.Common.{List, [], ◌∷◌, ◌++◌, ap, ◌∙◌, subst}
 use Rattle.tla_tree.specs.Tree.{Name, no_trees, tree}
 use Rattle.tla_tree.specs.Pool.{at}
 use Rattle.pcal_tree.specs.OffencesRebind.{any_name, putting_in}
