@@ -1,4 +1,4 @@
-//! Definitions that are used after what they read was assigned: where an algorithm is refused by that.
+//! Definitions that are used after what they read was assigned: what is seen on paths, with macros gone through once.
 #![tactic(auto)]
 
 pub mod assigned;
@@ -8,10 +8,7 @@ pub mod known;
 pub mod macros;
 pub mod names;
 pub mod put;
-pub mod stale;
 pub mod steps;
 pub mod uses;
 pub mod walk;
 pub mod ways;
-
-pub use stale::stale_refusal;
