@@ -11,3 +11,4 @@ pub mod StaleLaws
 pub mod OnceLaws
 pub mod KnownLaws
 pub mod JumpLaws
+pub mod ReadLaws

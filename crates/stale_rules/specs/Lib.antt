@@ -11,3 +11,4 @@ pub mod KnownIn
 pub mod BodiesIn
 pub mod MacrosIn
 pub mod JumpsIn
+pub mod ReadsIn

@@ -3,6 +3,7 @@
 
 pub mod assigned;
 pub mod bodies;
+pub mod definitions;
 pub mod jumps;
 pub mod known;
 pub mod macros;
