@@ -11,3 +11,5 @@ pub mod StaleLaws
 pub mod OnceLaws
 pub mod KnownLaws
 pub mod JumpLaws
+pub mod ReadLaws
+pub mod RefusalLaws

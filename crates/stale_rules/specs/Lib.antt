@@ -11,3 +11,5 @@ pub mod KnownIn
 pub mod BodiesIn
 pub mod MacrosIn
 pub mod JumpsIn
+pub mod ReadsIn
+pub mod RefusalsIn
