@@ -12,3 +12,4 @@ pub mod OnceLaws
 pub mod KnownLaws
 pub mod JumpLaws
 pub mod ReadLaws
+pub mod RefusalLaws

@@ -12,3 +12,4 @@ pub mod BodiesIn
 pub mod MacrosIn
 pub mod JumpsIn
 pub mod ReadsIn
+pub mod RefusalsIn

@@ -9,6 +9,8 @@ pub mod known;
 pub mod macros;
 pub mod names;
 pub mod put;
+pub mod refusals;
+pub mod stale;
 pub mod steps;
 pub mod uses;
 pub mod walk;
