@@ -8,6 +8,7 @@ pub mod known;
 pub mod macros;
 pub mod names;
 pub mod put;
+pub mod routines;
 pub mod stale;
 pub mod steps;
 pub mod uses;
