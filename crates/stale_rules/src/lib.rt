@@ -10,6 +10,7 @@ pub mod macros;
 pub mod names;
 pub mod put;
 pub mod refusals;
+pub mod routines;
 pub mod stale;
 pub mod steps;
 pub mod uses;
