@@ -7,6 +7,7 @@ pub mod jumps;
 pub mod known;
 pub mod macros;
 pub mod names;
+pub mod once;
 pub mod put;
 pub mod stale;
 pub mod steps;
