@@ -8,6 +8,7 @@ pub mod jumps;
 pub mod known;
 pub mod macros;
 pub mod names;
+pub mod once;
 pub mod put;
 pub mod refusals;
 pub mod routines;
