@@ -14,7 +14,7 @@ use tla_token::Place;
 use tla_tree::{Name, NodeId, PlacedName};
 
 /// How a name is used.
-#[derive(Clone, Copy, PartialEq, Eq, Hash)]
+#[derive(Clone, Copy)]
 pub enum Kind {
     /// For a macro's parameter its argument is put in.
     Value,
