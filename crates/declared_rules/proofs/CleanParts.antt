@@ -24,7 +24,7 @@ use Rattle.pcal_tree.specs.Reads.{initial}
 use Rattle.pcal_tree.proofs.OneStand.{every_both}
 use Rattle.outside_sight.specs.declared.modules.Modules.{Modules}
 use Rattle.outside_sight.specs.ModulesIn.{AreModules}
-use Rattle.declared_rules.specs.Parts.{Part, declaration_names, body_parts, start_parts, declaration_parts, global_parts, definition_parts, macro_parts, procedure_parts, process_parts, main_parts, algorithm_parts}
+use Rattle.declared_rules.specs.Parts.{Part, declaration_names, body_parts, start_parts, declaration_parts, global_parts, definition_parts, macro_parts, procedure_parts, process_parts, main_parts, parts_of_algorithm}
 use Rattle.declared_rules.specs.Finding.{reserved_in}
 use Rattle.declared_rules.proofs.EachLaws.{every_split}
 use Rattle.declared_rules.proofs.CleanBodies.{CleanList, CleanText, CleanPart, CleanTree, CleanBody, to_tree, of_tree, to_body, of_body}
@@ -154,7 +154,7 @@ module _ (f : Refusal → Bool) (m : Modules) (ms : List Word) (h : AreModules m
 
     -- ---- all
 
-    pub algorithm_to : (a : code.Algorithm) → AllByRecursion P (algorithm_parts ts a) → CleanAlgorithm (algorithm_at ts a)
+    pub algorithm_to : (a : code.Algorithm) → AllByRecursion P (parts_of_algorithm ts a) → CleanAlgorithm (algorithm_at ts a)
     algorithm_to a k =
         let q = every_split P (flat_map (global_parts ts) a.globals.items) _ k in
         let r = every_split P (flat_map (definition_parts ts) a.definitions.items) _ q.1 in
@@ -170,7 +170,7 @@ module _ (f : Refusal → Bool) (m : Modules) (ms : List Word) (h : AreModules m
           ),
         )
 
-    pub algorithm_of : (a : code.Algorithm) → CleanAlgorithm (algorithm_at ts a) → AllByRecursion P (algorithm_parts ts a)
+    pub algorithm_of : (a : code.Algorithm) → CleanAlgorithm (algorithm_at ts a) → AllByRecursion P (parts_of_algorithm ts a)
     algorithm_of a k =
         every_both P (flat_map (global_parts ts) a.globals.items) _ (each_of (declaration_at ts) (global_parts ts) CleanGlobal (λ d q. (q.0, start_of d.start q.1)) a.globals.items k.0)
         (every_both P (flat_map (definition_parts ts) a.definitions.items) _

@@ -25,7 +25,7 @@ use Rattle.pcal_tree.proofs.FirstLaws.{same_first}
 use Rattle.pcal_tree.proofs.OneStand.{every_both}
 use Rattle.outside_sight.specs.declared.modules.Modules.{Modules}
 use Rattle.outside_sight.specs.ModulesIn.{AreModules}
-use Rattle.declared_rules.specs.Parts.{algorithm_parts}
+use Rattle.declared_rules.specs.Parts.{parts_of_algorithm}
 use Rattle.declared_rules.specs.Finding.{reserved_in, seen_offences, seen_after, part_offences, parts_offences}
 use Rattle.declared_rules.specs.Titles.{kept_titles, other_titles, main_names, pure_title, passed_offences, unit_offences, outside_offences, title_offences}
 use Rattle.declared_rules.specs.Refusal.{declared_offences, offences_found}
@@ -239,12 +239,12 @@ same_refusal_found m ts a o h = same_first (offences_found m ts a o) (declared_o
 
     there : (f : Refusal → Bool) → list_any f (offences_found m ts a o) ≡ false → list_any f (declared_offences A o) ≡ false
     there f k =
-        let p = none_of_both f (outside_offences m o) (own ++ parts_offences m (algorithm_parts ts a)) k in
-        let q = none_of_both f own (parts_offences m (algorithm_parts ts a)) p.1 in
-        to_rules f m o h A (algorithm_to f m o.extended h ts a (none_each f (part_offences m) (algorithm_parts ts a) q.1)) (ap (list_any f) (sym same_titles) ∙ q.0) p.0
+        let p = none_of_both f (outside_offences m o) (own ++ parts_offences m (parts_of_algorithm ts a)) k in
+        let q = none_of_both f own (parts_offences m (parts_of_algorithm ts a)) p.1 in
+        to_rules f m o h A (algorithm_to f m o.extended h ts a (none_each f (part_offences m) (parts_of_algorithm ts a) q.1)) (ap (list_any f) (sym same_titles) ∙ q.0) p.0
 
     back : (f : Refusal → Bool) → list_any f (declared_offences A o) ≡ false → list_any f (offences_found m ts a o) ≡ false
     back f k =
         let p = of_rules f m o h A k in
-        none_together f (outside_offences m o) (own ++ parts_offences m (algorithm_parts ts a)) p.1.1
-        (none_together f own (parts_offences m (algorithm_parts ts a)) (ap (list_any f) same_titles ∙ p.1.0) (each_none f (part_offences m) (algorithm_parts ts a) (algorithm_of f m o.extended h ts a p.0)))
+        none_together f (outside_offences m o) (own ++ parts_offences m (parts_of_algorithm ts a)) p.1.1
+        (none_together f own (parts_offences m (parts_of_algorithm ts a)) (ap (list_any f) same_titles ∙ p.1.0) (each_none f (part_offences m) (parts_of_algorithm ts a) (algorithm_of f m o.extended h ts a p.0)))

@@ -136,8 +136,8 @@ abbrev pub main_parts : List Tree → code_main.Main → List Part
 main_parts ts (main.Alone ss) = body_parts ts ss.items
 main_parts ts (main.Processes ps) = flat_map (process_parts ts) ps.items
 
-abbrev pub algorithm_parts : List Tree → Algorithm → List Part
-algorithm_parts ts a =
+abbrev pub parts_of_algorithm : List Tree → Algorithm → List Part
+parts_of_algorithm ts a =
     flat_map (global_parts ts) a.globals.items
     ++ (flat_map (definition_parts ts) a.definitions.items
     ++ (flat_map (macro_parts ts) a.macros.items ++ (flat_map (procedure_parts ts) a.procedures.items ++ main_parts ts a.main)))

@@ -10,7 +10,7 @@ use Rattle.pcal_tree.specs.OffencesModules.{module_needs, outside_variables}
 use Rattle.pcal_tree.specs.OffencesNames.{repeated_names}
 use Rattle.pcal_tree.specs.OffencesReserved.{reserved_declared}
 use Rattle.outside_sight.specs.declared.modules.Modules.{Modules}
-use Rattle.declared_rules.specs.Parts.{algorithm_parts}
+use Rattle.declared_rules.specs.Parts.{parts_of_algorithm}
 use Rattle.declared_rules.specs.Finding.{parts_offences}
 use Rattle.declared_rules.specs.Titles.{kept_titles, other_titles, title_offences, outside_offences}
 
@@ -20,4 +20,4 @@ declared_offences a o = repeated_names a o ++ (reserved_declared a o ++ (module_
 
 -- as they are found, where these modules are extended
 abbrev pub offences_found : Modules → List Tree → Algorithm → pure.Outside → List Refusal
-offences_found m ts a o = outside_offences m o ++ (title_offences m (unit_names o) (kept_titles a) (other_titles a) ++ parts_offences m (algorithm_parts ts a))
+offences_found m ts a o = outside_offences m o ++ (title_offences m (unit_names o) (kept_titles a) (other_titles a) ++ parts_offences m (parts_of_algorithm ts a))

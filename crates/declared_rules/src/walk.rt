@@ -5,7 +5,7 @@ ghost use Rattle.std.specs.List.{flat_map};
 ghost use Rattle.tla_tree.specs.Tree.{Tree};
 ghost use Rattle.tla_tree.specs.Nesting.{greatest};
 ghost use Rattle.pcal_tree.specs.InMemory.{branches_at, past_assignment, past_bind, past_simple, past_stmt, past_statements, past_branches, past_start, past_declaration, past_definition, past_macro, past_procedure, past_process, past_main, past_algorithm};
-ghost use Rattle.declared_rules.specs.Parts.{declares, prints, stacks, in_branches, assignment_parts, bind_parts, simple_parts, body_parts, start_parts, declaration_parts, global_parts, definition_parts, macro_parts, procedure_parts, process_parts, main_parts, algorithm_parts};
+ghost use Rattle.declared_rules.specs.Parts.{declares, prints, stacks, in_branches, assignment_parts, bind_parts, simple_parts, body_parts, start_parts, declaration_parts, global_parts, definition_parts, macro_parts, procedure_parts, process_parts, main_parts, parts_of_algorithm};
 ghost use Rattle.declared_rules.specs.Finding.{Adds, AddsStmt};
 
 use crate::found::Found;
@@ -294,7 +294,7 @@ impl Found {
     /// Only for want of memory.
     pub fn algorithm(&mut self, algorithm: &Algorithm) -> Result<(), AllocError>
         requires { past_algorithm algorithm.now ≤ length self.old.marks.items }
-        ensures adds { OnOk result ((ts : List Tree) → Adds ts self.old self.new (algorithm_parts ts algorithm.now)) }
+        ensures adds { OnOk result ((ts : List Tree) → Adds ts self.old self.new (parts_of_algorithm ts algorithm.now)) }
         ensures many { OnOk result (length self.new.marks.items ≡ length self.old.marks.items) }
     {
         self.globals(&algorithm.globals);
