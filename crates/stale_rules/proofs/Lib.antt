@@ -9,5 +9,8 @@ pub mod StepLaws
 pub mod BodyLaws
 pub mod StaleLaws
 pub mod OnceLaws
+pub mod KeptLaws
 pub mod KnownLaws
 pub mod JumpLaws
+pub mod ReadLaws
+pub mod RefusalLaws

@@ -9,5 +9,8 @@ pub mod StepsIn
 pub mod WaysIn
 pub mod KnownIn
 pub mod BodiesIn
+pub mod OnceIn
 pub mod MacrosIn
 pub mod JumpsIn
+pub mod ReadsIn
+pub mod RefusalsIn

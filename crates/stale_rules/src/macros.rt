@@ -10,6 +10,7 @@ ghost use Rattle.stale_rules.specs.MacrosIn.{macro_seen};
 ghost use Rattle.stale_rules.specs.StepsIn.{AreJumps};
 
 use crate::known::{Known, Summary};
+use crate::once::both_once;
 use crate::steps::Jump;
 use crate::walk::Ways;
 use algorithm_limits::table::Table;
@@ -29,7 +30,8 @@ fn copied_names(alloc: Global, names: &[PlacedName]) -> Result<Vec<PlacedName>, 
     Ok(list)
 }
 
-// What is seen in a macro, by what is known of the older ones.
+// What is seen in a macro, by what is known of the older ones. Each use is kept once, so that what is kept doesn't grow with
+// the number of ways on which macros call a macro.
 fn summary(alloc: Global, pool: &Pool, known: &Known, one: &Macro) -> Result<Summary, AllocError>
     requires { past_macro one.now ≤ length pool.now }
     ensures { IfOk result (λ r. (ms : List MacroSeen) (ps : List Procedure) → Knows known.now ms ps → IsSummary r (macro_seen ps ms (macro_at pool.now one.now))) }
@@ -40,8 +42,8 @@ fn summary(alloc: Global, pool: &Pool, known: &Known, one: &Macro) -> Result<Sum
     known.body(alloc, pool, &mut labelled, &one.body)?;
     Ok(Summary {
         params: copied_names(alloc, &one.params)?,
-        plain,
-        labelled,
+        plain: both_once(alloc, plain)?,
+        labelled: both_once(alloc, labelled)?,
     })
 }
 

@@ -14,7 +14,7 @@ use tla_token::Place;
 use tla_tree::{Name, NodeId, PlacedName};
 
 /// How a name is used.
-#[derive(Clone, Copy)]
+#[derive(Clone, Copy, PartialEq, Eq, Hash)]
 pub enum Kind {
     /// For a macro's parameter its argument is put in.
     Value,

@@ -23,12 +23,12 @@ returns c = λ ms ps k.
     let h = subst (λ (ss : List Stmt). Goes p q (λ z. seen_in_body (seen_in_call ms) ps (statements_at ts ss) z)) c.deref-2.ensures.value (c.in_ok-body-2.ensures ms ps k) in
     record {
       params = c.in_ok-copied_names.ensures ∙ c.deref-3.ensures.value;
-      plain = record {
+      plain = c.in_ok-both_once.ensures _ _ (record {
         unreached = way_once b.unreached (f (starting false None)) (is_way a.unreached b.unreached (starting false None) f c.new-plain.ensures.unreached g.0);
         reached = way_once b.reached (f start) (is_way a.reached b.reached start f c.new-plain.ensures.reached g.1);
-      };
-      labelled = record {
+      });
+      labelled = c.in_ok-both_once-2.ensures _ _ (record {
         unreached = way_once q.unreached (f (starting true None)) (is_way p.unreached q.unreached (starting true None) f c.new-labelled.ensures.unreached h.0);
         reached = way_once q.reached (f label) (is_way p.reached q.reached label f c.new-labelled.ensures.reached h.1);
-      };
+      });
     }

@@ -1,0 +1,40 @@
+//! Definitions that are used after what they read was assigned, in an algorithm.
+
+ghost use Rattle.std.specs.Prelude.{◌≡◌, ◌≤◌, length, IfOk};
+ghost use Rattle.pcal_tree.specs.InMemory.{algorithm_at, past_algorithm};
+ghost use Rattle.pcal_tree.specs.Offences.{first};
+ghost use Rattle.pcal_tree.specs.OffencesStale.{stale_offences_by};
+ghost use Rattle.pcal_tree.specs.laws.MacroSpots.{spots_by_macros};
+
+use crate::definitions::{all_reads, global_names};
+use crate::jumps::jumps;
+use crate::macros::known_macros;
+use crate::routines::{of_main, of_procedures};
+use algorithm_limits::order::least;
+use pcal_tree::algorithm::Algorithm;
+use std::alloc::{AllocError, Global};
+use tla_pool::Pool;
+use tla_token::Refusal;
+
+/// The first use of a definition of an algorithm that reads a variable which the step may have assigned before, by what is computed
+/// once for each macro.
+///
+/// # Errors
+///
+/// Only for want of memory.
+pub fn stale_refusal(
+    alloc: Global,
+    pool: &Pool,
+    algorithm: &Algorithm,
+) -> Result<Option<Refusal>, AllocError>
+    requires { past_algorithm algorithm.now ≤ length pool.now }
+    ensures { IfOk result (λ r. r ≡ first (stale_offences_by (spots_by_macros (algorithm_at pool.now algorithm.now)) (algorithm_at pool.now algorithm.now))) }
+{
+    let globals = global_names(alloc, &algorithm.globals)?;
+    let reads = all_reads(alloc, pool, &globals, &algorithm.definitions)?;
+    let jumps = jumps(alloc, pool, &algorithm.procedures)?;
+    let known = known_macros(alloc, pool, &algorithm.macros, jumps)?;
+    let procedures = of_procedures(alloc, pool, &known, &reads, &algorithm.procedures)?;
+    let main = of_main(alloc, pool, &known, &reads, &algorithm.main)?;
+    Ok(least(procedures, main))
+}
