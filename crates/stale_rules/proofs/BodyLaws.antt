@@ -1,7 +1,6 @@
 -- What is seen in statements, one after another.
-use Rattle.std.proofs.Common.{◌≡◌, ℕ, ◌+◌, ◌<◌, ◌≤◌, Bool, true, false, List, [], ◌∷◌, ◌++◌, length, drop, get_or, Option, Some, None, Vec, Global, refl, sym, ap, ◌∙◌, subst, cond, map, append-nil, append_assoc, ◌||◌}
-use Rattle.std.specs.List.{list_any, flat_map}
-use Rattle.std.specs.Option.{option_map}
+use Rattle.std.proofs.Common.{◌≡◌, ℕ, ◌+◌, ◌<◌, ◌≤◌, Bool, true, false, List, [], ◌∷◌, ◌++◌, length, drop, get_or, Option, Some, None, Vec, Global, refl, sym, ap, ◌∙◌, subst, map, append-nil, append_assoc, ◌||◌}
+use Rattle.std.specs.List.{list_any}
 use Rattle.std.proofs.lemmas.List.{drop_more, drop_all}
 use Rattle.std.proofs.lemmas.List.Folds.{list_any-append}
 use Rattle.tla_token.specs.declared.place.Place.{Place}
@@ -14,9 +13,9 @@ use Rattle.pcal_tree.specs.declared.algorithm.Simple as declared_simple
 use Rattle.pcal_tree.specs.declared.algorithm.Simple.TheVariants as simple
 use Rattle.pcal_tree.specs.declared.algorithm.Stmt.{Stmt}
 use Rattle.pcal_tree.specs.declared.algorithm.Stmt.TheVariants.{Label, Simple, If, Either, With, While}
-use Rattle.pcal_tree.specs.Algorithm.{Name, branch, either, with, while, Statement, Statements, then, mark, Branches, no_branches, or, Procedure}
+use Rattle.pcal_tree.specs.Algorithm.{Name, branch, either, with, while, Statement, Statements, then, Branches, no_branches, or, Procedure}
 use Rattle.pcal_tree.specs.InMemory.{span_of, simple_at, binds_at, Before, stmt_at, statements_at, branches_at}
-use Rattle.pcal_tree.specs.laws.MacroSpots.{Use, Origin, earlier, assigned, Trail, At, unlabelled, at_label, Seen, on_trail, Called, CallSeen, joined, uses, uses_of_binds, end_of, end_of_some, seen_in, seen_in_some, seen_in_body, seen_in_call, MacroSeen, starting}
+use Rattle.pcal_tree.specs.laws.MacroSpots.{Use, earlier, assigned, Trail, At, unlabelled, at_label, Seen, on_trail, Called, CallSeen, joined, uses, uses_of_binds, end_of, end_of_some, seen_in, seen_in_some, seen_in_body, seen_in_call, MacroSeen, starting}
 use Rattle.pcal_tree.proofs.SetLaws.{any_map}
 use Rattle.pcal_tree.proofs.InMemoryEach.{label_at, simple_in_list_at, if_at, either_at, with_at, while_at}
 use Rattle.pcal_tree.proofs.SpotCalls.{LikeTrail, Like, passes, SeenLike, like_then}
@@ -36,7 +35,7 @@ use Rattle.stale_rules.specs.UsesIn.{uses_of}
 use Rattle.stale_rules.specs.WaysIn.{Goes, Begins, Moves, Restarts, Ends, JoinsEnd, Forks, Branches as Branching}
 use Rattle.stale_rules.proofs.PathLaws.{like_itself, like_joined, joined_after}
 use Rattle.stale_rules.proofs.PlainPuts.{calls_commute, body_any}
-use Rattle.stale_rules.proofs.WalkLaws.{seen_append, seen_as}
+use Rattle.stale_rules.proofs.WalkLaws.{seen_append}
 
 -- ---- one after another
 

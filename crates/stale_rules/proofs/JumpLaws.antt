@@ -1,14 +1,10 @@
 -- What calls of procedures use: what is left still gives the whole.
-use Rattle.std.proofs.Common.{◌≡◌, ℕ, ◌+◌, ◌<◌, ◌≤◌, Bool, true, false, List, [], ◌∷◌, ◌++◌, length, take, drop, get_or, map, cond, refl, sym, ap, ◌∙◌, subst, append-nil, append_assoc, bytes_eq}
-use Rattle.std.specs.List.{flat_map}
+use Rattle.std.proofs.Common.{◌≡◌, ℕ, ◌+◌, ◌<◌, ◌≤◌, Bool, true, false, List, [], ◌∷◌, ◌++◌, length, drop, get_or, map, cond, refl, sym, ap, ◌∙◌, subst, append-nil, append_assoc, bytes_eq}
 use Rattle.std.proofs.lemmas.List.{drop_more, drop_all, map-append}
 use Rattle.tla_tree.specs.Tree.{Word, Tree, words}
-use Rattle.tla_tree.specs.Pool.{at}
 use Rattle.pcal_tree.specs.declared.algorithm.Declaration.{Declaration}
 use Rattle.pcal_tree.specs.declared.algorithm.Procedure as declared_procedure
-use Rattle.pcal_tree.specs.declared.algorithm.Start.{Start}
-use Rattle.pcal_tree.specs.Algorithm.{Name, Procedure}
-use Rattle.pcal_tree.specs.Algorithm as tree
+use Rattle.pcal_tree.specs.Algorithm.{Procedure}
 use Rattle.pcal_tree.specs.InMemory.{start_at, declaration_at, declarations_at, procedure_at}
 use Rattle.pcal_tree.specs.OffencesStale.{used_by_variables, used_by_call}
 use Rattle.pcal_tree.specs.Reads.{used}

@@ -1,7 +1,7 @@
 -- Uses that are kept each once.
 use Rattle.std.proofs.Common.{◌≡◌, ℕ, zero, suc, arith, ◌+◌, ◌<◌, ◌≤◌, Bool, true, false, ◌&&◌, ◌||◌, List, [], ◌∷◌, ◌++◌, length, take, get_or, Option, Some, None, refl, sym, ap, ◌∙◌, subst, cond, map, append-nil, append_assoc, nat_eq, eqb-true, slice_get}
 use Rattle.std.specs.Prelude.{if◌then◌else◌}
-use Rattle.std.specs.List.{list_any, flat_map}
+use Rattle.std.specs.List.{list_any}
 use Rattle.std.specs.Map.{lookup}
 use Rattle.std.proofs.lemmas.Bool.{and_parts}
 use Rattle.std.proofs.lemmas.List.{take_more, take_all, map-append}
@@ -26,7 +26,7 @@ use Rattle.stale_rules.specs.OnceIn.{Entry, entry_seen, entries_seen, key_use, K
 use Rattle.stale_rules.specs.SeenIn.{group_seen, seen_of, IsWay}
 use Rattle.stale_rules.specs.Sets.{origins, trail_of}
 use Rattle.stale_rules.specs.UsesIn.{use_of, uses_of}
-use Rattle.stale_rules.proofs.WalkLaws.{seen_append, on_like}
+use Rattle.stale_rules.proofs.WalkLaws.{seen_append}
 use Rattle.stale_rules.specs.contracts.uses.KindPartialEq.TheImpl.{eq-value as kinds}
 use Rattle.stale_rules.specs.contracts.once.KeyPartialEq.TheImpl.{eq-value as same}
 

@@ -1,6 +1,6 @@
 -- What is known of macros: what is seen in a call, and one more macro.
-use Rattle.std.proofs.Common.{◌≡◌, ℕ, zero, suc, ◌+◌, ◌-◌, ◌<◌, ◌≤◌, Bool, true, false, List, [], ◌∷◌, ◌++◌, length, take, get_or, map, reverse, Option, Some, None, refl, sym, ap, ◌∙◌, subst, cond, bytes_eq, slice_get, arith}
-use Rattle.std.proofs.lemmas.List.{take_more, take_all, map-append, reverse-append, length-append}
+use Rattle.std.proofs.Common.{◌≡◌, ℕ, zero, suc, ◌+◌, ◌<◌, Bool, true, false, List, [], ◌∷◌, ◌++◌, length, take, get_or, map, reverse, Option, Some, None, refl, sym, ap, ◌∙◌, subst, cond, bytes_eq, arith}
+use Rattle.std.proofs.lemmas.List.{take_more, map-append, reverse-append, length-append}
 use Rattle.std.proofs.lemmas.Option.{get_or_from_slice_get, slice_get_within, slice_get_read}
 use Rattle.std.proofs.Math.Seq.{get_or-append_seam}
 use Rattle.std.proofs.Math.ListN.{get_or-append}
@@ -9,8 +9,8 @@ use Rattle.pcal_tree.specs.declared.algorithm.Macro.{Macro}
 use Rattle.pcal_tree.specs.Algorithm.{Name, Procedure}
 use Rattle.pcal_tree.specs.Algorithm as tree
 use Rattle.pcal_tree.specs.InMemory.{macro_at}
-use Rattle.pcal_tree.specs.laws.MacroSpots.{At, Trail, Called, MacroSeen, macros_seen, seen_in_call, before_on, put_called, put_seen, put_trail, seen_from, unlabelled}
-use Rattle.pcal_tree.proofs.SpotCalls.{LikeTrail, Like, SeenLike}
+use Rattle.pcal_tree.specs.laws.MacroSpots.{At, Trail, Called, MacroSeen, macros_seen, seen_in_call, before_on, put_called, seen_from, unlabelled}
+use Rattle.pcal_tree.proofs.SpotCalls.{Like, SeenLike}
 use Rattle.pcal_tree.proofs.SpotGrafts.{putting}
 use Rattle.algorithm_limits.specs.Numbers.{Numbers, number_of, with_number}
 use Rattle.algorithm_limits.proofs.Tables.{number_of_with}
@@ -20,7 +20,7 @@ use Rattle.stale_rules.specs.declared.steps.Jump.{Jump}
 use Rattle.stale_rules.specs.declared.walk.Walk.{Walk}
 use Rattle.stale_rules.specs.KnownIn.{IsSummary, find_seen, seen_by_found, IsFound, AreMacros, Knows}
 use Rattle.stale_rules.specs.MacrosIn.{macro_seen}
-use Rattle.stale_rules.specs.PlainPuts.{Going, way}
+use Rattle.stale_rules.specs.PlainPuts.{way}
 use Rattle.stale_rules.specs.SeenIn.{seen_of, at_of, Walks}
 use Rattle.stale_rules.specs.StepsIn.{AreJumps}
 use Rattle.stale_rules.proofs.BodyLaws.{walks_as}

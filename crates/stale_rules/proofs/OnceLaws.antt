@@ -1,18 +1,17 @@
 -- What is seen in a macro, each once.
-use Rattle.std.proofs.Common.{◌≡◌, ℕ, ◌+◌, ◌<◌, ◌≤◌, suc, zero, List, [], ◌∷◌, ◌++◌, Bool, true, false, ◌||◌, cond, bytes_eq, length, take, get_or, reverse, map, Option, Some, None, refl, sym, ◌∙◌, ap, subst, slice_get, arith}
+use Rattle.std.proofs.Common.{◌≡◌, [], Bool, false, ◌||◌, Some, None, refl, sym, ◌∙◌, ap}
 use Rattle.std.specs.Option.{option_map}
-use Rattle.std.specs.List.{list_any, flat_map}
+use Rattle.std.specs.List.{list_any}
 use Rattle.std.proofs.lemmas.Bool.{and_parts}
 use Rattle.std.proofs.lemmas.Slice.Eq.{bytes_eq-Decides}
 use Rattle.std.proofs.Math.Bool.{or-false}
-use Rattle.tla_tree.specs.Tree.{Word}
 use Rattle.pcal_tree.specs.laws.MacroSummaries.{union}
-use Rattle.pcal_tree.specs.laws.MacroSpots.{Use, value, left, other, Origin, earlier, assigned, Trail, At, Called, same_origin, same_use, Pair, same_pair, pairs_on, pairs, seen_pair, once}
+use Rattle.pcal_tree.specs.laws.MacroSpots.{Use, value, left, other, Origin, earlier, assigned, Trail, Called, same_origin, same_use, Pair, same_pair, pairs_on, pairs, seen_pair, once}
 use Rattle.pcal_tree.proofs.FirstLaws.{name_sound}
 use Rattle.pcal_tree.proofs.SetLaws.{Sound, any_flat, any_map, any_same, any_union}
 use Rattle.pcal_tree.proofs.SpotCalls.{LikeTrail, met, passes, SeenLike, like_then}
 use Rattle.stale_rules.specs.declared.walk.Walk.{Walk}
-use Rattle.stale_rules.specs.SeenIn.{at_of, IsWay}
+use Rattle.stale_rules.specs.SeenIn.{IsWay}
 use Rattle.stale_rules.specs.Sets.{trail_of}
 
 use_sound : Sound same_use

@@ -1,12 +1,10 @@
 -- Paths in memory, and what is seen on them: what no test tells apart.
-use Rattle.std.proofs.Common.{◌≡◌, Bool, true, false, ◌||◌, List, [], ◌∷◌, ◌++◌, Option, Some, None, refl, sym, ap, ◌∙◌, cond, map, append-nil, append_assoc}
-use Rattle.std.specs.List.{list_any, flat_map}
+use Rattle.std.proofs.Common.{◌≡◌, false, ◌||◌, List, [], ◌∷◌, ◌++◌, Some, None, refl, sym, ap, ◌∙◌, cond, map, append_assoc}
+use Rattle.std.specs.List.{list_any}
 use Rattle.std.proofs.lemmas.List.Folds.{list_any-append}
-use Rattle.pcal_tree.proofs.SetLaws.{Same, same_both, any_flat, any_map, any_same, any_none, any_or}
-use Rattle.pcal_tree.proofs.SpotCalls.{LikeTrail, Like, met, passes, SeenLike, like_then}
-use Rattle.pcal_tree.proofs.SpotMacros.{any_turned}
-use Rattle.pcal_tree.specs.Paths.{again, rounds}
-use Rattle.pcal_tree.specs.laws.MacroSpots.{Use, Origin, earlier, assigned, Trail, At, Seen, on_trail, joined, Put, put_origin, put_trail, put_use, put_seen, put_at}
+use Rattle.pcal_tree.proofs.SetLaws.{same_both}
+use Rattle.pcal_tree.proofs.SpotCalls.{LikeTrail}
+use Rattle.pcal_tree.specs.laws.MacroSpots.{Origin, earlier, assigned, Trail, joined}
 use Rattle.stale_rules.specs.declared.assigned.Assigned.{Assigned}
 use Rattle.stale_rules.specs.Joins.{Joins}
 use Rattle.stale_rules.specs.Sets.{origins, trail_of}

@@ -1,11 +1,10 @@
 -- What is seen in statements after some assignments, by what is seen after any: a loop's body is gone through once.
-use Rattle.std.proofs.Common.{◌≡◌, List, [], ◌∷◌, ◌++◌, Bool, true, false, cond, bytes_eq, Option, Some, None, refl, sym, ◌∙◌, ap, map, append-nil}
+use Rattle.std.proofs.Common.{◌≡◌, List, [], ◌∷◌, ◌++◌, Bool, true, false, cond, bytes_eq, Some, None, refl, sym, ◌∙◌, ap, map, append-nil}
 use Rattle.std.specs.List.{flat_map}
-use Rattle.std.specs.Option.{option_map}
 use Rattle.std.proofs.lemmas.Grind.{flat_map-append}
 use Rattle.tla_token.specs.declared.place.Place.{Place}
 use Rattle.tla_tree.specs.Tree.{Word, Trees}
-use Rattle.pcal_tree.specs.Algorithm.{Name, Assignments, Statement, assign, await, print, assert, skip, branch, either, with, while, goto, macro, call, return, Statements, done, then, mark, Branches, no_branches, or, Procedure}
+use Rattle.pcal_tree.specs.Algorithm.{Assignments, Statement, assign, await, print, assert, skip, branch, either, with, while, goto, macro, call, return, Statements, done, then, mark, Branches, no_branches, or, Procedure}
 use Rattle.pcal_tree.specs.OffencesStale.{jumps_use}
 use Rattle.pcal_tree.specs.Paths.{roots, again, rounds}
 use Rattle.pcal_tree.specs.laws.MacroSpots.{Use, value, left, other, uses, uses_of_all, uses_of_assignments, uses_of_binds, Origin, earlier, assigned, Trail, At, unlabelled, at_label, inside, Seen, on_trail, Called, CallSeen, joined, assigning, one_end, end_of, end_of_some, one_seen, seen_in, seen_in_some, Put, put_origin, put_trail, put_use, put_seen, put_at, put_called, MacroSeen, before_on, seen_from, seen_in_call, seen_in_body, starting}

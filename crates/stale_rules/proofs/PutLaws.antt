@@ -1,19 +1,17 @@
 -- Arguments put in: what is left still gives the whole, and what was assigned.
 use Rattle.std.proofs.Common.{◌≡◌, ℕ, ◌+◌, ◌<◌, ◌≤◌, Bool, true, false, ◌&&◌, ◌||◌, List, [], ◌∷◌, ◌++◌, length, take, drop, get_or, map, cond, refl, sym, ap, ◌∙◌, append-nil, append_assoc, bytes_eq, Option, Some, None}
 use Rattle.std.specs.List.{list_any, flat_map}
-use Rattle.std.proofs.lemmas.List.{map-append, drop_more, drop_all, take_more, take_all}
+use Rattle.std.proofs.lemmas.List.{drop_more, drop_all, take_more, take_all}
 use Rattle.std.proofs.lemmas.List.Folds.{list_any-append}
 use Rattle.std.proofs.lemmas.Grind.{flat_map-append}
-use Rattle.std.proofs.Math.Bool.{or-false}
 use Rattle.tla_token.specs.declared.place.Place.{Place}
 use Rattle.tla_tree.specs.Tree.{Word, Form, name, operator_call, Tree, node, Trees, no_trees}
 use Rattle.tla_tree.specs.Pool.{at, trees_at}
 use Rattle.pcal_tree.specs.Algorithm.{Name}
 use Rattle.pcal_tree.specs.Expand.{placed_at}
-use Rattle.pcal_tree.specs.Paths.{some_word}
 use Rattle.pcal_tree.specs.laws.MacroSpots as spots
 use Rattle.pcal_tree.specs.laws.MacroSpots.{Origin, earlier, assigned, Trail, before_on, Put, put_origin, put_use}
-use Rattle.pcal_tree.specs.laws.MacroSummaries.{argument, variable_of}
+use Rattle.pcal_tree.specs.laws.MacroSummaries.{argument}
 use Rattle.pcal_tree.proofs.SetLaws.{Same, any_flat, any_map, any_same, or_both}
 use Rattle.pcal_tree.proofs.SpotGrafts.{putting}
 use Rattle.stale_rules.specs.declared.assigned.Assigned.{Assigned}

@@ -1,18 +1,17 @@
 -- The variables that definitions read, as sets.
-use Rattle.std.proofs.Common.{◌≡◌, ℕ, zero, suc, ◌+◌, ◌<◌, ◌≤◌, Bool, true, false, ◌||◌, ◌&&◌, List, [], ◌∷◌, ◌++◌, length, take, drop, get_or, map, reverse, filter, cond, bytes_eq, Option, Some, None, unwrap_or, slice_get, refl, sym, ap, ◌∙◌, subst, append-nil, arith, true≢false}
-use Rattle.std.specs.List.{list_any, flat_map}
+use Rattle.std.proofs.Common.{◌≡◌, ℕ, zero, suc, ◌+◌, ◌<◌, ◌≤◌, Bool, true, false, ◌||◌, ◌&&◌, List, [], ◌∷◌, ◌++◌, length, take, drop, get_or, reverse, filter, cond, bytes_eq, Option, Some, unwrap_or, refl, sym, ap, ◌∙◌, subst, append-nil, arith, true≢false}
+use Rattle.std.specs.List.{list_any}
 use Rattle.std.proofs.lemmas.Bool.{or_left, or_right}
-use Rattle.std.proofs.lemmas.List.{drop_more, drop_all, take_more, take_all, map-append, reverse-append, length-append}
+use Rattle.std.proofs.lemmas.List.{drop_more, take_more, take_all, map-append, reverse-append, length-append}
 use Rattle.std.proofs.lemmas.List.Folds.{list_any-append}
 use Rattle.std.proofs.lemmas.Grind.{flat_map-append}
 use Rattle.std.proofs.lemmas.Slice.Eq.{bytes_eq-Decides}
-use Rattle.std.proofs.lemmas.Option.{slice_get_past, slice_get_read, slice_get-get_or}
+use Rattle.std.proofs.lemmas.Option.{slice_get_read, slice_get-get_or}
 use Rattle.std.proofs.Math.Bool.{or-false}
 use Rattle.std.proofs.Math.Seq.{get_or-append_seam}
 use Rattle.std.proofs.Math.ListN.{get_or-append}
 use Rattle.tla_token.specs.Signs.{is_among}
 use Rattle.tla_tree.specs.Tree.{Word, Tree, words}
-use Rattle.tla_tree.specs.Pool.{at}
 use Rattle.pcal_tree.specs.declared.algorithm.Declaration.{Declaration}
 use Rattle.pcal_tree.specs.declared.algorithm.Definition.{Definition}
 use Rattle.pcal_tree.specs.Algorithm.{Name}
@@ -20,7 +19,7 @@ use Rattle.pcal_tree.specs.Algorithm as tree
 use Rattle.pcal_tree.specs.InMemory.{definition_at, definitions_at}
 use Rattle.pcal_tree.specs.Paths.{meets}
 use Rattle.pcal_tree.specs.Reads.{Reading, through, among_looked_at, readings, used}
-use Rattle.pcal_tree.proofs.SetLaws.{Same, any_flat, any_map, any_same, any_or, among_same, meets_same}
+use Rattle.pcal_tree.proofs.SetLaws.{Same, any_flat, any_same, any_or, among_same, meets_same}
 use Rattle.pcal_tree.proofs.SpotMacros.{any_turned}
 use Rattle.algorithm_limits.specs.Numbers.{Numbers, number_of, with_number}
 use Rattle.algorithm_limits.proofs.Tables.{number_of_with, same_test, equal}
@@ -28,7 +27,7 @@ use Rattle.read_rules.specs.NumbersIn.{declared_in}
 use Rattle.stale_rules.specs.declared.definitions.Reads.{Reads}
 use Rattle.stale_rules.specs.Joins.{Joins}
 use Rattle.stale_rules.specs.ReadsIn.{reads_at, AreReads, read_with, reads_all}
-use Rattle.stale_rules.proofs.SetLaws.{joins_none, joins_then}
+use Rattle.stale_rules.proofs.SetLaws.{joins_then}
 use Rattle.stale_rules.proofs.StaleLaws.{any_and}
 
 -- ---- in memory

@@ -1,5 +1,5 @@
 -- Sets as lists that no test tells apart.
-use Rattle.std.proofs.Common.{◌≡◌, ℕ, ◌+◌, ◌<◌, ◌≤◌, Bool, true, false, ◌&&◌, ◌||◌, List, [], ◌∷◌, ◌++◌, length, take, get_or, refl, sym, ap, ◌∙◌, cond, map, append-nil}
+use Rattle.std.proofs.Common.{◌≡◌, ℕ, ◌+◌, ◌<◌, ◌≤◌, Bool, true, false, ◌&&◌, ◌||◌, List, [], ◌∷◌, ◌++◌, length, take, get_or, refl, sym, ap, ◌∙◌, cond, map}
 use Rattle.std.specs.Prelude.{if◌then◌else◌}
 use Rattle.std.specs.List.{list_any}
 use Rattle.std.proofs.lemmas.Bool.{or_left, or_right}
@@ -9,7 +9,7 @@ use Rattle.std.proofs.Math.Bool.{or-false}
 use Rattle.indexmap.specs.IndexSet.{insert_key}
 use Rattle.tla_tree.specs.Tree.{Word}
 use Rattle.algorithm_limits.proofs.Tables.{equal, equal_is}
-use Rattle.pcal_tree.proofs.SetLaws.{any_map, or_both, or_mixed}
+use Rattle.pcal_tree.proofs.SetLaws.{any_map, or_both}
 use Rattle.pcal_tree.specs.laws.MacroSpots.{Origin, earlier, assigned}
 use Rattle.stale_rules.specs.declared.assigned.Assigned.{Assigned}
 use Rattle.stale_rules.specs.Joins.{Joins}

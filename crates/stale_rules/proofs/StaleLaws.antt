@@ -1,6 +1,5 @@
 -- The first use of a definition after what it reads was assigned, by what no test tells apart.
-use Rattle.std.proofs.Common.{◌≡◌, List, [], ◌∷◌, ◌++◌, Bool, true, false, ◌||◌, ◌&&◌, bytes_eq, Option, Some, None, refl, sym, ◌∙◌, ap, map}
-use Rattle.std.specs.Option.{option_map}
+use Rattle.std.proofs.Common.{◌≡◌, List, [], ◌∷◌, Bool, true, false, ◌||◌, ◌&&◌, bytes_eq, Some, None, refl, sym, ◌∙◌, ap, map}
 use Rattle.std.specs.List.{list_any, flat_map}
 use Rattle.std.proofs.Math.Bool.{or-false}
 use Rattle.tla_token.specs.declared.rule.Rule.TheVariants.{DefinedStale}
@@ -10,9 +9,9 @@ use Rattle.tla_tree.specs.Tree.{Word}
 use Rattle.pcal_tree.specs.Algorithm.{Name}
 use Rattle.pcal_tree.specs.Offences.{offence_if, first}
 use Rattle.pcal_tree.specs.OffencesStale.{stands_for, stale_at}
-use Rattle.pcal_tree.specs.Paths.{has_assigned, meets}
+use Rattle.pcal_tree.specs.Paths.{meets}
 use Rattle.pcal_tree.specs.Reads.{Reading, through}
-use Rattle.pcal_tree.specs.laws.MacroSpots.{Use, Origin, earlier, assigned, Trail, Seen, name_used, word_of, spot_of}
+use Rattle.pcal_tree.specs.laws.MacroSpots.{Use, Origin, Trail, Seen, name_used, word_of, spot_of}
 use Rattle.pcal_tree.proofs.FirstLaws.{same_first}
 use Rattle.pcal_tree.proofs.SelfByMacro.{turned}
 use Rattle.pcal_tree.proofs.SetLaws.{Same, any_flat, any_map, any_same, any_none, meets_any}

@@ -1,22 +1,22 @@
 -- What statements use and assign that have none in them: what is left still gives the whole.
 use Rattle.std.specs.List.{list_any}
-use Rattle.std.proofs.Common.{◌≡◌, ℕ, ◌+◌, ◌<◌, ◌≤◌, Bool, true, false, ◌||◌, List, [], ◌∷◌, ◌++◌, length, drop, get_or, map, cond, refl, sym, ap, ◌∙◌, append-nil, append_assoc, bytes_eq, codes}
-use Rattle.std.proofs.lemmas.List.{drop_more, drop_all, map-append}
+use Rattle.std.proofs.Common.{◌≡◌, ℕ, ◌+◌, ◌<◌, ◌≤◌, Bool, true, false, ◌||◌, List, [], ◌∷◌, ◌++◌, length, drop, get_or, map, cond, refl, sym, ap, ◌∙◌, append-nil, append_assoc, bytes_eq}
+use Rattle.std.proofs.lemmas.List.{drop_more, drop_all}
 use Rattle.tla_token.specs.declared.place.Place.{Place}
-use Rattle.tla_tree.specs.Tree.{Word, Tree, node, name, words}
-use Rattle.tla_tree.specs.Pool.{at, trees_at}
+use Rattle.tla_tree.specs.Tree.{Word, Tree, words}
+use Rattle.tla_tree.specs.Pool.{at}
 use Rattle.pcal_tree.specs.declared.algorithm.Assignment.{Assignment}
 use Rattle.pcal_tree.specs.declared.algorithm.Bind.{Bind}
 use Rattle.pcal_tree.specs.declared.algorithm.Bind.TheVariants as bind
-use Rattle.pcal_tree.specs.Algorithm.{Name, goto, call, Statement, Procedure}
+use Rattle.pcal_tree.specs.Algorithm.{Name, Procedure}
 use Rattle.pcal_tree.specs.InMemory.{assignments_at, binds_at}
-use Rattle.pcal_tree.specs.OffencesStale.{used_by_call, jumps_use, self_at}
+use Rattle.pcal_tree.specs.OffencesStale.{used_by_call, self_at}
 use Rattle.pcal_tree.specs.Paths.{root, roots, some_word}
 use Rattle.pcal_tree.specs.Reads.{named}
-use Rattle.pcal_tree.specs.laws.MacroSpots.{Use, other, uses, left_uses, uses_of_all, uses_of_assignments, uses_of_binds}
+use Rattle.pcal_tree.specs.laws.MacroSpots.{Use, other, uses, left_uses, uses_of_assignments, uses_of_binds}
 use Rattle.stale_rules.specs.declared.steps.Jump.{Jump}
 use Rattle.stale_rules.specs.Joins.{Joins}
-use Rattle.stale_rules.specs.StepsIn.{jump_words, AreJumps, others_at, simple_uses}
+use Rattle.stale_rules.specs.StepsIn.{jump_words, AreJumps, others_at}
 use Rattle.stale_rules.proofs.SetLaws.{joins_none, joins_then}
 
 -- ---- lists of uses

@@ -1,12 +1,11 @@
 -- Uses of names in expressions, one after another.
-use Rattle.std.proofs.Common.{◌≡◌, ℕ, ◌+◌, ◌<◌, ◌≤◌, List, [], ◌∷◌, ◌++◌, length, drop, get_or, map, refl, sym, ap, ◌∙◌, append-nil, append_assoc}
+use Rattle.std.proofs.Common.{◌≡◌, ℕ, ◌+◌, ◌<◌, ◌≤◌, List, [], ◌∷◌, ◌++◌, length, drop, get_or, sym, ap, ◌∙◌, append-nil, append_assoc}
 use Rattle.std.proofs.lemmas.List.{map-append, drop_more, drop_all}
-use Rattle.tla_token.specs.declared.place.Place.{Place}
-use Rattle.tla_tree.specs.Tree.{Tree, Trees, node, name}
+use Rattle.tla_tree.specs.Tree.{Tree}
 use Rattle.tla_tree.specs.Pool.{at, trees_at}
 use Rattle.pcal_tree.specs.laws.MacroSpots as spots
 use Rattle.stale_rules.specs.declared.uses.Use.{Use}
-use Rattle.stale_rules.specs.UsesIn.{use_of, uses_of, uses_as}
+use Rattle.stale_rules.specs.UsesIn.{use_of, uses_of}
 
 pub one_more : (old : List Use) (u : Use) → uses_of (old ++ u ∷ []) ≡ uses_of old ++ use_of u ∷ []
 one_more old u = map-append use_of old (u ∷ [])

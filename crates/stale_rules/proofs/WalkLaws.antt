@@ -1,21 +1,18 @@
 -- What is seen, one after another, and with arguments put in.
 use Rattle.std.proofs.Common.{◌≡◌, ℕ, ◌+◌, ◌<◌, ◌≤◌, Bool, true, false, ◌||◌, ◌&&◌, List, [], ◌∷◌, ◌++◌, length, take, get_or, Option, Some, None, refl, sym, ap, ◌∙◌, subst, cond, map, append-nil, append_assoc}
 use Rattle.std.specs.List.{list_any, flat_map}
-use Rattle.std.specs.Option.{option_map}
 use Rattle.std.proofs.lemmas.List.{take_more, take_all}
 use Rattle.std.proofs.lemmas.List.Folds.{list_any-append}
 use Rattle.std.proofs.lemmas.Grind.{flat_map-append}
-use Rattle.std.proofs.Math.Bool.{or-false}
 use Rattle.tla_tree.specs.Tree.{Word, Trees, no_trees}
 use Rattle.pcal_tree.specs.Algorithm.{Name}
-use Rattle.pcal_tree.specs.Paths.{again, rounds}
-use Rattle.pcal_tree.specs.laws.MacroSpots.{Use, value, left, other, Origin, earlier, assigned, Trail, At, unlabelled, Seen, on_trail, Called, joined, Put, put_origin, put_trail, put_use, put_seen, put_at, put_called, before_on}
+use Rattle.pcal_tree.specs.Paths.{again}
+use Rattle.pcal_tree.specs.laws.MacroSpots.{Use, value, left, other, Origin, earlier, assigned, Trail, Seen, on_trail, Called, joined, Put, put_origin, put_trail, put_use, put_seen, put_called, before_on}
 use Rattle.pcal_tree.proofs.SetLaws.{Same, any_flat, any_map, any_same, any_none}
 use Rattle.pcal_tree.proofs.SpotCalls.{LikeTrail, Like, met, passes, SeenLike, like_then}
 use Rattle.pcal_tree.proofs.SpotGrafts.{putting}
 use Rattle.pcal_tree.proofs.SpotMacros.{any_turned}
 use Rattle.stale_rules.specs.declared.assigned.Assigned.{Assigned}
-use Rattle.stale_rules.specs.declared.uses.Use as memory
 use Rattle.stale_rules.specs.declared.walk.Group.{Group}
 use Rattle.stale_rules.specs.declared.walk.Walk.{Walk}
 use Rattle.stale_rules.specs.declared.walk.Ways.{Ways}
@@ -24,7 +21,7 @@ use Rattle.stale_rules.specs.PlainPuts.{plain, way}
 use Rattle.stale_rules.specs.SeenIn.{group_seen, seen_of, at_of, Sees, IsWay, Walks, trail_stepped, stepping, IsLoop, rounds_of, looping}
 use Rattle.stale_rules.specs.Sets.{origins, trail_of}
 use Rattle.stale_rules.specs.UsesIn.{uses_of}
-use Rattle.stale_rules.proofs.PathLaws.{like_itself, like_turned, like_joined}
+use Rattle.stale_rules.proofs.PathLaws.{like_itself, like_joined}
 use Rattle.stale_rules.proofs.PlainPuts.{seen_put, uses_kept}
 use Rattle.stale_rules.proofs.SetLaws.{origins_any}
 

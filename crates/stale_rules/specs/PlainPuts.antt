@@ -1,5 +1,5 @@
 -- A body of which no parameter is replaced: what is seen in it after other assignments.
-use Rattle.std.specs.Prelude.{List, ◌++◌, Option, Some, None}
+use Rattle.std.specs.Prelude.{List, ◌++◌, Some, None}
 use Rattle.pcal_tree.specs.laws.MacroSpots.{Origin, Trail, At, Called, Put}
 
 -- these were assigned before

@@ -1,5 +1,5 @@
 -- What definitions read, in memory.
-use Rattle.std.specs.Prelude.{◌≡◌, ◌≤◌, length, ℕ, zero, suc, List, [], ◌∷◌, ◌++◌, Bool, cond, map, unwrap_or, slice_get}
+use Rattle.std.specs.Prelude.{◌≡◌, ◌≤◌, length, ℕ, zero, suc, List, [], ◌∷◌, ◌++◌, Bool, cond, unwrap_or, slice_get}
 use Rattle.std.specs.List.{list_any, flat_map}
 use Rattle.tla_token.specs.Signs.{is_among}
 use Rattle.tla_tree.specs.Tree.{Word}

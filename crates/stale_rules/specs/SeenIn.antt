@@ -1,11 +1,11 @@
 -- What is seen on paths through statements, in memory, and where they end.
-use Rattle.std.specs.Prelude.{◌≡◌, List, [], ◌++◌, Bool, Option, Some, None, map, cond}
+use Rattle.std.specs.Prelude.{◌≡◌, List, [], ◌++◌, Bool, Some, None, map, cond}
 use Rattle.std.specs.List.{flat_map}
 use Rattle.std.specs.Option.{option_map}
 use Rattle.tla_tree.specs.Tree.{Word}
 use Rattle.pcal_tree.specs.Paths.{rounds}
 use Rattle.pcal_tree.specs.laws.MacroSpots.{Use, Origin, assigned, Trail, At, unlabelled, Seen, on_trail, Called, joined, put_called}
-use Rattle.pcal_tree.proofs.SpotCalls.{LikeTrail, Like, SeenLike}
+use Rattle.pcal_tree.proofs.SpotCalls.{Like, SeenLike}
 use Rattle.stale_rules.specs.declared.walk.Group.{Group}
 use Rattle.stale_rules.specs.declared.walk.Walk.{Walk}
 use Rattle.stale_rules.specs.declared.walk.Ways.{Ways}

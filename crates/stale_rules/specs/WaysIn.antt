@@ -1,5 +1,5 @@
 -- What is seen in statements where no path leads to them and where one does, in memory.
-use Rattle.std.specs.Prelude.{◌≡◌, List, [], ◌++◌, false, Option}
+use Rattle.std.specs.Prelude.{◌≡◌, [], ◌++◌, false, Option}
 use Rattle.pcal_tree.specs.laws.MacroSpots.{Trail, At, Called, joined}
 use Rattle.pcal_tree.proofs.SpotCalls.{LikeTrail, Like, SeenLike}
 use Rattle.stale_rules.specs.declared.assigned.Assigned.{Assigned}

@@ -1,5 +1,5 @@
 -- Proves what definitions read.
-use Rattle.std.proofs.Common.{List, [], ◌∷◌, refl, sym, ap, subst, ◌∙◌, arith, length, take, reverse, filter}
+use Rattle.std.proofs.Common.{List, [], ◌∷◌, sym, ap, subst, ◌∙◌, arith, length, take, reverse, filter}
 use Rattle.std.proofs.lemmas.List.{take_all, length-append}
 use Rattle.tla_tree.proofs.PoolNumbers.{past_at}
 use Rattle.tla_tree.specs.Tree.{Word, words}

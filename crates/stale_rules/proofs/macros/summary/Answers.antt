@@ -2,7 +2,7 @@
 use Rattle.std.proofs.Common.{true, false, List, [], ◌∷◌, Some, None, subst, ◌∙◌}
 use Rattle.pcal_tree.specs.declared.algorithm.Stmt.{Stmt}
 use Rattle.pcal_tree.specs.InMemory.{statements_at}
-use Rattle.pcal_tree.specs.laws.MacroSpots.{At, Called, earlier, seen_in_call, seen_in_body, starting}
+use Rattle.pcal_tree.specs.laws.MacroSpots.{At, earlier, seen_in_call, seen_in_body, starting}
 use Rattle.stale_rules.specs.PlainPuts.{Going}
 use Rattle.stale_rules.specs.WaysIn.{Goes}
 use Rattle.stale_rules.proofs.BodyLaws.{is_way}

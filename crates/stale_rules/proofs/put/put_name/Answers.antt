@@ -1,5 +1,5 @@
 -- Proves that an argument is put in for a name that was assigned.
-use Rattle.std.proofs.Common.{ℕ, List, OnOk, Option, sym, ap, subst}
+use Rattle.std.proofs.Common.{List, OnOk, Option, ap, subst}
 use Rattle.tla_tree.specs.Tree.{Word, Tree}
 use Rattle.pcal_tree.specs.Paths.{some_word}
 use Rattle.pcal_tree.specs.laws.MacroSummaries.{variable_of}

@@ -1,5 +1,5 @@
 -- Proves that the first offence of an algorithm is found.
-use Rattle.std.proofs.Common.{List, ◌++◌, map, reverse, sym, ap, ◌∙◌, subst}
+use Rattle.std.proofs.Common.{List, map, reverse, sym, ap, ◌∙◌, subst}
 use Rattle.std.specs.List.{flat_map}
 use Rattle.tla_tree.specs.Tree.{Word}
 use Rattle.pcal_tree.specs.declared.algorithm.Definition.{Definition}

@@ -1,5 +1,5 @@
 -- Proves that names are uses at a place.
-use Rattle.std.proofs.Common.{List, [], ◌∷◌, ◌++◌, ◌∙◌, ap}
+use Rattle.std.proofs.Common.{[], ◌∷◌, ◌++◌, ◌∙◌, ap}
 use Rattle.tla_tree.specs.Tree.{Name}
 use Rattle.pcal_tree.specs.laws.MacroSpots.{other}
 use Rattle.pcal_tree.specs.Reads.{named}

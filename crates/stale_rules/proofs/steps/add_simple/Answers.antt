@@ -1,12 +1,12 @@
 -- Proves what a call of a procedure uses.
-use Rattle.std.proofs.Common.{ℕ, List, ◌∷◌, ◌++◌, ◌≡◌, ◌∙◌, map, sym, ap, subst}
+use Rattle.std.proofs.Common.{ℕ, List, ◌++◌, ◌≡◌, ◌∙◌, map, sym, ap, subst}
 use Rattle.tla_tree.specs.Tree.{Name}
 use Rattle.tla_tree.specs.Pool.{trees_at}
 use Rattle.pcal_tree.specs.declared.algorithm.Simple.{Simple}
 use Rattle.pcal_tree.specs.InMemory.{simple_at}
 use Rattle.pcal_tree.specs.OffencesStale.{self_at, jumps_use}
 use Rattle.pcal_tree.specs.Algorithm.{call}
-use Rattle.pcal_tree.specs.laws.MacroSpots.{Use, other, uses_of_all}
+use Rattle.pcal_tree.specs.laws.MacroSpots.{other, uses_of_all}
 use Rattle.stale_rules.specs.StepsIn.{jump_words, others_at, simple_uses}
 use Rattle.stale_rules.specs.UsesIn.{uses_of}
 use Rattle.stale_rules.proofs.StepLaws.{call_uses, call_step}

@@ -1,5 +1,5 @@
 -- Proves what is asked of the functions that go through an expression.
-use Rattle.std.proofs.Common.{slice_index_or, ◌∙◌, sym, arith}
+use Rattle.std.proofs.Common.{slice_index_or, ◌∙◌, arith}
 use Rattle.std.proofs.lemmas.List.{get_or_default}
 use Rattle.tla_tree.proofs.PoolNumbers.{AllBelow-at}
 use Rattle.stale_rules.proofs.UseLaws.{parts_then, parts_done}

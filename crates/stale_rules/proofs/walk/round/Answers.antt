@@ -1,5 +1,5 @@
 -- Proves what a path is after one round.
-use Rattle.std.proofs.Common.{[], Option, sym, ap, subst}
+use Rattle.std.proofs.Common.{[], Option, sym, subst}
 use Rattle.std.proofs.lemmas.Result.{IfOk-weaker}
 use Rattle.tla_tree.specs.Tree.{no_trees}
 use Rattle.pcal_tree.specs.Paths.{again}

@@ -1,5 +1,5 @@
 -- Proves that what a name reads is there besides.
-use Rattle.std.proofs.Common.{◌≡◌, suc, ◌-◌, ◌<◌, List, length, get_or, ◌∙◌, sym, ap, arith}
+use Rattle.std.proofs.Common.{◌≡◌, suc, ◌-◌, List, length, get_or, ◌∙◌, sym, ap, arith}
 use Rattle.algorithm_limits.specs.Numbers.{number_of}
 use Rattle.stale_rules.specs.declared.names.Names.{Names}
 use Rattle.stale_rules.proofs.ReadLaws.{joins_nothing, number_past, joins_there}

@@ -1,6 +1,5 @@
 -- Proves whether a name reads one of these variables.
-use Rattle.std.proofs.Common.{◌≡◌, suc, ◌-◌, ◌<◌, List, length, get_or, ◌∙◌, sym, ap, arith}
-use Rattle.tla_tree.specs.Tree.{Word}
+use Rattle.std.proofs.Common.{◌≡◌, suc, ◌-◌, List, length, get_or, ◌∙◌, sym, ap, arith}
 use Rattle.algorithm_limits.specs.Numbers.{number_of}
 use Rattle.stale_rules.specs.declared.names.Names.{Names}
 use Rattle.pcal_tree.specs.Paths.{meets}

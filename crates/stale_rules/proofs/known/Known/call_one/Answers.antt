@@ -1,5 +1,5 @@
 -- Proves what is seen in a call of a macro by its name.
-use Rattle.std.proofs.Common.{◌≡◌, suc, ◌-◌, ◌<◌, List, length, get_or, ◌∙◌, sym, ap, subst, arith}
+use Rattle.std.proofs.Common.{◌≡◌, suc, ◌-◌, List, length, get_or, ◌∙◌, sym, ap, arith}
 use Rattle.tla_tree.specs.Pool.{trees_at}
 use Rattle.algorithm_limits.specs.Numbers.{number_of}
 use Rattle.stale_rules.specs.declared.known.Summary.{Summary}

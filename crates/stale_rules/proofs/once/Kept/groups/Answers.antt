@@ -1,5 +1,4 @@
 -- Proves that all uses are seen as before.
-use Rattle.std.proofs.Common.{arith, sym, ap, ◌∙◌}
 use Rattle.stale_rules.proofs.KeptLaws.{groups_none, groups_more, groups_all}
 use Rattle.stale_rules.proofs.once.Kept.groups.Goals as goal
 

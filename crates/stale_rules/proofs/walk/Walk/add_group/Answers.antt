@@ -1,5 +1,5 @@
 -- Proves that what is on one path is seen with arguments put in.
-use Rattle.std.proofs.Common.{List, [], ◌++◌, refl, ◌∙◌}
+use Rattle.std.proofs.Common.{[], ◌++◌, refl, ◌∙◌}
 use Rattle.std.specs.List.{flat_map}
 use Rattle.tla_tree.specs.Pool.{trees_at}
 use Rattle.pcal_tree.specs.laws.MacroSpots.{before_on, put_use}

@@ -7,7 +7,6 @@ use Rattle.stale_rules.specs.SeenIn.{rounds_of}
 use Rattle.stale_rules.specs.Sets.{trail_of}
 use Rattle.stale_rules.specs.UsesIn.{uses_of}
 use Rattle.std.specs.Prelude.{cond}
-use Rattle.pcal_tree.specs.laws.MacroSpots.{Trail, Called}
 use Rattle.stale_rules.proofs.WalkLaws.{loop_walks}
 use Rattle.stale_rules.proofs.walk.Walk.go_round.Goals as goal
 
