@@ -6,7 +6,7 @@ use Rattle.tla_token.specs.declared.place.Place.{Place}
 use Rattle.tla_token.specs.declared.rule.Rule.TheVariants.{LabelInside, UnknownLabel, ReturnOutside}
 use Rattle.tla_token.specs.declared.rule.Refusal.{Refusal}
 use Rattle.tla_token.specs.Signs.{is_among}
-use Rattle.tla_tree.specs.Tree.{Name, Word, Tree, Trees}
+use Rattle.tla_tree.specs.Tree.{Name, Word, Tree}
 use Rattle.tla_tree.specs.Pool.{at}
 use Rattle.pcal_tree.specs.declared.mark.Mark.{Mark}
 use Rattle.pcal_tree.specs.declared.algorithm.Span.{Span}
@@ -23,10 +23,10 @@ use Rattle.pcal_tree.specs.Offences.{offence_if, first}
 use Rattle.pcal_tree.specs.OffencesLabels.{Within, within_with, label_words, labels, second_labels, misplaced, jump_offences_here, jump_offences_inside, jump_offences, jump_offences_of_some}
 use Rattle.pcal_tree.proofs.InMemoryEach.{label_at, simple_in_list_at, if_at, either_at, with_at, while_at}
 use Rattle.algorithm_answer.specs.Joined.{joined}
-use Rattle.algorithm_answer.proofs.Joins.{joined_none, joined_assoc, first_append}
+use Rattle.algorithm_answer.proofs.Joins.{joined_none}
 use Rattle.label_jumps.specs.declared.jumps.Body.{Body}
 use Rattle.label_jumps.specs.declared.labels.Labels.{Labels}
-use Rattle.label_jumps.specs.Meeting.{is_met, AreMet, label_names, Meets}
+use Rattle.label_jumps.specs.Meeting.{is_met, Meets}
 use Rattle.label_jumps.specs.Parted.{misplaced_in_main, misplaced_in}
 use Rattle.label_jumps.specs.Standing.{Stands}
 use Rattle.label_jumps.proofs.FoundLaws.{found_then, found_before}

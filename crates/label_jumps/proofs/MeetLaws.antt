@@ -1,6 +1,5 @@
 -- Labels that are met one after another, and what second ones offend.
-use Rattle.std.proofs.Common.{◌≡◌, ℕ, ◌+◌, ◌<◌, ◌≤◌, nat_lt, Bool, true, false, ◌||◌, List, [], ◌∷◌, ◌++◌, length, map, drop, get_or, Option, None, Vec, Global, refl, sym, ap, ◌∙◌, subst, cond, bytes_eq, arith, lt-ltb, append_assoc, append-nil}
-use Rattle.std.specs.List.{list_any}
+use Rattle.std.proofs.Common.{◌≡◌, ℕ, ◌+◌, ◌<◌, ◌≤◌, nat_lt, Bool, true, false, ◌||◌, List, [], ◌∷◌, ◌++◌, length, drop, get_or, Option, None, Vec, Global, refl, sym, ap, ◌∙◌, subst, cond, bytes_eq, arith, lt-ltb, append_assoc, append-nil}
 use Rattle.std.proofs.lemmas.List.{drop_more, drop_all, map-append}
 use Rattle.std.proofs.lemmas.List.Folds.{list_any-append}
 use Rattle.tla_token.specs.declared.rule.Refusal.{Refusal}

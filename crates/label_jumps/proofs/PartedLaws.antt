@@ -1,5 +1,5 @@
 -- The offences against the rules on labels are those of their two parts.
-use Rattle.std.proofs.Common.{◌≡◌, List, ◌++◌, Bool, true, false, ◌||◌, refl, sym, ap, ◌∙◌}
+use Rattle.std.proofs.Common.{◌≡◌, List, ◌++◌, true, false, ◌||◌, refl, sym, ◌∙◌}
 use Rattle.std.specs.List.{list_any, flat_map}
 use Rattle.std.proofs.lemmas.List.Folds.{list_any-append}
 use Rattle.tla_token.specs.declared.rule.Refusal.{Refusal}
@@ -7,7 +7,7 @@ use Rattle.tla_tree.specs.Tree.{Word, Trees}
 use Rattle.pcal_tree.specs.Algorithm.{Macro, Procedure, Process, Main, alone, processes, Algorithm}
 use Rattle.pcal_tree.specs.Offences.{first}
 use Rattle.pcal_tree.specs.OffencesSteps.{missing_in_macro, missing_in_body, procedure_effects, outer_effects}
-use Rattle.pcal_tree.specs.OffencesLabels.{misplaced, of_macro, of_procedure, of_body, of_main, label_offences_by}
+use Rattle.pcal_tree.specs.OffencesLabels.{misplaced, of_main, label_offences_by}
 use Rattle.pcal_tree.specs.Paths.{Effect}
 use Rattle.pcal_tree.proofs.FirstLaws.{same_first}
 use Rattle.pcal_tree.proofs.SetLaws.{Same, any_flat, any_same, any_or, or_mixed}

@@ -93,12 +93,7 @@ impl Body {
 
     // The same of branches.
     #[cycle(jumps)]
-    fn branches(
-        &self,
-        found: Option<Refusal>,
-        in_with: bool,
-        list: &[Vec<Stmt>],
-    ) -> Option<Refusal>
+    fn branches(&self, found: Option<Refusal>, in_with: bool, list: &[Vec<Stmt>]) -> Option<Refusal>
         ensures { (ts : List Tree) (w : Within) → Stands self.now in_with w → result ≡ joined found (first (jump_offences_of_some w (branches_at ts list.now))) }
     {
         let mut so_far = found;

@@ -1,5 +1,5 @@
 -- Proves that the first of what is misplaced in them is found.
-use Rattle.std.proofs.Common.{true, false, List, ap, ◌∙◌}
+use Rattle.std.proofs.Common.{false, List, ap, ◌∙◌}
 use Rattle.pcal_tree.specs.declared.algorithm.Stmt.{Stmt}
 use Rattle.pcal_tree.specs.declared.algorithm.Process.{Process}
 use Rattle.pcal_tree.specs.Algorithm as tree

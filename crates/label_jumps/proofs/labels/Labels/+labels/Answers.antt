@@ -6,7 +6,7 @@ use Rattle.pcal_tree.specs.InMemory.{statements_at, branches_at}
 use Rattle.pcal_tree.specs.OffencesLabels.{labels, labels_of_some}
 use Rattle.pcal_tree.proofs.StatementHeights.{height, heights, branch_heights, either_height}
 use Rattle.label_jumps.specs.Meeting.{MeetsStmt}
-use Rattle.label_jumps.proofs.MeetLaws.{met_as, simple_met, if_met, either_met, with_met, while_met, body_met, body_done, branches_met, branches_done}
+use Rattle.label_jumps.proofs.MeetLaws.{met_as, if_met, either_met, with_met, while_met, body_met, body_done, branches_met, branches_done}
 use Rattle.label_jumps.proofs.labels.Labels.+labels.Goals as goal
 
 pub body-stmt-requires : goal.body-stmt-requires
