@@ -1,0 +1,2 @@
+-- That the lines of labels are those that are defined.
+pub mod LineLaws
