@@ -18,7 +18,6 @@ use Rattle.pcal_tree.proofs.FirstLaws.{same_first}
 use Rattle.pcal_tree.proofs.RefusedAlike.{first_with_rebinds}
 use Rattle.algorithm_answer.specs.Joined.{joined}
 use Rattle.algorithm_answer.proofs.Joins.{joined_assoc, first_append}
-use Rattle.name_rules.specs.ButLate.{offences_but_late}
 
 -- ---- in whatever order
 
@@ -128,15 +127,6 @@ all_joined a o =
 
     under : (x ys zs : List Refusal) → first ys ≡ first zs → first (x ++ ys) ≡ first (x ++ zs)
     under x ys zs h = first_append x ys ∙ ap (joined (first x)) h ∙ sym (first_append x zs)
-
--- the same where no definition is looked at that may be used late
-pub joined_but_late : (a : Algorithm) (o : Outside)
-    → joined (first (use_offences_of a o)) (joined (first (repeated_names a o ++ (reserved_declared a o ++ (module_needs a o ++ outside_variables o))))
-    (joined (first (process_offences a ++ (own_offences a ++ order_offences a))) (joined (first (rebind_offences_of a o)) (first (self_offences a)))))
-    ≡ first (offences_but_late a o)
-joined_but_late a o =
-    found (use_offences_of a o) (module_needs a o) (outside_variables o) (repeated_names a o) (rebind_offences_of a o) (reserved_declared a o) (process_offences a) (own_offences a) (order_offences a) [] (self_offences a)
-    ∙ sym (defined (use_offences_of a o) (module_needs a o) (outside_variables o) (repeated_names a o) (rebind_offences_of a o) (reserved_declared a o) (process_offences a) (own_offences a) (order_offences a) [] (self_offences a))
 
 -- where none is first, there is none
 pub none_first : (rs : List Refusal) → first rs ≡ None → rs ≡ []

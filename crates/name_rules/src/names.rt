@@ -1,4 +1,4 @@
-//! The names that an algorithm in a module is written with, if it breaks no rule on names that is looked at.
+//! The names that an algorithm in a module is written with, if it breaks no rule on names.
 
 ghost use Rattle.std.specs.Prelude.{◌≡◌, ◌≤◌, [], length, Err, Some, IfOk, OnOk};
 ghost use Rattle.tla_token.specs.declared.rule.Refusal as refusals;
@@ -7,9 +7,9 @@ ghost use Rattle.tla_tree.specs.Tree.{words};
 ghost use Rattle.pcal_tree.specs.InMemory.{algorithm_at, past_algorithm};
 ghost use Rattle.pcal_tree.specs.Names.{naming};
 ghost use Rattle.pcal_tree.specs.Offences.{first};
+ghost use Rattle.pcal_tree.specs.OffencesOfNames.{name_offences};
 ghost use Rattle.module_outside.specs.WholeAt.{outside_at};
 ghost use Rattle.written_names.specs.Units.{naming_of};
-ghost use Rattle.name_rules.specs.ButLate.{offences_but_late};
 
 use crate::refusal::name_refusal;
 use crate::taken::taken_in_all;
@@ -52,8 +52,7 @@ fn written(
 ///
 /// # Errors
 ///
-/// The least of the rules on names that it breaks, at its first place, but for the rule on definitions that are used late, which
-/// isn't looked at yet; or want of memory.
+/// The least of the rules on names that it breaks, at its first place; or want of memory.
 pub fn name_all(
     alloc: Global,
     pool: &Pool,
@@ -62,8 +61,8 @@ pub fn name_all(
 ) -> Result<Naming, Stop>
     requires { past_algorithm algorithm.now ≤ length pool.now }
     ensures names { IfOk result (λ r. naming_of r ≡ naming (algorithm_at pool.now algorithm.now) (outside_at pool.now outside.now)) }
-    ensures clean { OnOk result (offences_but_late (algorithm_at pool.now algorithm.now) (outside_at pool.now outside.now) ≡ []) }
-    ensures refused { (r : refusals.Refusal) → result ≡ Err (stop.Refused r) → first (offences_but_late (algorithm_at pool.now algorithm.now) (outside_at pool.now outside.now)) ≡ Some r }
+    ensures clean { OnOk result (name_offences (algorithm_at pool.now algorithm.now) (outside_at pool.now outside.now) ≡ []) }
+    ensures refused { (r : refusals.Refusal) → result ≡ Err (stop.Refused r) → first (name_offences (algorithm_at pool.now algorithm.now) (outside_at pool.now outside.now)) ≡ Some r }
 {
     match name_refusal(alloc, pool, algorithm, outside)? {
         Some(refusal) => Err(Stop::Refused(refusal)),

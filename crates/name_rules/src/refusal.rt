@@ -1,10 +1,10 @@
-//! The first name that is wrong, by whatever rule on names but the one on definitions that are used late.
+//! The first name that is wrong, by whatever rule on names.
 
 ghost use Rattle.std.specs.Prelude.{◌≡◌, ◌≤◌, length, IfOk};
 ghost use Rattle.pcal_tree.specs.InMemory.{algorithm_at, past_algorithm};
 ghost use Rattle.pcal_tree.specs.Offences.{first};
+ghost use Rattle.pcal_tree.specs.OffencesOfNames.{name_offences};
 ghost use Rattle.module_outside.specs.WholeAt.{outside_at};
-ghost use Rattle.name_rules.specs.ButLate.{offences_but_late};
 
 use algorithm_limits::order::least;
 use declared_rules::refusal::declared_refusal;
@@ -12,13 +12,13 @@ use module_outside::outside::Outside;
 use pcal_tree::algorithm::Algorithm;
 use read_rules::{read_refusal, self_refusal};
 use rebind_rules::rebind_refusal;
+use stale_rules::stale::stale_refusal;
 use std::alloc::{AllocError, Global};
 use tla_pool::Pool;
 use tla_token::Refusal;
 use use_rules::use_refusal;
 
-/// The least of the rules on names that an algorithm in a module breaks, at its first place, if it breaks one; but for the rule
-/// on definitions that are used late, which isn't looked at yet.
+/// The least of the rules on names that an algorithm in a module breaks, at its first place, if it breaks one.
 ///
 /// # Errors
 ///
@@ -30,13 +30,14 @@ pub fn name_refusal(
     outside: &Outside,
 ) -> Result<Option<Refusal>, AllocError>
     requires { past_algorithm algorithm.now ≤ length pool.now }
-    ensures { IfOk result (λ r. r ≡ first (offences_but_late (algorithm_at pool.now algorithm.now) (outside_at pool.now outside.now))) }
+    ensures { IfOk result (λ r. r ≡ first (name_offences (algorithm_at pool.now algorithm.now) (outside_at pool.now outside.now))) }
 {
     let used = use_refusal(alloc, pool, algorithm, outside)?;
     let declared = declared_refusal(alloc, pool, algorithm, outside)?;
     let read = read_refusal(alloc, pool, algorithm)?;
     let rebound = rebind_refusal(alloc, pool, algorithm, outside)?;
+    let stale = stale_refusal(alloc, pool, algorithm)?;
     let selves = self_refusal(alloc, pool, algorithm)?;
-    let late = least(rebound, selves);
+    let late = least(rebound, least(stale, selves));
     Ok(least(used, least(declared, least(read, late))))
 }
