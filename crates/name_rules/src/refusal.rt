@@ -12,7 +12,7 @@ use module_outside::outside::Outside;
 use pcal_tree::algorithm::Algorithm;
 use read_rules::{read_refusal, self_refusal};
 use rebind_rules::rebind_refusal;
-use stale_rules::stale_refusal;
+use stale_rules::stale::stale_refusal;
 use std::alloc::{AllocError, Global};
 use tla_pool::Pool;
 use tla_token::Refusal;
