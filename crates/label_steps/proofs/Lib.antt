@@ -1,3 +1,4 @@
 -- Lemmas of this crate.
 pub mod DueLaws
 pub mod WalkLaws
+pub mod StraightLaws

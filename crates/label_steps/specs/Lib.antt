@@ -2,3 +2,4 @@
 pub mod MissingLabels
 pub mod AssignedTwice
 pub mod Walking
+pub mod StraightPaths
