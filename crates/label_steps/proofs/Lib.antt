@@ -2,3 +2,6 @@
 pub mod DueLaws
 pub mod WalkLaws
 pub mod StraightLaws
+pub mod GatherLaws
+pub mod PathLaws
+pub mod SideLaws

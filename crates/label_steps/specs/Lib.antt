@@ -3,3 +3,6 @@ pub mod MissingLabels
 pub mod AssignedTwice
 pub mod Walking
 pub mod StraightPaths
+pub mod Gathered
+pub mod PathsIn
+pub mod SidesIn

@@ -3,5 +3,7 @@
 
 pub mod due;
 pub mod laws;
+pub mod path;
+pub mod sides;
 
 pub use due::due_refusal;
