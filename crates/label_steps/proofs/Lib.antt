@@ -5,3 +5,4 @@ pub mod StraightLaws
 pub mod GatherLaws
 pub mod PathLaws
 pub mod SideLaws
+pub mod PutLaws

@@ -6,3 +6,4 @@ pub mod StraightPaths
 pub mod Gathered
 pub mod PathsIn
 pub mod SidesIn
+pub mod PutIn

@@ -4,6 +4,7 @@
 pub mod due;
 pub mod laws;
 pub mod path;
+pub mod put;
 pub mod sides;
 
 pub use due::due_refusal;

@@ -35,9 +35,13 @@ pub struct Sides {
     pub ranks: Table,
 }
 
-// The variable with which a left side begins.
+/// The variable with which a left side begins.
+///
+/// # Errors
+///
+/// Only for want of memory.
 #[cycle(roots)]
-fn root(pool: &Pool, e: NodeId) -> Result<Option<Name>, AllocError>
+pub fn root(pool: &Pool, e: NodeId) -> Result<Option<Name>, AllocError>
     requires { e < length pool.now }
     ensures { IfOk result (λ r. r ≡ root (at pool.now e)) }
 {
@@ -67,8 +71,8 @@ fn root_of_first(pool: &Pool, parts: &[NodeId], past: NodeId) -> Result<Option<N
     }
 }
 
-// Whether a left side is the whole of a variable.
-fn is_whole(pool: &Pool, e: NodeId) -> bool
+/// Whether a left side is the whole of a variable.
+pub fn is_whole(pool: &Pool, e: NodeId) -> bool
     requires { e < length pool.now }
     ensures { result ≡ is_whole (at pool.now e) }
 {
