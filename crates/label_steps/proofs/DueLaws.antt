@@ -7,14 +7,14 @@ use Rattle.std.proofs.lemmas.List.Folds.{list_any-append}
 use Rattle.std.proofs.Math.Bool.{or-false}
 use Rattle.tla_token.specs.declared.place.Place.{Place}
 use Rattle.tla_token.specs.declared.rule.Rule.{Rule}
-use Rattle.tla_token.specs.declared.rule.Rule.TheVariants.{FirstLabel, WhileLabel, AfterJump, AfterBranch, AssignTwice}
+use Rattle.tla_token.specs.declared.rule.Rule.TheVariants.{FirstLabel, AfterBranch, AssignTwice}
 use Rattle.tla_token.specs.declared.rule.Refusal.{Refusal}
 use Rattle.tla_token.specs.Rules.{rule_number}
 use Rattle.tla_tree.specs.Tree.{Word, Trees}
 use Rattle.pcal_tree.specs.Algorithm.{Statement, assign, await, print, assert, skip, branch, either, with, while, goto, macro, call, return, Statements, done, then, mark, Branches, no_branches, or, Macro, Procedure, Process, Main, alone, processes, Algorithm}
-use Rattle.pcal_tree.specs.Run.{Partner, no_partner, goto_partner, return_partner, is_pair, partner_of}
+use Rattle.pcal_tree.specs.Run.{Partner, no_partner, goto_partner, return_partner, partner_of}
 use Rattle.pcal_tree.specs.Offences.{offence_if, first}
-use Rattle.pcal_tree.specs.OffencesSteps.{holds, holds_some, due_after, Before, at_first, inside, Visit, visits_inside, visits, visits_of_some, due_offence, while_offence, missing_label, effect_with, assigns_twice, offences_at, step_offences, missing_in_macro, missing_in_body, procedure_effects, outer_effects}
+use Rattle.pcal_tree.specs.OffencesSteps.{holds, holds_some, due_after, Before, at_first, inside, Visit, visits_inside, visits, visits_of_some, due_offence, while_offence, missing_label, effect_with, assigns_twice, step_offences, missing_in_macro, missing_in_body, procedure_effects, outer_effects}
 use Rattle.pcal_tree.specs.Paths.{Effect, Effects, nothing, Path, after_one, has_assigned}
 use Rattle.pcal_tree.proofs.FirstLaws.{Below, same_first, lesser_first}
 use Rattle.pcal_tree.proofs.SetLaws.{Same, any_flat, any_same, any_none, none_together}

@@ -15,12 +15,11 @@ use Rattle.pcal_tree.specs.Run.{Partner, partner_of}
 use Rattle.pcal_tree.specs.Paths as path
 use Rattle.pcal_tree.specs.Paths.{Effects, Path, after_one, after, after_some}
 use Rattle.pcal_tree.specs.OffencesSteps.{Before, inside, due_after, Visit, visits_inside, visits, visits_of_some}
-use Rattle.pcal_tree.specs.laws.MacroSummaries.{Pair, in_turn, at_once, Found, same_truth, same_side, same_pair, union, none_found, both, Trail, joined, trail_after_one, trail_after, trail_after_some, found_on, found_inside, found, found_in_some}
+use Rattle.pcal_tree.specs.laws.MacroSummaries.{Pair, in_turn, at_once, Found, same_truth, same_side, same_pair, union, none_found, both, joined, trail_after_one, trail_after, trail_after_some, found_on, found_inside, found, found_in_some}
 use Rattle.pcal_tree.proofs.EffectLaws.{Alike}
 use Rattle.pcal_tree.proofs.SetLaws.{any_flat, any_map, any_same, Same, same_both, Sound, any_union}
 use Rattle.label_steps.specs.Gathered.{assigning, names_met, pairs_met, gathered, FoundAlike}
 use Rattle.label_steps.specs.MissingLabels.{due_in}
-use Rattle.label_steps.specs.StraightPaths.{straight_visits}
 use Rattle.label_steps.proofs.DueLaws.{At}
 use Rattle.label_steps.proofs.StraightLaws.{all_straight}
 

@@ -1,7 +1,6 @@
 -- Sets of names that grow at their end, and what branches of a path have assigned.
 use Rattle.std.proofs.Common.{◌≡◌, ℕ, ◌+◌, ◌<◌, ◌≤◌, Bool, true, false, ◌&&◌, ◌||◌, List, [], ◌∷◌, ◌++◌, length, take, drop, get_or, Option, Some, None, refl, sym, ap, ◌∙◌, cond, subst, append-nil, append_assoc, bytes_eq}
-use Rattle.std.specs.Prelude.{if◌then◌else◌, ◌==◌}
-use Rattle.std.specs.Cmp.Lexicographic.{pointwise}
+use Rattle.std.specs.Prelude.{if◌then◌else◌}
 use Rattle.std.specs.List.{list_any}
 use Rattle.std.proofs.lemmas.Bool.{or_left, or_right}
 use Rattle.std.proofs.lemmas.List.{take_more, take_all, take-append-drop}
@@ -14,7 +13,7 @@ use Rattle.algorithm_limits.proofs.Tables.{equal, equal_is, same_test}
 use Rattle.pcal_tree.specs.Paths as paths
 use Rattle.pcal_tree.specs.Paths.{joined, meets, has_assigned}
 use Rattle.pcal_tree.proofs.EffectLaws.{Alike}
-use Rattle.pcal_tree.proofs.SetLaws.{Same, same_both, or_both, or_mixed, any_same, meets_any}
+use Rattle.pcal_tree.proofs.SetLaws.{any_same, meets_any}
 use Rattle.label_steps.specs.declared.path.Path.{Path}
 use Rattle.label_steps.specs.PathsIn.{path_of, Grows, ends_of}
 

@@ -1,18 +1,16 @@
 -- Left sides, from the last one to the first: whether two clash is told by ranks of their variables.
-use Rattle.std.proofs.Common.{◌≡◌, ℕ, zero, suc, ◌+◌, ◌-◌, ◌<◌, ◌≤◌, max, nat_lt, Bool, true, false, ◌&&◌, ◌||◌, List, [], ◌∷◌, ◌++◌, length, drop, get_or, Option, Some, None, refl, sym, ap, ◌∙◌, cond, bytes_eq, arith, subst, lt-ltb}
+use Rattle.std.proofs.Common.{◌≡◌, ℕ, zero, suc, ◌+◌, ◌-◌, ◌<◌, ◌≤◌, max, Bool, true, false, ◌&&◌, ◌||◌, List, [], ◌∷◌, ◌++◌, length, drop, get_or, Option, Some, None, refl, sym, ap, ◌∙◌, cond, bytes_eq, arith, subst, lt-ltb}
 use Rattle.std.specs.List.{list_any}
 use Rattle.std.proofs.lemmas.Slice.Eq.{bytes_eq-Decides}
 use Rattle.std.proofs.lemmas.List.{drop_more, drop_all}
 use Rattle.std.proofs.lemmas.List.Folds.{list_any-append}
-use Rattle.std.proofs.Math.Bool.{or-false}
 use Rattle.tla_tree.specs.Tree.{Word, Tree}
 use Rattle.tla_tree.specs.Pool.{at}
 use Rattle.pcal_tree.specs.declared.algorithm.Assignment.{Assignment}
 use Rattle.pcal_tree.specs.Algorithm.{Assignments, no_assignments, assignment}
 use Rattle.pcal_tree.specs.InMemory.{assignments_at}
-use Rattle.pcal_tree.specs.Paths.{root, roots, is_whole, some_word, same_word, clash, clashes_with, clashes}
-use Rattle.pcal_tree.proofs.SetLaws.{Same}
-use Rattle.algorithm_limits.specs.Numbers.{Numbers, number_of, with_number}
+use Rattle.pcal_tree.specs.Paths.{root, roots, is_whole, some_word, same_word, clashes_with, clashes}
+use Rattle.algorithm_limits.specs.Numbers.{Numbers, number_of}
 use Rattle.algorithm_limits.proofs.Tables.{number_of_with}
 use Rattle.label_steps.specs.declared.sides.Sides.{Sides}
 use Rattle.label_steps.specs.SidesIn.{rank_with, rank_in, rank_clashes, Passed, AreSides}

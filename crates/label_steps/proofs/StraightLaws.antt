@@ -1,19 +1,17 @@
 -- Where no label is missing paths are straight.
 use Rattle.std.proofs.Common.{◌≡◌, List, [], ◌∷◌, ◌++◌, Bool, true, false, ◌||◌, Option, Some, None, refl, sym, ap, ◌∙◌, cond}
 use Rattle.std.specs.List.{flat_map}
-use Rattle.std.specs.Option.{is_none}
 use Rattle.std.proofs.lemmas.Bool.{or_parts}
 use Rattle.std.proofs.lemmas.Grind.{flat_map-append}
 use Rattle.tla_token.specs.declared.place.Place.{Place}
 use Rattle.tla_token.specs.declared.rule.Rule.{Rule}
 use Rattle.tla_token.specs.declared.rule.Rule.TheVariants.{FirstLabel, AfterBranch}
-use Rattle.tla_token.specs.declared.rule.Refusal.{Refusal}
 use Rattle.tla_tree.specs.Tree.{Tree, Word, Trees}
 use Rattle.pcal_tree.specs.Algorithm.{Statement, assign, await, print, assert, skip, branch, either, with, while, goto, macro, call, return, Statements, done, then, mark, Branches, no_branches, or, Macro, Procedure, Process, Main, alone, processes, Algorithm}
 use Rattle.pcal_tree.specs.Run.{Partner, partner_of}
 use Rattle.pcal_tree.specs.OffencesSteps.{holds_one, holds, holds_some, due_after, inside, Visit, visits_inside, visits, visits_of_some, procedure_effects, outer_effects}
 use Rattle.pcal_tree.specs.Paths.{Effect, Effects, Path, joined, rounds, after_one, after, after_some}
-use Rattle.label_steps.specs.AssignedTwice.{twice_at, twice_in, twice_in_body, twice_in_main, assigned_twice}
+use Rattle.label_steps.specs.AssignedTwice.{twice_at, twice_in_body, twice_in_main, assigned_twice}
 use Rattle.label_steps.specs.MissingLabels.{due_before, due_inside, due_in, due_in_some, due_in_body, due_in_main, missing_labels}
 use Rattle.label_steps.specs.StraightPaths.{straight_one, straight, straight_some, straight_inside, straight_visits, straight_in_some, straight_twice, straight_in_main, straight_offences}
 use Rattle.label_steps.proofs.DueLaws.{At}

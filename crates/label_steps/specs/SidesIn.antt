@@ -1,5 +1,5 @@
 -- Left sides that were passed, in memory.
-use Rattle.std.specs.Prelude.{◌≡◌, ℕ, max, nat_lt, List, [], ◌∷◌, ◌++◌, Bool, ◌||◌, cond, Some}
+use Rattle.std.specs.Prelude.{◌≡◌, ℕ, max, nat_lt, [], ◌∷◌, ◌++◌, Bool, ◌||◌, cond, Some}
 use Rattle.tla_tree.specs.Tree.{Word}
 use Rattle.pcal_tree.specs.Algorithm.{Assignments, no_assignments, assignment}
 use Rattle.pcal_tree.specs.Paths.{root, roots, is_whole, same_word, clashes}

@@ -1,6 +1,6 @@
 -- What paths have assigned where no label is missing: each loop has one, so no path goes round, and what is behind a statement with a label or a jump in it is
 -- behind a label of its own.
-use Rattle.std.specs.Prelude.{List, [], ◌∷◌, ◌++◌, Option, Some, None, option_map}
+use Rattle.std.specs.Prelude.{List, [], ◌∷◌, ◌++◌, Some, None, option_map}
 use Rattle.std.specs.List.{flat_map}
 use Rattle.tla_token.specs.declared.rule.Refusal.{Refusal}
 use Rattle.tla_tree.specs.Tree.{Word, Trees}

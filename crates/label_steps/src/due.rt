@@ -73,7 +73,10 @@ fn pairs(simple: &Simple) -> bool
 fn jumps(simple: &Simple) -> bool
     ensures { (ts : List Tree) → result ≡ holds_one (simple_at ts simple.now) }
 {
-    matches!(simple, Simple::Goto(_) | Simple::Call(_, _) | Simple::Return)
+    matches!(
+        simple,
+        Simple::Goto(_) | Simple::Call(_, _) | Simple::Return
+    )
 }
 
 // What is behind a statement with none in it.

@@ -87,11 +87,7 @@ impl Path {
     ///
     /// Only for want of memory.
     #[tactic(auto, using(crate::proofs::PathLaws::ends_first, crate::proofs::PathLaws::ends_more, crate::proofs::PathLaws::ends_stay))]
-    pub fn leave(
-        &mut self,
-        start: usize,
-        ends: Option<Path>,
-    ) -> Result<Option<Path>, AllocError>
+    pub fn leave(&mut self, start: usize, ends: Option<Path>) -> Result<Option<Path>, AllocError>
         requires { start ≤ length self.old.names.keys }
         ensures kept { OnOk result (self.new.names.keys ≡ take start self.old.names.keys) }
         ensures ends { IfOk result (λ r. Alike (ends_of (take start self.old.names.keys) r) (joined (ends_of (take start self.old.names.keys) ends) (path_of self.old))) }

@@ -84,11 +84,7 @@ pub fn is_whole(pool: &Pool, e: NodeId) -> bool
 fn clashes(whole: bool, rank: usize) -> bool
     ensures { result ≡ rank_clashes whole rank }
 {
-    if whole {
-        rank > 0
-    } else {
-        rank > 1
-    }
+    if whole { rank > 0 } else { rank > 1 }
 }
 
 // The rank of a variable with one more left side.

@@ -1,9 +1,9 @@
 -- Proves that the first label that is missing in statements is found.
-use Rattle.std.proofs.Common.{Bool, not, false, List, Vec, Global, refl, sym, ap, ◌∙◌, subst, arith}
+use Rattle.std.proofs.Common.{Bool, not, false, Vec, Global, refl, sym, ap, ◌∙◌, subst, arith}
 use Rattle.tla_token.specs.declared.rule.Rule.TheVariants.{WhileLabel}
 use Rattle.tla_tree.proofs.PoolNumbers.{past_at}
 use Rattle.pcal_tree.specs.declared.algorithm.Stmt.{Stmt}
-use Rattle.pcal_tree.specs.InMemory.{span_of, stmt_at, statements_at}
+use Rattle.pcal_tree.specs.InMemory.{span_of, stmt_at}
 use Rattle.pcal_tree.specs.Offences.{offence_if, first}
 use Rattle.pcal_tree.proofs.StatementHeights.{height, heights, branch_heights, either_height}
 use Rattle.algorithm_answer.specs.Joined.{joined}

@@ -1,11 +1,10 @@
 -- Proves that a statement with none in it is passed.
-use Rattle.std.proofs.Common.{◌||◌, Bool, sym, ap, ◌∙◌}
+use Rattle.std.proofs.Common.{◌||◌, Bool, ap, ◌∙◌}
 use Rattle.tla_token.specs.declared.place.Place.{Place}
 use Rattle.pcal_tree.specs.InMemory.{simple_at}
 use Rattle.pcal_tree.specs.Offences.{first}
 use Rattle.pcal_tree.specs.OffencesSteps.{due_after, due_offence}
 use Rattle.algorithm_answer.specs.Joined.{joined}
-use Rattle.label_steps.specs.declared.due.Before.{Before}
 use Rattle.label_steps.specs.declared.due.Walk.{Walk}
 use Rattle.label_steps.specs.Walking.{rule_due}
 use Rattle.label_steps.proofs.WalkLaws.{simple_passes, out_behind}

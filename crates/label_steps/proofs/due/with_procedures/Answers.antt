@@ -1,5 +1,5 @@
 -- Proves that the first label that is missing in them is found.
-use Rattle.std.proofs.Common.{false, None, List, ap, ◌∙◌}
+use Rattle.std.proofs.Common.{List, ap, ◌∙◌}
 use Rattle.pcal_tree.specs.declared.algorithm.Stmt.{Stmt}
 use Rattle.pcal_tree.specs.declared.algorithm.Procedure.{Procedure}
 use Rattle.pcal_tree.specs.Algorithm as tree

@@ -1,5 +1,5 @@
 -- What is kept: with what is left to be looked at, the first of the whole.
-use Rattle.std.proofs.Common.{◌≡◌, false, None, List, drop}
+use Rattle.std.proofs.Common.{◌≡◌, List, drop}
 use Rattle.std.specs.List.{flat_map}
 use Rattle.tla_tree.specs.Tree.{Tree}
 use Rattle.pcal_tree.specs.declared.algorithm.Process.{Process}

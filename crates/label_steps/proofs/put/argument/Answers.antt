@@ -1,5 +1,5 @@
 -- Proves that the argument for a name is found.
-use Rattle.std.proofs.Common.{slice_index_or, sym, ap, ◌∙◌, bytes_eq, arith}
+use Rattle.std.proofs.Common.{slice_index_or, sym, ap, ◌∙◌, bytes_eq}
 use Rattle.std.proofs.lemmas.List.{get_or_default}
 use Rattle.tla_tree.specs.Tree.{Name}
 use Rattle.tla_tree.proofs.PoolNumbers.{past_at}
