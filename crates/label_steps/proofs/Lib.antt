@@ -6,3 +6,4 @@ pub mod GatherLaws
 pub mod PathLaws
 pub mod SideLaws
 pub mod PutLaws
+pub mod KnownLaws

@@ -7,3 +7,4 @@ pub mod Gathered
 pub mod PathsIn
 pub mod SidesIn
 pub mod PutIn
+pub mod KnownIn

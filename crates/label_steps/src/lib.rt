@@ -2,6 +2,7 @@
 #![tactic(auto)]
 
 pub mod due;
+pub mod known;
 pub mod laws;
 pub mod path;
 pub mod put;
