@@ -1,5 +1,5 @@
 -- What is known of macros: what a call assigns, and one more macro.
-use Rattle.std.proofs.Common.{◌≡◌, ℕ, zero, suc, ◌+◌, ◌<◌, ◌≤◌, Bool, true, false, List, [], ◌∷◌, ◌++◌, length, get_or, map, Option, Some, None, refl, sym, ap, ◌∙◌, subst, cond, bytes_eq, slice_get, arith}
+use Rattle.std.proofs.Common.{◌≡◌, ℕ, zero, suc, ◌+◌, ◌<◌, Bool, true, false, List, [], ◌∷◌, ◌++◌, length, get_or, map, Option, Some, None, refl, sym, ap, ◌∙◌, subst, cond, bytes_eq, arith}
 use Rattle.std.specs.List.{list_any, flat_map}
 use Rattle.std.proofs.lemmas.List.{length-append}
 use Rattle.std.proofs.lemmas.Option.{get_or_from_slice_get, slice_get_within, slice_get_read}
@@ -7,7 +7,7 @@ use Rattle.std.proofs.Math.Seq.{get_or-append_seam}
 use Rattle.std.proofs.Math.ListN.{get_or-append}
 use Rattle.tla_tree.specs.Tree.{Word, Trees}
 use Rattle.pcal_tree.specs.Algorithm.{Name}
-use Rattle.pcal_tree.specs.Paths.{Effect, some_word}
+use Rattle.pcal_tree.specs.Paths.{Effect}
 use Rattle.pcal_tree.specs.laws.MacroSummaries as found
 use Rattle.pcal_tree.specs.laws.MacroSummaries.{argument, resolved, is_broken, effect_by, summary_effect}
 use Rattle.pcal_tree.proofs.SetLaws.{any_flat}

@@ -1,5 +1,5 @@
 -- Proves what a call of a macro assigns.
-use Rattle.std.proofs.Common.{◌≡◌, suc, ◌-◌, ◌<◌, List, length, get_or, ◌∙◌, sym, ap, arith}
+use Rattle.std.proofs.Common.{◌≡◌, suc, ◌-◌, List, length, get_or, ◌∙◌, sym, ap, arith}
 use Rattle.tla_tree.specs.Pool.{trees_at}
 use Rattle.algorithm_limits.specs.Numbers.{number_of}
 use Rattle.label_steps.specs.declared.put.Summary.{Summary}
