@@ -16,14 +16,14 @@ use Rattle.algorithm_answer.proofs.Joins.{first_append}
 use Rattle.label_jumps.specs.Parted.{missing_in_main, missing_in, misplaced_in_main, misplaced_in}
 
 -- of each of a list
-each_parted : {X : Type 0} (f g : X → List Refusal) (xs : List X) → Same (flat_map (λ x. f x ++ g x) xs) (flat_map f xs ++ flat_map g xs)
+pub each_parted : {X : Type 0} (f g : X → List Refusal) (xs : List X) → Same (flat_map (λ x. f x ++ g x) xs) (flat_map f xs ++ flat_map g xs)
 each_parted f g xs t =
     any_flat t (λ x. f x ++ g x) xs ∙ any_same (λ x. list_any t (f x ++ g x)) (λ x. list_any t (f x) || list_any t (g x)) (λ x. list_any-append t (f x) (g x)) xs
     ∙ any_or (λ x. list_any t (f x)) (λ x. list_any t (g x)) xs ∙ (λ i. sym (any_flat t f xs) i || sym (any_flat t g xs) i)
     ∙ sym (list_any-append t (flat_map f xs) (flat_map g xs))
 
 -- two lists in two parts each
-both_parted : (xs ys us vs ps qs : List Refusal) → Same xs (us ++ vs) → Same ys (ps ++ qs) → Same (xs ++ ys) ((us ++ ps) ++ (vs ++ qs))
+pub both_parted : (xs ys us vs ps qs : List Refusal) → Same xs (us ++ vs) → Same ys (ps ++ qs) → Same (xs ++ ys) ((us ++ ps) ++ (vs ++ qs))
 both_parted xs ys us vs ps qs h k t =
     list_any-append t xs ys ∙ (λ i. (h t ∙ list_any-append t us vs) i || (k t ∙ list_any-append t ps qs) i)
     ∙ or_mixed (list_any t us) (list_any t vs) (list_any t ps) (list_any t qs)

@@ -1,0 +1,9 @@
+-- Lemmas of this crate.
+pub mod DueLaws
+pub mod WalkLaws
+pub mod StraightLaws
+pub mod GatherLaws
+pub mod PathLaws
+pub mod SideLaws
+pub mod PutLaws
+pub mod KnownLaws

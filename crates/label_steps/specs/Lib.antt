@@ -1,0 +1,10 @@
+-- Words in which the contracts of this crate are said.
+pub mod MissingLabels
+pub mod AssignedTwice
+pub mod Walking
+pub mod StraightPaths
+pub mod Gathered
+pub mod PathsIn
+pub mod SidesIn
+pub mod PutIn
+pub mod KnownIn

@@ -1,0 +1,65 @@
+//! What is known of macros where statements call them.
+
+ghost use Rattle.std.specs.Prelude.{◌≡◌, ◌≤◌, List, [], false, length, IfOk};
+ghost use Rattle.tla_tree.specs.Pool.{trees_at};
+ghost use Rattle.pcal_tree.specs.InMemory.{past_numbers};
+ghost use Rattle.pcal_tree.specs.laws.MacroSummaries.{Summary as Found, summary_effect};
+ghost use Rattle.label_steps.specs.KnownIn.{Assigns, AreMacros};
+
+use crate::put::Summary;
+use crate::sides::Step;
+use algorithm_limits::table::Table;
+use std::alloc::{AllocError, Global};
+use tla_pool::Pool;
+use tla_tree::{Name, NodeId};
+
+/// What is known of macros.
+#[derive(Drop)]
+pub struct Known {
+    /// One more than the place of a macro's summary in their list, by its name.
+    pub numbers: Table,
+    /// What macros assign.
+    pub summaries: Vec<Summary>,
+}
+
+// Nothing is assigned.
+fn nothing(alloc: Global) -> Step
+    ensures names { result.names.items ≡ [] }
+    ensures twice { result.twice ≡ false }
+{
+    Step {
+        names: Vec::new(alloc),
+        twice: false,
+    }
+}
+
+impl Known {
+    /// What a call of a macro of this name assigns; a call of no macro assigns nothing.
+    ///
+    /// # Errors
+    ///
+    /// Only for want of memory.
+    pub fn call(
+        &self,
+        alloc: Global,
+        pool: &Pool,
+        name: &Name,
+        args: &[NodeId],
+    ) -> Result<Step, AllocError>
+        requires { past_numbers args.now ≤ length pool.now }
+        ensures { IfOk result (λ r. (ms : List Found) → AreMacros self.now ms → Assigns r (summary_effect ms name.now (trees_at pool.now args.now))) }
+    {
+        let number = self.numbers.get(name);
+        if number == 0 {
+            return Ok(nothing(alloc));
+        }
+        let summaries = self.summaries.as_slice();
+        if number > summaries.len() {
+            return Ok(nothing(alloc));
+        }
+        let place = number - 1;
+        let summary = &summaries[place];
+        let step = summary.step(alloc, pool, args)?;
+        Ok(step)
+    }
+}
