@@ -27,7 +27,7 @@ use Rattle.file_answer.proofs.Unrefused.{is_asked, none_first, rules_asked, toke
 
 -- ---- all that is wrong by the rules on spelling is asked
 
-abbrev AllAsked : List Refusal → Type 0
+abbrev pub AllAsked : List Refusal → Type 0
 AllAsked rs = list_all is_asked_of rs ≡ true
 
 of_algorithm : (x : Text) (w : Wrong) (o : Option AlgorithmText) → OfAlgorithm x w o → AllAsked (w.tokens ++ or_counts w.syntax w.counts)
@@ -37,23 +37,23 @@ of_algorithm x w (Some a) h =
     (subst AllAsked (sym h.0) (in_text_asked x (algorithm_offences (algorithm_tokens x a)) (tokens_asked (algorithm_tokens x a))))
     (read_all is_asked refl refl refl x a w.syntax w.counts h.1 h.2)
 
-all_asked : (x : Text) (w : Wrong) → IsSpelling x w → AllAsked (asked w)
+pub all_asked : (x : Text) (w : Wrong) → IsSpelling x w → AllAsked (asked w)
 all_asked x w h =
     let os = file_offences x in
     let bytes = subst AllAsked (sym h.bytes) (in_text_asked x (of_rules 1 4 os) (rules_asked 1 4 refl os)) in
     let parts = subst AllAsked (sym h.parts) (in_text_asked x (of_rules 5 10 os) (rules_asked 5 10 refl os)) in
     all_or_else is_asked_of w.bytes _ bytes (all_more is_asked_of w.parts (w.tokens ++ or_counts w.syntax w.counts) parts (of_algorithm x w (algorithm_in x) h.algorithm))
 
-none_asked : (x : Text) (w : Wrong) → IsSpelling x w → refusal_of of_spelling w ≡ None → asked w ≡ []
+pub none_asked : (x : Text) (w : Wrong) → IsSpelling x w → refusal_of of_spelling w ≡ None → asked w ≡ []
 none_asked x w h e = sym (all_up (asked w) (all_asked x w h)) ∙ sym (asked_alone w h.names h.labels) ∙ none_first (up_to of_spelling (counting w)) e
 
 -- ---- so nothing is, where no other rule is broken
 
 -- what is wrong up to how the algorithm is spelled
-abbrev spelled_only : Wrong → Wrong
+abbrev pub spelled_only : Wrong → Wrong
 spelled_only w = record w { names = []; labels = [] }
 
-same_algorithm : (x : Text) (w : Wrong) (o : Option AlgorithmText) → OfAlgorithm x w o → OfAlgorithm x (spelled_only w) o
+pub same_algorithm : (x : Text) (w : Wrong) (o : Option AlgorithmText) → OfAlgorithm x w o → OfAlgorithm x (spelled_only w) o
 same_algorithm x w None h = h
 same_algorithm x w (Some a) h = h
 

@@ -17,3 +17,6 @@ pub mod TokensScanned
 pub mod Changed
 pub mod Refused
 pub mod CheckedClean
+pub mod LaterNames
+pub mod LaterLabels
+pub mod CheckAnswers

@@ -82,12 +82,21 @@ same_algorithm x w v (Some a) h k =
     let s = same_syntax x a w.syntax v.syntax h.1 k.1 in
     (h.0 ∙ sym k.0, s, same_counts x a w.syntax v.syntax w.counts v.counts s h.2 k.2)
 
-same_asked : (x : Text) (w v : Wrong) → IsSpelling x w → IsSpelling x v → asked w ≡ asked v
-same_asked x w v h k =
-    let b : w.bytes ≡ v.bytes = h.bytes ∙ sym k.bytes in
-    let q : w.parts ≡ v.parts = h.parts ∙ sym k.parts in
+-- what is wrong by the rules on spelling
+pub record SameSpelling (w v : Wrong) : Type 0 where
+  pub bytes : w.bytes ≡ v.bytes
+  pub parts : w.parts ≡ v.parts
+  pub tokens : w.tokens ≡ v.tokens
+  pub syntax : w.syntax ≡ v.syntax
+  pub counts : w.counts ≡ v.counts
+
+pub same_spelling : (x : Text) (w v : Wrong) → IsSpelling x w → IsSpelling x v → SameSpelling w v
+same_spelling x w v h k =
     let a = same_algorithm x w v (algorithm_in x) h.algorithm k.algorithm in
-    λ i. or_else (b i) (q i ++ (a.0 i ++ or_counts (a.1 i) (a.2 i)))
+    record { bytes = h.bytes ∙ sym k.bytes; parts = h.parts ∙ sym k.parts; tokens = a.0; syntax = a.1; counts = a.2 }
+
+same_asked : (x : Text) (w v : Wrong) → IsSpelling x w → IsSpelling x v → asked w ≡ asked v
+same_asked x w v h k = (let a = same_spelling x w v h k in λ i. or_else (a.bytes i) (a.parts i ++ (a.tokens i ++ or_counts (a.syntax i) (a.counts i))))
 
 pub one_answer : (x : Text) (r q : Option Refusal) → AnswersRewriting x r → AnswersRewriting x q → r ≡ q
 one_answer x r q (w, h, e) (v, k, f) =

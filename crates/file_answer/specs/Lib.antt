@@ -3,3 +3,4 @@ pub mod Spelling
 pub mod Holds
 pub mod laws
 pub mod Checking
+pub mod Mapped

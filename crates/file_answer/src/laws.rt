@@ -24,6 +24,8 @@ ghost use Rattle.printed_text.specs.Rewritten.{Rewritten};
 ghost use Rattle.printed_text.specs.Rewrites.{Rewrites};
 ghost use Rattle.algorithm_answer.specs.Answered.{or_counts};
 ghost use Rattle.algorithm_answer.specs.TokensRefused.{placed};
+ghost use Rattle.file_answer.specs.Mapped.{IsMapped};
+ghost use Rattle.file_answer.specs.Refusals.{or_else};
 ghost use Rattle.file_answer.specs.Spelling.{AreRead, AreCounted, AnswersRewriting};
 ghost use Rattle.file_answer.specs.Checking.{AnswersChecking};
 ghost use Rattle.file_answer.specs.Holds.{HoldsTree};
@@ -57,6 +59,35 @@ pub fn files_that_are_not_refused_hold_a_tree()
 pub fn files_that_break_no_later_rule_have_nothing_wrong()
     ensures { (forced : Bool) (x : List ℕ) → AnswersRewriting x None → ((g : Algorithm) (o : Outside) → HoldsTree x g → HasOutside (walk x) o → (name_offences (labelled forced g) o ≡ []) × (label_offences (labelled forced g) ≡ []) × (too_large (labelled forced g) ≡ []))
         → AnswersChecking forced x None }
+{}
+
+/// Each file has just one answer to a check.
+pub fn files_have_one_answer_to_a_check()
+    ensures some { (forced : Bool) (x : List ℕ) → (r : Option Refusal) × AnswersChecking forced x r }
+    ensures one { (forced : Bool) (x : List ℕ) (r q : Option Refusal) → AnswersChecking forced x r → AnswersChecking forced x q → r ≡ q }
+{}
+
+/// What refuses a rewriting of a file refuses a check of it.
+pub fn what_refuses_a_rewriting_refuses_a_check()
+    ensures { (forced : Bool) (x : List ℕ) (r : Refusal) → AnswersRewriting x (Some r) → AnswersChecking forced x (Some r) }
+{}
+
+/// Where a rewriting isn't refused, a check is answered by what is wrong with the names of the algorithm with labels added, and, where nothing is, with its
+/// labels and its size.
+pub fn names_and_then_labels_decide_a_check()
+    ensures { (forced : Bool) (x : List ℕ) (g : Algorithm) (o : Outside) → AnswersRewriting x None → HoldsTree x g → HasOutside (walk x) o
+        → AnswersChecking forced x (first (or_else (name_offences (labelled forced g) o) (label_offences (labelled forced g) ++ too_large (labelled forced g)))) }
+{}
+
+/// A file that a check doesn't refuse is not refused by a rewriting.
+pub fn what_a_check_accepts_is_rewritten()
+    ensures { (forced : Bool) (x : List ℕ) → AnswersChecking forced x None → AnswersRewriting x None }
+{}
+
+/// A file that a check doesn't refuse has just one list of its labels' places.
+pub fn files_that_are_not_refused_have_one_map()
+    ensures some { (forced : Bool) (x : List ℕ) → AnswersChecking forced x None → (w : List ℕ) × IsMapped forced x w }
+    ensures one { (forced : Bool) (x w v : List ℕ) → IsMapped forced x w → IsMapped forced x v → w ≡ v }
 {}
 
 /// In each syntax there is one file with the algorithm of a file that is not refused printed in its place, and it keeps the promise of a rewriting.
