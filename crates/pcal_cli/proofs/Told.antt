@@ -6,6 +6,7 @@ use Rattle.outer_io.specs.Outer.{Texts, HasText, Tells, HasNoText, Grows, GrowsI
 use Rattle.tla_token.specs.declared.rule.Refusal.{Refusal}
 use Rattle.tla_token.specs.Limits.{most_bytes}
 use Rattle.command_words.specs.Commands.{Command, translates, checks, rewrites, maps, runs, traces, makes}
+use Rattle.file_answer.proofs.CheckAnswers.{one_check}
 use Rattle.file_answer.proofs.OneAnswer as rewritings
 use Rattle.pcal_cli.specs.Words.{file_of}
 use Rattle.pcal_cli.specs.Translating.{AnswersTranslation}
@@ -66,8 +67,8 @@ no_offence x r h k = none-some r (one_answer x None (Some r) h k)
 no_refusal : (c : Command) (x : List ℕ) (r : Refusal) → Accepts c x → Refuses c x r → ⊥
 no_refusal (translates file options) x r h k = no_offence x r h k
 no_refusal (rewrites file to) x r h k = none-some r (rewritings.one_answer x None (Some r) h k)
-no_refusal (checks file forced) x r h k = h
-no_refusal (maps file forced) x r h k = h
+no_refusal (checks file forced) x r h k = none-some r (one_check forced x None (Some r) h k)
+no_refusal (maps file forced) x r h k = none-some r (one_check forced x None (Some r) h k)
 no_refusal (runs file config script options) x r h k = h
 no_refusal (traces file config trace options) x r h k = h
 no_refusal (makes seed count) x r h k = h

@@ -12,10 +12,12 @@ use Rattle.command_words.specs.Commands.{Options, Command, translates, checks, r
 abbrev pub plain : Options
 plain = record { forced = false; terminating = true }
 
--- whether the program runs a command: so far a translation, without options, and a rewriting
+-- whether the program runs a command: so far a translation, without options, a check, a rewriting, and a list of the labels' places
 abbrev pub is_run : Command → Bool
 is_run (translates file options) = not options.forced && options.terminating
+is_run (checks file forced) = true
 is_run (rewrites file syntax) = true
+is_run (maps file forced) = true
 is_run c = false
 
 abbrev pub if_run : Option Command → Option Command

@@ -8,6 +8,7 @@ ghost use Rattle.pcal_cli.specs.Tasks.{as_command};
 ghost use Rattle.pcal_cli.specs.Asked.{Refuses, Accepts, Makes, Promises};
 
 use crate::translated::translate_text;
+use checking::{check_text, map_text};
 use command_words::{Command, command_of};
 use pcal_tree::Syntax;
 use rewriting::rewrite_text;
@@ -19,8 +20,12 @@ use tla_token::Stop;
 pub enum Task<'a> {
     /// A translation without options.
     Translate(&'a str),
+    /// A check, and whether labels are added everywhere.
+    Check(&'a str, bool),
     /// A rewriting in this syntax.
     Rewrite(&'a str, Syntax),
+    /// A list of the labels' places, and whether labels are added everywhere.
+    Map(&'a str, bool),
 }
 
 /// The file of a task.
@@ -29,7 +34,9 @@ pub fn file<'a>(task: Task<'a>) -> &'a str
 {
     match task {
         Task::Translate(file) => file,
+        Task::Check(file, _) => file,
         Task::Rewrite(file, _) => file,
+        Task::Map(file, _) => file,
     }
 }
 
@@ -45,7 +52,9 @@ fn if_run<'a>(command: Command<'a>) -> Option<Task<'a>>
                 Some(Task::Translate(file))
             }
         }
+        Command::Check(file, forced) => Some(Task::Check(file, forced)),
         Command::Rewrite(file, to) => Some(Task::Rewrite(file, to)),
+        Command::Map(file, forced) => Some(Task::Map(file, forced)),
         _ => None,
     }
 }
@@ -79,6 +88,8 @@ pub fn written(alloc: Global, task: Task<'_>, text: &[u8]) -> Result<Vec<u8>, St
 {
     match task {
         Task::Translate(_) => translate_text(alloc, text),
+        Task::Check(_, forced) => check_text(alloc, text, forced),
         Task::Rewrite(_, to) => rewrite_text(alloc, text, to),
+        Task::Map(_, forced) => map_text(alloc, text, forced),
     }
 }

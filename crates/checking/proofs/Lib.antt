@@ -1,0 +1,2 @@
+pub mod CheckedFile
+pub mod LinesWritten
