@@ -1,5 +1,5 @@
 -- What was read is what is told, and what is written for it went out.
-use Rattle.std.specs.Prelude.{IfSome}
+use Rattle.std.specs.Prelude.{IfSome, IfOk, Result}
 use Rattle.std.proofs.Common.{◌≡◌, ◌⊎◌, ℕ, ◌<◌, ◌≤◌, List, [], length, Option, Some, None, Ok, Err, ◌∙◌, refl, sym, subst, inl, inr, arith}
 use Rattle.std.proofs.lemmas.Option.{none-some}
 use Rattle.outer_io.specs.Outer.{Texts, HasText, Tells, HasNoText, Grows, GrowsInPart}
@@ -40,6 +40,11 @@ not_lacking (Some ts) file v h k = (let e : Some v ≡ None = sym h ∙ k in abs
 pub read : {T E P : Type 0} (t : T) (e : E) → (Ok t ≡ Err e) ⊎ P → P
 read t e (inl h) = absurd cc
 read t e (inr p) = p
+
+-- what was given is both
+pub both_ok : {T E : Type 0} (P Q : T → Type 0) (r : Result T E) → IfOk r P → IfOk r Q → IfOk r (λ v. P v × Q v)
+both_ok P Q (Ok v) p q = (p, q)
+both_ok P Q (Err e) p q = tt
 
 -- a text that was refused, t as it was looked at
 pub refused : (ts : Option Texts) (file t v : List ℕ) (R : List ℕ → Refusal → Type 0) (r : Refusal) → HasText ts file v → t ≡ v → R t r → Tells ts file (λ x. R x r)

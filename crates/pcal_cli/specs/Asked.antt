@@ -1,5 +1,5 @@
 -- What each command asks of its file, what it writes for it, and what it promises.
-use Rattle.std.specs.Prelude.{◌≡◌, ◌×◌, not, List, ℕ, Some, None}
+use Rattle.std.specs.Prelude.{◌≡◌, not, List, ℕ, Some, None}
 use Rattle.tla_token.specs.declared.rule.Refusal.{Refusal}
 use Rattle.command_words.specs.Commands as words
 use Rattle.command_words.specs.Commands.{Command, translates, checks, rewrites, maps}
