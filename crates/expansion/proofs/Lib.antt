@@ -1,0 +1,2 @@
+-- That what is written is the expansion.
+pub mod PutTwice

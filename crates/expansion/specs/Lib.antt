@@ -1,0 +1,3 @@
+-- What algorithms are with their macro calls written out, in memory.
+pub mod AroundIn
+pub mod Written

@@ -1,0 +1,4 @@
+//! Algorithms with their macro calls written out.
+#![tactic(auto)]
+
+pub mod around;
