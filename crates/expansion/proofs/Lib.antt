@@ -1,2 +1,6 @@
 -- That what is written is the expansion.
 pub mod PutTwice
+pub mod AroundLaws
+pub mod Lists
+pub mod MacroLaws
+pub mod BodyLaws

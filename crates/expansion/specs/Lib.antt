@@ -1,3 +1,5 @@
 -- What algorithms are with their macro calls written out, in memory.
 pub mod AroundIn
+pub mod AroundStays
+pub mod Expressions
 pub mod Written

@@ -2,3 +2,6 @@
 #![tactic(auto)]
 
 pub mod around;
+pub mod bodies;
+pub mod expressions;
+pub mod macros;
