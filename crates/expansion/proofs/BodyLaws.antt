@@ -81,7 +81,7 @@ module _ (ts us : List Tree) (k : Keeps ts us) where
     stand = ap (statements_at us) e ∙ statements_joined us ss (r ∷ []) ∙ (λ j. followed_by ((statements_at-kept ts us k ss h.within ∙ h.stand) j) (m.stand j));
   }
 
-  newest_kept : (ms : List code_macro.Macro) → greatest (map past_macro ms) ≤ length ts → newest_first us ms ≡ newest_first ts ms
+  pub newest_kept : (ms : List code_macro.Macro) → greatest (map past_macro ms) ≤ length ts → newest_first us ms ≡ newest_first ts ms
   newest_kept ms h =
       ap (λ (l : List Macro). reverse l)
       (each_kept ts us k (macro_at us) (macro_at ts) past_macro (λ m l j. record { name = m.name; params = m.params.items; body = statements_at-kept ts us k m.body.items l j }) ms h)

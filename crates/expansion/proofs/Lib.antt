@@ -4,3 +4,4 @@ pub mod AroundLaws
 pub mod Lists
 pub mod MacroLaws
 pub mod BodyLaws
+pub mod AlgorithmLaws

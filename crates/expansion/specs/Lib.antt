@@ -3,3 +3,4 @@ pub mod AroundIn
 pub mod AroundStays
 pub mod Expressions
 pub mod Written
+pub mod Expanded

@@ -1,7 +1,10 @@
 //! Algorithms with their macro calls written out.
 #![tactic(auto)]
 
+pub mod algorithm;
 pub mod around;
 pub mod bodies;
 pub mod expressions;
 pub mod macros;
+
+pub use algorithm::expand;
