@@ -16,11 +16,11 @@ use Rattle.pcal_tree.specs.Expand.{graft_all, expand, expanded, written_out}
 use Rattle.pcal_tree.proofs.InMemoryGrown.{declarations_at-kept, statements_at-kept, main_at-kept, each_kept}
 use Rattle.macro_expand.specs.Size.{expanded_main}
 use Rattle.expansion_size.specs.FramesIn.{newest_first}
-use Rattle.expansion.specs.declared.around.Around.TheVariants.{Outside}
+use Rattle.expansion_size.specs.declared.frames.Frames.TheVariants.{Outside}
 use Rattle.expansion.specs.Written.{written}
 use Rattle.expansion.specs.Expanded.{expanded_procedure, expanded_process}
 use Rattle.expansion.proofs.PutTwice.{all_none}
-use Rattle.expansion.proofs.AroundLaws.{put_outside}
+use Rattle.expansion_size.proofs.FrameLaws.{put_outside}
 use Rattle.expansion.proofs.BodyLaws.{newest_kept}
 use Rattle.expansion.proofs.Lists.{MadeOf, Grows}
 

@@ -20,14 +20,14 @@ use Rattle.pcal_tree.specs.OffencesSteps.{called_with}
 use Rattle.pcal_tree.proofs.InMemoryEach.{if_at, either_at, with_at, while_at, past_if, past_either, past_with, past_while, past_one_more}
 use Rattle.pcal_tree.proofs.InMemoryGrown.{binds_at-kept, statements_at-kept, each_kept}
 use Rattle.expansion_size.specs.FramesIn.{newest_first}
-use Rattle.expansion.specs.declared.around.Around.{Around}
-use Rattle.expansion.specs.declared.around.Around.TheVariants.{Called}
-use Rattle.expansion.specs.AroundIn.{put_by, past_around}
-use Rattle.expansion.specs.AroundStays.{put_anywhere, put_kept}
+use Rattle.expansion_size.specs.declared.frames.Frames.{Frames}
+use Rattle.expansion_size.specs.declared.frames.Frames.TheVariants.{Called}
+use Rattle.expansion_size.specs.FramesIn.{put_by, past_frames}
+use Rattle.expansion.proofs.FramesStay.{put_anywhere, put_kept}
 use Rattle.expansion.specs.Expressions.{StandBinds}
 use Rattle.expansion.specs.Written.{put_out, expand_first, written, written_some, inside_written, body_written, Stand, StandSome}
 use Rattle.expansion.proofs.PutTwice.{all_twice, joined_done, joined_again, put_joined}
-use Rattle.expansion.proofs.AroundLaws.{put_called}
+use Rattle.expansion_size.proofs.FrameLaws.{put_called}
 use Rattle.expansion.proofs.Lists.{MadeOf, Grows}
 
 -- ---- one after another
@@ -62,7 +62,7 @@ module _ (ts : List Tree) where
       ∙ ap (λ (b : Statements). followed_by b (statements_at ts rs)) (sym (goes_first s (statements_at ts ss)))
 
   -- one more in the list
-  pub written_more : (ms : List code_macro.Macro) (a : Around) (ss : List Stmt) (i : ℕ) (s : Stmt) → s ≡ get_or ss i s → i < length ss → written ts ms a (take (i + 1) ss) ≡ followed_by (written ts ms a (take i ss)) (written ts ms a (s ∷ []))
+  pub written_more : (ms : List code_macro.Macro) (a : Frames) (ss : List Stmt) (i : ℕ) (s : Stmt) → s ≡ get_or ss i s → i < length ss → written ts ms a (take (i + 1) ss) ≡ followed_by (written ts ms a (take i ss)) (written ts ms a (s ∷ []))
   written_more ms a ss i s here within =
       ap (written ts ms a) (take_more ss i s within ∙ ap (λ (r : Stmt). take i ss ++ r ∷ []) (sym here))
       ∙ ap (put_out (newest_first ts ms) (put_by ts a)) (statements_joined (take i ss) (s ∷ []))
@@ -86,19 +86,18 @@ module _ (ts us : List Tree) (k : Keeps ts us) where
       ap (λ (l : List Macro). reverse l)
       (each_kept ts us k (macro_at us) (macro_at ts) past_macro (λ m l j. record { name = m.name; params = m.params.items; body = statements_at-kept ts us k m.body.items l j }) ms h)
 
-  pub written_kept : (ms : List code_macro.Macro) → greatest (map past_macro ms) ≤ length ts → (a : Around) → past_around a ≤ length ts → (ss : List Stmt) → past_statements ss ≤ length ts → written us ms a ss ≡ written ts ms a ss
+  pub written_kept : (ms : List code_macro.Macro) → greatest (map past_macro ms) ≤ length ts → (a : Frames) → past_frames a ≤ length ts → (ss : List Stmt) → past_statements ss ≤ length ts → written us ms a ss ≡ written ts ms a ss
   written_kept ms h a l ss m = λ j. put_out (newest_kept ms h j) (put_kept ts us k a l j) (statements_at-kept ts us k ss m j)
 
-  -- the body of the macro that is called, over the arguments that were made
-  pub call_written : (older ms : List code_macro.Macro) (a : Bor Around) (o : code_macro.Macro) (ps : Bor (List Name)) (gs : Bor (List ℕ)) (es : List ℕ) (at : Span) (x : Word)
-      → greatest (map past_macro older) ≤ length ts → past_around a.now ≤ length ts → past_macro o ≤ length ts → ps.now ≡ o.params.items → trees_at us gs.now ≡ grafts (put_by ts a.now) (trees_at ts es)
-      → body_written ts older o (trees_at ts es) ≡ written_out (newest_first ts ms) at x (trees_at ts es)
-      → written us older (Called ps gs a) o.body.items ≡ graft_all (put_by ts a.now) (written_out (newest_first ts ms) at x (trees_at ts es))
-  call_written older ms a o ps gs es at x h l m p q w =
-      (λ j. put_out (newest_kept older h j) (put_called us ps gs a j) (statements_at-kept ts us k o.body.items m j))
-      ∙ (λ j. put_out (newest_first ts older) (called_with (p j) (q j) (put_kept ts us k a.now l j)) (statements_at ts o.body.items))
-      ∙ sym (all_twice (put_by ts a.now) (put_anywhere ts a.now) o.params.items (trees_at ts es) (expand (written_out (newest_first ts older)) (statements_at ts o.body.items)))
-      ∙ ap (graft_all (put_by ts a.now)) w
+-- the body of the macro that is called
+pub call_written : (ts : List Tree) (older ms : List code_macro.Macro) (f : Bor Frames) (o : code_macro.Macro) (ps : Bor (List Name)) (es : Bor (List ℕ)) (at : Span) (x : Word) → ps.now ≡ o.params.items
+    → body_written ts older o (trees_at ts es.now) ≡ written_out (newest_first ts ms) at x (trees_at ts es.now)
+    → written ts older (Called ps es f) o.body.items ≡ graft_all (put_by ts f.now) (written_out (newest_first ts ms) at x (trees_at ts es.now))
+call_written ts older ms f o ps es at x p w =
+    (λ j. put_out (newest_first ts older) (put_called ts ps es f j) (statements_at ts o.body.items))
+    ∙ (λ j. put_out (newest_first ts older) (called_with (p j) (grafts (put_by ts f.now) (trees_at ts es.now)) (put_by ts f.now)) (statements_at ts o.body.items))
+    ∙ sym (all_twice (put_by ts f.now) (put_anywhere ts f.now) o.params.items (trees_at ts es.now) (expand (written_out (newest_first ts older)) (statements_at ts o.body.items)))
+    ∙ ap (graft_all (put_by ts f.now)) w
 
 -- ---- branches
 
@@ -108,17 +107,17 @@ past_branch b = past_statements b.items
 abbrev pub branch_at : List Tree → Vec Stmt Global → Statements
 branch_at ts b = statements_at ts b.items
 
-abbrev pub branch_put : List code_macro.Macro → Around → List Tree → Vec Stmt Global → Statements
+abbrev pub branch_put : List code_macro.Macro → Frames → List Tree → Vec Stmt Global → Statements
 branch_put ms a ts b = written ts ms a b.items
 
 pub branches_grow : Grows past_branch branch_at
 branches_grow ts us k b h = statements_at-kept ts us k b.items h
 
-branches_put : (ms : List code_macro.Macro) (a : Around) (ts : List Tree) (bs : List (Vec Stmt Global)) → branches_from (map (branch_put ms a ts) bs) ≡ written_some ts ms a bs
+branches_put : (ms : List code_macro.Macro) (a : Frames) (ts : List Tree) (bs : List (Vec Stmt Global)) → branches_from (map (branch_put ms a ts) bs) ≡ written_some ts ms a bs
 branches_put ms a ts [] = refl
 branches_put ms a ts (b ∷ bs) = ap (or (branch_put ms a ts b)) (branches_put ms a ts bs)
 
-pub branches_made : (ms : List code_macro.Macro) (a : Around) (old ts : List Tree) (rs bs : List (Vec Stmt Global)) → MadeOf past_branch branch_at (branch_put ms a old) ts rs bs → StandSome ts rs (written_some old ms a bs)
+pub branches_made : (ms : List code_macro.Macro) (a : Frames) (old ts : List Tree) (rs bs : List (Vec Stmt Global)) → MadeOf past_branch branch_at (branch_put ms a old) ts rs bs → StandSome ts rs (written_some old ms a bs)
 branches_made ms a old ts rs bs m = record { within = m.within; stand = ap branches_from m.stand ∙ branches_put ms a old bs }
 
 -- ---- lists that begin and end
@@ -129,7 +128,7 @@ stand_none ts ss e = record { within = let none = ap past_statements e in omega 
 pub keeps_all : (ts : List Tree) → Keeps ts ts
 keeps_all ts = record { longer = omega arith; same = λ i h. refl }
 
-module _ (ts : List Tree) (ms : List code_macro.Macro) (a : Around) where
+module _ (ts : List Tree) (ms : List code_macro.Macro) (a : Frames) where
   none_written : (ss : List Stmt) → written ts ms a (take 0 ss) ≡ done
   none_written [] = refl
   none_written (s ∷ ss) = refl
@@ -142,12 +141,12 @@ module _ (ts : List Tree) (ms : List code_macro.Macro) (a : Around) where
 
 -- ---- by the first pool, in the last one
 
-module _ (ms : List code_macro.Macro) (a : Around) where
-  pub stand_from : (ts us vs ws : List Tree) → Keeps ts us → Keeps vs ws → greatest (map past_macro ms) ≤ length ts → past_around a ≤ length ts → (rs ss ks : List Stmt) → ks ≡ ss → past_statements ss ≤ length ts
+module _ (ms : List code_macro.Macro) (a : Frames) where
+  pub stand_from : (ts us vs ws : List Tree) → Keeps ts us → Keeps vs ws → greatest (map past_macro ms) ≤ length ts → past_frames a ≤ length ts → (rs ss ks : List Stmt) → ks ≡ ss → past_statements ss ≤ length ts
       → Stand vs rs (written us ms a ks) → Stand ws rs (written ts ms a ss)
   stand_from ts us vs ws k l h m rs ss ks e n s = subst (Stand ws rs) (ap (written us ms a) e ∙ written_kept ts us k ms h a m ss n) (stand_kept vs ws l rs (written us ms a ks) s)
 
-  pub next_written : (ts us : List Tree) → Keeps ts us → greatest (map past_macro ms) ≤ length ts → past_around a ≤ length ts → (ss : List Stmt) (i : ℕ) (s : Stmt) → s ≡ get_or ss i s → i < length ss → past_stmt s ≤ length ts → (b : Statements)
+  pub next_written : (ts us : List Tree) → Keeps ts us → greatest (map past_macro ms) ≤ length ts → past_frames a ≤ length ts → (ss : List Stmt) (i : ℕ) (s : Stmt) → s ≡ get_or ss i s → i < length ss → past_stmt s ≤ length ts → (b : Statements)
       → followed_by (followed_by b (written ts ms a (take i ss))) (written us ms a (s ∷ [])) ≡ followed_by b (written ts ms a (take (i + 1) ss))
   next_written ts us k h m ss i s here within l b =
       joined_again b (written ts ms a (take i ss)) (written us ms a (s ∷ []))
@@ -158,10 +157,10 @@ module _ (ms : List code_macro.Macro) (a : Around) where
 pub binds_stand : (ts us : List Tree) → Keeps ts us → (cs : List Bind) (b : Binds) → StandBinds ts cs b → StandBinds us cs b
 binds_stand ts us k cs b h = record { within = omega (arith, h.within, k.longer); stand = binds_at-kept ts us k cs h.within ∙ h.stand }
 
-pub inside_is : (ts us : List Tree) (ms : List code_macro.Macro) (a : Around) (rs : List Stmt) (x s : Stmt) → x ≡ s → Stand us rs (inside_written ts ms a s) → Stand us rs (inside_written ts ms a x)
+pub inside_is : (ts us : List Tree) (ms : List code_macro.Macro) (a : Frames) (rs : List Stmt) (x s : Stmt) → x ≡ s → Stand us rs (inside_written ts ms a s) → Stand us rs (inside_written ts ms a x)
 inside_is ts us ms a rs x s e h = subst (λ (y : Stmt). Stand us rs (inside_written ts ms a y)) (sym e) h
 
-module _ (ts us : List Tree) (ms : List code_macro.Macro) (a : Around) where
+module _ (ts us : List Tree) (ms : List code_macro.Macro) (a : Frames) where
   abbrev g : Graft
   g = put_by ts a
 
@@ -213,7 +212,7 @@ no_macro_made ts s rs e = record {
 }
 
 -- a statement that is one
-pub call_is : (ts : List Tree) (ms : List code_macro.Macro) (a : Around) (s : Stmt) (at : Span) (x : Word) (us : Trees) → stmt_at ts s done ≡ then at (macro x us) done
+pub call_is : (ts : List Tree) (ms : List code_macro.Macro) (a : Frames) (s : Stmt) (at : Span) (x : Word) (us : Trees) → stmt_at ts s done ≡ then at (macro x us) done
     → graft_all (put_by ts a) (written_out (newest_first ts ms) at x us) ≡ written ts ms a (s ∷ [])
 call_is ts ms a s at x us h =
     ap (graft_all (put_by ts a)) (sym (joined_done (written_out (newest_first ts ms) at x us)) ∙ ap (expand (written_out (newest_first ts ms))) (sym h))

@@ -1,7 +1,8 @@
 -- That what is written is the expansion.
 pub mod PutTwice
-pub mod AroundLaws
+pub mod FramesStay
 pub mod Lists
 pub mod MacroLaws
 pub mod BodyLaws
 pub mod AlgorithmLaws
+pub mod TreeLaws

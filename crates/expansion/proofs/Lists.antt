@@ -13,10 +13,9 @@ use Rattle.pcal_tree.specs.InMemory.{assignments_at, bind_at, binds_at, past_num
 use Rattle.pcal_tree.specs.Expand.{graft_left, graft_assignments, graft_binds}
 use Rattle.pcal_tree.proofs.InMemoryEach.{past_one_more}
 use Rattle.pcal_tree.proofs.InMemoryGrown.{each_kept}
-use Rattle.expansion.specs.declared.around.Around.{Around}
-use Rattle.expansion.specs.AroundIn.{put_by, past_around}
-use Rattle.expansion.specs.AroundStays.{put_kept}
-use Rattle.expansion.proofs.AroundLaws.{graft_grown}
+use Rattle.expansion_size.specs.declared.frames.Frames.{Frames}
+use Rattle.expansion_size.specs.FramesIn.{put_by, past_frames}
+use Rattle.expansion.proofs.FramesStay.{put_kept, graft_grown}
 use Rattle.expansion.specs.Expressions.{assignment_put, bind_put, StandNumbers, StandAssignments, StandBinds}
 
 -- the members' numbers are of the pool, and what they stand for there is what is made of the members of another list
@@ -66,7 +65,7 @@ numbers_put : (g : Graft) (ts : List Tree) (es : List ℕ) → trees_from (map (
 numbers_put g ts [] = refl
 numbers_put g ts (e ∷ es) = ap (tree (put g ts e)) (numbers_put g ts es)
 
-pub put_grown : (ts us : List Tree) → Keeps ts us → (a : Around) → past_around a ≤ length ts → (e : ℕ) → past_number e ≤ length ts → put (put_by us a) us e ≡ put (put_by ts a) ts e
+pub put_grown : (ts us : List Tree) → Keeps ts us → (a : Frames) → past_frames a ≤ length ts → (e : ℕ) → past_number e ≤ length ts → put (put_by us a) us e ≡ put (put_by ts a) ts e
 put_grown ts us k a h e l = graft_grown ts us k a h e (omega (arith, l))
 
 pub numbers_made : (g : Graft) (old ts : List Tree) (rs es : List ℕ) → MadeOf past_number at (put g old) ts rs es → StandNumbers ts rs (grafts g (trees_at old es))
@@ -92,10 +91,10 @@ assignments_put : (g : Graft) (ts : List Tree) (ms : List Assignment) → chain 
 assignments_put g ts [] = refl
 assignments_put g ts (m ∷ ms) = ap (assignment_put g ts m) (assignments_put g ts ms)
 
-left_grown : (ts us : List Tree) → Keeps ts us → (a : Around) → past_around a ≤ length ts → (e : ℕ) → e < length ts → graft_left (put_by us a) (at us e) ≡ graft_left (put_by ts a) (at ts e)
+left_grown : (ts us : List Tree) → Keeps ts us → (a : Frames) → past_frames a ≤ length ts → (e : ℕ) → e < length ts → graft_left (put_by us a) (at us e) ≡ graft_left (put_by ts a) (at ts e)
 left_grown ts us k a h e l = λ j. graft_left (put_kept ts us k a h j) (k.same e l j)
 
-pub assignment_grown : (ts us : List Tree) → Keeps ts us → (a : Around) → past_around a ≤ length ts → (m : Assignment) → past_assignment m ≤ length ts → assignment_put (put_by us a) us m ≡ assignment_put (put_by ts a) ts m
+pub assignment_grown : (ts us : List Tree) → Keeps ts us → (a : Frames) → past_frames a ≤ length ts → (m : Assignment) → past_assignment m ≤ length ts → assignment_put (put_by us a) us m ≡ assignment_put (put_by ts a) ts m
 assignment_grown ts us k a h m l = λ j. assignment (left_grown ts us k a h m.left (omega (arith, l)) j) (graft_grown ts us k a h m.right (omega (arith, l)) j)
 
 pub assignments_made : (g : Graft) (old ts : List Tree) (rs ms : List Assignment) → MadeOf past_assignment assignment_at (assignment_put g old) ts rs ms → StandAssignments ts rs (graft_assignments g (assignments_at old ms))
@@ -114,7 +113,7 @@ binds_put g ts [] = refl
 binds_put g ts (bind.Among x e ∷ bs) = ap (one_of x (graft g (at ts e))) (binds_put g ts bs)
 binds_put g ts (bind.Is x e ∷ bs) = ap (is x (graft g (at ts e))) (binds_put g ts bs)
 
-pub bind_grown : (ts us : List Tree) → Keeps ts us → (a : Around) → past_around a ≤ length ts → (b : Bind) → past_bind b ≤ length ts → bind_put (put_by us a) us b ≡ bind_put (put_by ts a) ts b
+pub bind_grown : (ts us : List Tree) → Keeps ts us → (a : Frames) → past_frames a ≤ length ts → (b : Bind) → past_bind b ≤ length ts → bind_put (put_by us a) us b ≡ bind_put (put_by ts a) ts b
 bind_grown ts us k a h (bind.Among x e) l = λ j bs. one_of x (graft_grown ts us k a h e (omega (arith, l)) j) bs
 bind_grown ts us k a h (bind.Is x e) l = λ j bs. is x (graft_grown ts us k a h e (omega (arith, l)) j) bs
 

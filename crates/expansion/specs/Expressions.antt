@@ -1,6 +1,6 @@
 -- Lists in memory whose numbers are of the pool, and what they stand for there.
 use Rattle.std.specs.Prelude.{◌≡◌, ℕ, ◌≤◌, List, length, map}
-use Rattle.tla_tree.specs.Tree.{Tree, Trees, Graft, graft}
+use Rattle.tla_tree.specs.Tree.{Tree, node, Trees, Graft, graft, grafts}
 use Rattle.tla_tree.specs.Pool.{at, trees_at}
 use Rattle.tla_tree.specs.Nesting.{greatest}
 use Rattle.pcal_tree.specs.declared.algorithm.Assignment.{Assignment}
@@ -10,6 +10,10 @@ use Rattle.pcal_tree.specs.declared.algorithm.Simple.{Simple}
 use Rattle.pcal_tree.specs.Algorithm.{Assignments, assignment, Binds, one_of, is, Statement}
 use Rattle.pcal_tree.specs.Expand.{graft_left}
 use Rattle.pcal_tree.specs.InMemory.{assignments_at, binds_at, simple_at, past_numbers, past_assignment, past_binds, past_simple}
+
+-- with trees put in for the names in its parts
+abbrev pub over_parts : Graft → Tree → Tree
+over_parts g (node m p ts) = node m p (grafts g ts)
 
 pub record StandNumbers (ts : List Tree) (es : List ℕ) (us : Trees) : Type 0 where
   pub within : past_numbers es ≤ length ts

@@ -1,6 +1,4 @@
 -- What algorithms are with their macro calls written out, in memory.
-pub mod AroundIn
-pub mod AroundStays
 pub mod Expressions
 pub mod Written
 pub mod Expanded

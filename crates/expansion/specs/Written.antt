@@ -9,8 +9,8 @@ use Rattle.pcal_tree.specs.Run.{arguments}
 use Rattle.pcal_tree.specs.Expand.{Writing, graft_all, graft_some, expand, expand_some, written_out}
 use Rattle.pcal_tree.specs.InMemory.{stmt_at, statements_at, branches_at, past_statements, past_branches}
 use Rattle.expansion_size.specs.FramesIn.{newest_first}
-use Rattle.expansion.specs.declared.around.Around.{Around}
-use Rattle.expansion.specs.AroundIn.{put_by}
+use Rattle.expansion_size.specs.declared.frames.Frames.{Frames}
+use Rattle.expansion_size.specs.FramesIn.{put_by}
 
 abbrev pub put_out : List Macro → Graft → Statements → Statements
 put_out ms g b = graft_all g (expand (written_out ms) b)
@@ -32,13 +32,13 @@ expand_first X (then at st rest) = then at (expand_inside X st) rest
 expand_first X (mark l k rest) = mark l k rest
 
 -- for those in memory, by macros in the order of the text
-abbrev pub written : List Tree → List code_macro.Macro → Around → List Stmt → Statements
+abbrev pub written : List Tree → List code_macro.Macro → Frames → List Stmt → Statements
 written ts ms a ss = put_out (newest_first ts ms) (put_by ts a) (statements_at ts ss)
 
-abbrev pub written_some : List Tree → List code_macro.Macro → Around → List (Vec Stmt Global) → Branches
+abbrev pub written_some : List Tree → List code_macro.Macro → Frames → List (Vec Stmt Global) → Branches
 written_some ts ms a bs = put_out_some (newest_first ts ms) (put_by ts a) (branches_at ts bs)
 
-abbrev pub inside_written : List Tree → List code_macro.Macro → Around → Stmt → Statements
+abbrev pub inside_written : List Tree → List code_macro.Macro → Frames → Stmt → Statements
 inside_written ts ms a s = graft_all (put_by ts a) (expand_first (written_out (newest_first ts ms)) (stmt_at ts s done))
 
 -- their numbers are of the pool, and there they stand for these

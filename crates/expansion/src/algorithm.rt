@@ -14,7 +14,7 @@ ghost use Rattle.macro_expand.specs.TooLarge.{too_large as too_large_by_trees};
 ghost use Rattle.expansion_size.specs.FramesIn.{newest_first};
 ghost use Rattle.expansion.specs.Expanded.{expanded_procedure, expanded_process};
 
-use crate::around::Around;
+use expansion_size::frames::Frames;
 use crate::bodies::body;
 use expansion_size::too_large;
 use pcal_tree::algorithm::{
@@ -111,7 +111,7 @@ fn procedure(
     ensures within { IfOk result (λ r. past_procedure r ≤ length pool.new) }
     ensures kept { Keeps pool.old pool.new }
 {
-    let body = body(alloc, pool, macros, &Around::Outside, &one.body)?;
+    let body = body(alloc, pool, macros, &Frames::Outside, &one.body)?;
     let params = declarations(alloc, &one.params)?;
     let variables = declarations(alloc, &one.variables)?;
     Ok(Procedure {
@@ -155,7 +155,7 @@ fn process(
     ensures within { IfOk result (λ r. past_process r ≤ length pool.new) }
     ensures kept { Keeps pool.old pool.new }
 {
-    let body = body(alloc, pool, macros, &Around::Outside, &one.body)?;
+    let body = body(alloc, pool, macros, &Frames::Outside, &one.body)?;
     let variables = declarations(alloc, &one.variables)?;
     Ok(Process {
         name: one.name.copied()?,
@@ -202,7 +202,7 @@ fn main_part(
 {
     match main {
         Main::Alone(stmts) => {
-            let alone = body(alloc, pool, macros, &Around::Outside, stmts)?;
+            let alone = body(alloc, pool, macros, &Frames::Outside, stmts)?;
             Ok(Main::Alone(alone))
         }
         Main::Processes(list) => Ok(Main::Processes(processes(alloc, pool, macros, list)?)),

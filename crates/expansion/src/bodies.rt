@@ -8,11 +8,11 @@ ghost use Rattle.pcal_tree.specs.Algorithm as pure;
 ghost use Rattle.pcal_tree.specs.Expand.{Writing, graft_all, followed_by, expand, written_out};
 ghost use Rattle.pcal_tree.specs.InMemory.{span_of, stmt_at, past_numbers, past_stmt, past_statements, past_branches, past_macro};
 ghost use Rattle.expansion_size.specs.FramesIn.{newest_first};
-ghost use Rattle.expansion.specs.AroundIn.{put_by, past_around};
+ghost use Rattle.expansion_size.specs.FramesIn.{put_by, past_frames};
 ghost use Rattle.expansion.specs.Written.{expand_first, inside_written, written, written_some, Stand, StandSome};
 
-use crate::around::Around;
-use crate::expressions::{binds, expression, expressions, simple};
+use expansion_size::frames::Frames;
+use crate::expressions::{binds, expression, simple};
 use crate::macros::newest;
 use pcal_tree::algorithm::{Macro, Simple, Span, Stmt};
 use std::alloc::{AllocError, Global};
@@ -52,14 +52,14 @@ fn call(
     alloc: Global,
     pool: &mut Pool,
     macros: &[Macro],
-    around: &Around<'_>,
+    frames: &Frames<'_>,
     one: MacroCall<'_>,
     out: &mut Vec<Stmt>,
 ) -> Result<(), AllocError>
     requires there { past_numbers one.arguments.now ≤ length pool.old }
     requires called { greatest (map past_macro macros.now) ≤ length pool.old }
-    requires inner { past_around around.now ≤ length pool.old }
-    ensures made { (us : pure.Statements) → Stand pool.old out.old.items us → OnOk result (Stand pool.new out.new.items (followed_by us (graft_all (put_by pool.old around.now) (written_out (newest_first pool.old macros.now) (span_of one.entry.span) one.entry.name.now (trees_at pool.old one.entry.arguments.now))))) }
+    requires inner { past_frames frames.now ≤ length pool.old }
+    ensures made { (us : pure.Statements) → Stand pool.old out.old.items us → OnOk result (Stand pool.new out.new.items (followed_by us (graft_all (put_by pool.old frames.now) (written_out (newest_first pool.old macros.now) (span_of one.entry.span) one.entry.name.now (trees_at pool.old one.entry.arguments.now))))) }
     ensures kept { Keeps pool.old pool.new }
 {
     match newest(macros, one.name) {
@@ -69,8 +69,7 @@ fn call(
         }
         Some(i) => {
             let found = &macros[i];
-            let given = expressions(alloc, pool, around, one.arguments)?;
-            let inner = Around::Called(&found.params, &given, &*around);
+            let inner = Frames::Called(&found.params, &*one.arguments, &*frames);
             statements(alloc, pool, &macros[..i], &inner, &found.body, out)
         }
     }
@@ -82,36 +81,36 @@ fn inside(
     alloc: Global,
     pool: &mut Pool,
     macros: &[Macro],
-    around: &Around<'_>,
+    frames: &Frames<'_>,
     stmt: &Stmt,
 ) -> Result<Stmt, AllocError>
     requires there { past_stmt stmt.now ≤ length pool.old }
     requires called { greatest (map past_macro macros.now) ≤ length pool.old }
-    requires inner { past_around around.now ≤ length pool.old }
-    ensures made { IfOk result (λ r. Stand pool.new (r ∷ []) (inside_written pool.old macros.now around.now stmt.now)) }
+    requires inner { past_frames frames.now ≤ length pool.old }
+    ensures made { IfOk result (λ r. Stand pool.new (r ∷ []) (inside_written pool.old macros.now frames.now stmt.now)) }
     ensures kept { Keeps pool.old pool.new }
 {
     match stmt {
         Stmt::Label(name, mark) => Ok(Stmt::Label(name.copied()?, *mark)),
-        Stmt::Simple(span, one) => Ok(Stmt::Simple(*span, simple(alloc, pool, around, one)?)),
+        Stmt::Simple(span, one) => Ok(Stmt::Simple(*span, simple(alloc, pool, frames, one)?)),
         Stmt::If(span, e, then, otherwise) => {
-            let test = expression(alloc, pool, around, *e)?;
-            let first = body(alloc, pool, macros, around, then)?;
-            let second = body(alloc, pool, macros, around, otherwise)?;
+            let test = expression(alloc, pool, frames, *e)?;
+            let first = body(alloc, pool, macros, frames, then)?;
+            let second = body(alloc, pool, macros, frames, otherwise)?;
             Ok(Stmt::If(*span, test, first, second))
         }
         Stmt::Either(span, list) => {
-            let rows = branches(alloc, pool, macros, around, list)?;
+            let rows = branches(alloc, pool, macros, frames, list)?;
             Ok(Stmt::Either(*span, rows))
         }
         Stmt::With(span, list, stmts) => {
-            let bound = binds(alloc, pool, around, list)?;
-            let inner = body(alloc, pool, macros, around, stmts)?;
+            let bound = binds(alloc, pool, frames, list)?;
+            let inner = body(alloc, pool, macros, frames, stmts)?;
             Ok(Stmt::With(*span, bound, inner))
         }
         Stmt::While(span, e, stmts) => {
-            let test = expression(alloc, pool, around, *e)?;
-            let inner = body(alloc, pool, macros, around, stmts)?;
+            let test = expression(alloc, pool, frames, *e)?;
+            let inner = body(alloc, pool, macros, frames, stmts)?;
             Ok(Stmt::While(*span, test, inner))
         }
     }
@@ -123,20 +122,20 @@ fn stmt(
     alloc: Global,
     pool: &mut Pool,
     macros: &[Macro],
-    around: &Around<'_>,
+    frames: &Frames<'_>,
     stmt: &Stmt,
     out: &mut Vec<Stmt>,
 ) -> Result<(), AllocError>
     requires there { past_stmt stmt.now ≤ length pool.old }
     requires called { greatest (map past_macro macros.now) ≤ length pool.old }
-    requires inner { past_around around.now ≤ length pool.old }
-    ensures made { (us : pure.Statements) → Stand pool.old out.old.items us → OnOk result (Stand pool.new out.new.items (followed_by us (written pool.old macros.now around.now (stmt.now ∷ [])))) }
+    requires inner { past_frames frames.now ≤ length pool.old }
+    ensures made { (us : pure.Statements) → Stand pool.old out.old.items us → OnOk result (Stand pool.new out.new.items (followed_by us (written pool.old macros.now frames.now (stmt.now ∷ [])))) }
     ensures kept { Keeps pool.old pool.new }
 {
     match call_of(stmt) {
-        Some(one) => call(alloc, pool, macros, around, one, out),
+        Some(one) => call(alloc, pool, macros, frames, one, out),
         None => {
-            let one = inside(alloc, pool, macros, around, stmt)?;
+            let one = inside(alloc, pool, macros, frames, stmt)?;
             out.push(one)?;
             Ok(())
         }
@@ -149,18 +148,18 @@ fn branches(
     alloc: Global,
     pool: &mut Pool,
     macros: &[Macro],
-    around: &Around<'_>,
+    frames: &Frames<'_>,
     list: &[Vec<Stmt>],
 ) -> Result<Vec<Vec<Stmt>>, AllocError>
     requires there { past_branches list.now ≤ length pool.old }
     requires called { greatest (map past_macro macros.now) ≤ length pool.old }
-    requires inner { past_around around.now ≤ length pool.old }
-    ensures made { IfOk result (λ r. StandSome pool.new r.items (written_some pool.old macros.now around.now list.now)) }
+    requires inner { past_frames frames.now ≤ length pool.old }
+    ensures made { IfOk result (λ r. StandSome pool.new r.items (written_some pool.old macros.now frames.now list.now)) }
     ensures kept { Keeps pool.old pool.new }
 {
     let mut rows = Vec::new(alloc);
     for i in 0..list.len() {
-        rows.push(body(alloc, pool, macros, around, &list[i])?)?;
+        rows.push(body(alloc, pool, macros, frames, &list[i])?)?;
     }
     Ok(rows)
 }
@@ -171,18 +170,18 @@ fn statements(
     alloc: Global,
     pool: &mut Pool,
     macros: &[Macro],
-    around: &Around<'_>,
+    frames: &Frames<'_>,
     stmts: &[Stmt],
     out: &mut Vec<Stmt>,
 ) -> Result<(), AllocError>
     requires there { past_statements stmts.now ≤ length pool.old }
     requires called { greatest (map past_macro macros.now) ≤ length pool.old }
-    requires inner { past_around around.now ≤ length pool.old }
-    ensures made { (us : pure.Statements) → Stand pool.old out.old.items us → OnOk result (Stand pool.new out.new.items (followed_by us (written pool.old macros.now around.now stmts.now))) }
+    requires inner { past_frames frames.now ≤ length pool.old }
+    ensures made { (us : pure.Statements) → Stand pool.old out.old.items us → OnOk result (Stand pool.new out.new.items (followed_by us (written pool.old macros.now frames.now stmts.now))) }
     ensures kept { Keeps pool.old pool.new }
 {
     for one in stmts {
-        stmt(alloc, pool, macros, around, one, out)?;
+        stmt(alloc, pool, macros, frames, one, out)?;
     }
     Ok(())
 }
@@ -198,16 +197,16 @@ pub fn body(
     alloc: Global,
     pool: &mut Pool,
     macros: &[Macro],
-    around: &Around<'_>,
+    frames: &Frames<'_>,
     stmts: &[Stmt],
 ) -> Result<Vec<Stmt>, AllocError>
     requires there { past_statements stmts.now ≤ length pool.old }
     requires called { greatest (map past_macro macros.now) ≤ length pool.old }
-    requires inner { past_around around.now ≤ length pool.old }
-    ensures made { IfOk result (λ r. Stand pool.new r.items (written pool.old macros.now around.now stmts.now)) }
+    requires inner { past_frames frames.now ≤ length pool.old }
+    ensures made { IfOk result (λ r. Stand pool.new r.items (written pool.old macros.now frames.now stmts.now)) }
     ensures kept { Keeps pool.old pool.new }
 {
     let mut out = Vec::new(alloc);
-    statements(alloc, pool, macros, around, stmts, &mut out)?;
+    statements(alloc, pool, macros, frames, stmts, &mut out)?;
     Ok(out)
 }

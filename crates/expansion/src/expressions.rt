@@ -1,41 +1,66 @@
 //! Expressions of statements, with what stands for names there.
 
-ghost use Rattle.std.specs.Prelude.{◌≡◌, ◌<◌, ◌≤◌, length, map, IfOk};
+ghost use Rattle.std.specs.Prelude.{◌≡◌, ◌<◌, ◌≤◌, length, map, IfOk, IfSome, IfNone};
 ghost use Rattle.tla_tree.specs.Tree.{graft, grafts};
 ghost use Rattle.tla_tree.specs.Pool.{at, trees_at, Keeps};
 ghost use Rattle.tla_tree.specs.Nesting.{greatest};
 ghost use Rattle.pcal_tree.specs.Expand.{graft_left, graft_assignments, graft_binds, graft_one};
 ghost use Rattle.pcal_tree.specs.InMemory.{assignments_at, bind_at, binds_at, simple_at, past_numbers, past_assignment, past_bind, past_binds, past_simple};
-ghost use Rattle.expansion.specs.AroundIn.{put_by, past_around};
-ghost use Rattle.expansion.specs.Expressions.{StandNumbers, StandAssignments, StandBinds, StandSimple, bind_put};
+ghost use Rattle.expansion_size.specs.FramesIn.{put_by, past_frames, calls_around, found_tree};
+ghost use Rattle.expansion.specs.Expressions.{over_parts, StandNumbers, StandAssignments, StandBinds, StandSimple, bind_put};
 
-use crate::around::Around;
+use expansion_size::frames::{Found, Frames, lookup};
 use pcal_tree::algorithm::{Assignment, Bind, Simple};
 use std::alloc::{AllocError, Global};
-use tla_pool::graft::grafted;
+use tla_pool::form::Form;
 use tla_pool::{Node, Pool};
 use tla_tree::NodeId;
 
-/// An expression. Outside macros it is the same one.
+// What stands for an expression, if it is a name for which something does.
+fn found<'a>(pool: &Pool, frames: &'a Frames<'a>, e: NodeId) -> Option<Found<'a>>
+    requires there { e < length pool.now }
+    ensures none { IfNone result (graft (put_by pool.now frames.now) (at pool.now e) ≡ over_parts (put_by pool.now frames.now) (at pool.now e)) }
+    ensures some { IfSome result (λ f. found_tree pool.now f ≡ graft (put_by pool.now frames.now) (at pool.now e)) }
+    ensures within { IfSome result (λ f. f.argument < past_frames frames.now) }
+    ensures inner { IfSome result (λ f. past_frames f.around.now ≤ past_frames frames.now) }
+    ensures fewer { IfSome result (λ f. calls_around f.around.now < calls_around frames.now) }
+{
+    let node = pool.node(e);
+    match &node.form {
+        Form::Name(name) => lookup(frames, name),
+        _ => None,
+    }
+}
+
+/// An expression. Outside macros it is the same one. It calls itself as deep as what it makes is deep, and once more for each call
+/// around.
 ///
 /// # Errors
 ///
 /// Only for want of memory; the pool may then have more nodes than before.
+#[cycle(trees)]
 pub fn expression(
     alloc: Global,
     pool: &mut Pool,
-    around: &Around<'_>,
+    frames: &Frames<'_>,
     e: NodeId,
 ) -> Result<NodeId, AllocError>
     requires there { e < length pool.old }
-    requires inner { past_around around.now ≤ length pool.old }
-    ensures tree { IfOk result (λ r. at pool.new r ≡ graft (put_by pool.old around.now) (at pool.old e)) }
+    requires inner { past_frames frames.now ≤ length pool.old }
+    ensures tree { IfOk result (λ r. at pool.new r ≡ graft (put_by pool.old frames.now) (at pool.old e)) }
     ensures within { IfOk result (λ r. r < length pool.new) }
     ensures kept { Keeps pool.old pool.new }
 {
-    match around {
-        Around::Outside => Ok(e),
-        _ => grafted(alloc, pool, e, around),
+    match frames {
+        Frames::Outside => Ok(e),
+        _ => match found(&*pool, &*frames, e) {
+            Some(found) => expression(alloc, pool, found.around, found.argument),
+            None => {
+                let Node { form, place, parts } = pool.node(e).copied(alloc)?;
+                let others = expressions(alloc, pool, frames, &parts)?;
+                pool.put(form, place, others)
+            }
+        },
     }
 }
 
@@ -47,17 +72,17 @@ pub fn expression(
 pub fn left_side(
     alloc: Global,
     pool: &mut Pool,
-    around: &Around<'_>,
+    frames: &Frames<'_>,
     e: NodeId,
 ) -> Result<NodeId, AllocError>
     requires there { e < length pool.old }
-    requires inner { past_around around.now ≤ length pool.old }
-    ensures tree { IfOk result (λ r. at pool.new r ≡ graft_left (put_by pool.old around.now) (at pool.old e)) }
+    requires inner { past_frames frames.now ≤ length pool.old }
+    ensures tree { IfOk result (λ r. at pool.new r ≡ graft_left (put_by pool.old frames.now) (at pool.old e)) }
     ensures within { IfOk result (λ r. r < length pool.new) }
     ensures kept { Keeps pool.old pool.new }
 {
     let place = pool.node(e).place;
-    let whole = expression(alloc, pool, around, e)?;
+    let whole = expression(alloc, pool, frames, e)?;
     let Node { form, parts, .. } = pool.node(whole).copied(alloc)?;
     pool.put(form, place, parts)
 }
@@ -67,20 +92,21 @@ pub fn left_side(
 /// # Errors
 ///
 /// Only for want of memory; the pool may then have more nodes than before.
+#[cycle(trees)]
 pub fn expressions(
     alloc: Global,
     pool: &mut Pool,
-    around: &Around<'_>,
+    frames: &Frames<'_>,
     list: &[NodeId],
 ) -> Result<Vec<NodeId>, AllocError>
     requires there { past_numbers list.now ≤ length pool.old }
-    requires inner { past_around around.now ≤ length pool.old }
-    ensures made { IfOk result (λ r. StandNumbers pool.new r.items (grafts (put_by pool.old around.now) (trees_at pool.old list.now))) }
+    requires inner { past_frames frames.now ≤ length pool.old }
+    ensures made { IfOk result (λ r. StandNumbers pool.new r.items (grafts (put_by pool.old frames.now) (trees_at pool.old list.now))) }
     ensures kept { Keeps pool.old pool.new }
 {
     let mut made = Vec::new(alloc);
     for i in 0..list.len() {
-        made.push(expression(alloc, pool, around, list[i])?)?;
+        made.push(expression(alloc, pool, frames, list[i])?)?;
     }
     Ok(made)
 }
@@ -89,18 +115,18 @@ pub fn expressions(
 fn assignment(
     alloc: Global,
     pool: &mut Pool,
-    around: &Around<'_>,
+    frames: &Frames<'_>,
     one: &Assignment,
 ) -> Result<Assignment, AllocError>
     requires there { past_assignment one.now ≤ length pool.old }
-    requires inner { past_around around.now ≤ length pool.old }
-    ensures left { IfOk result (λ r. at pool.new r.left ≡ graft_left (put_by pool.old around.now) (at pool.old one.now.left)) }
-    ensures right { IfOk result (λ r. at pool.new r.right ≡ graft (put_by pool.old around.now) (at pool.old one.now.right)) }
+    requires inner { past_frames frames.now ≤ length pool.old }
+    ensures left { IfOk result (λ r. at pool.new r.left ≡ graft_left (put_by pool.old frames.now) (at pool.old one.now.left)) }
+    ensures right { IfOk result (λ r. at pool.new r.right ≡ graft (put_by pool.old frames.now) (at pool.old one.now.right)) }
     ensures within { IfOk result (λ r. past_assignment r ≤ length pool.new) }
     ensures kept { Keeps pool.old pool.new }
 {
-    let left = left_side(alloc, pool, around, one.left)?;
-    let right = expression(alloc, pool, around, one.right)?;
+    let left = left_side(alloc, pool, frames, one.left)?;
+    let right = expression(alloc, pool, frames, one.right)?;
     Ok(Assignment { left, right })
 }
 
@@ -108,17 +134,17 @@ fn assignment(
 fn assignments(
     alloc: Global,
     pool: &mut Pool,
-    around: &Around<'_>,
+    frames: &Frames<'_>,
     list: &[Assignment],
 ) -> Result<Vec<Assignment>, AllocError>
     requires there { greatest (map past_assignment list.now) ≤ length pool.old }
-    requires inner { past_around around.now ≤ length pool.old }
-    ensures made { IfOk result (λ r. StandAssignments pool.new r.items (graft_assignments (put_by pool.old around.now) (assignments_at pool.old list.now))) }
+    requires inner { past_frames frames.now ≤ length pool.old }
+    ensures made { IfOk result (λ r. StandAssignments pool.new r.items (graft_assignments (put_by pool.old frames.now) (assignments_at pool.old list.now))) }
     ensures kept { Keeps pool.old pool.new }
 {
     let mut made = Vec::new(alloc);
     for one in list {
-        made.push(assignment(alloc, pool, around, one)?)?;
+        made.push(assignment(alloc, pool, frames, one)?)?;
     }
     Ok(made)
 }
@@ -127,22 +153,22 @@ fn assignments(
 fn bind(
     alloc: Global,
     pool: &mut Pool,
-    around: &Around<'_>,
+    frames: &Frames<'_>,
     one: &Bind,
 ) -> Result<Bind, AllocError>
     requires there { past_bind one.now ≤ length pool.old }
-    requires inner { past_around around.now ≤ length pool.old }
-    ensures made { IfOk result (λ r. bind_at pool.new r ≡ bind_put (put_by pool.old around.now) pool.old one.now) }
+    requires inner { past_frames frames.now ≤ length pool.old }
+    ensures made { IfOk result (λ r. bind_at pool.new r ≡ bind_put (put_by pool.old frames.now) pool.old one.now) }
     ensures within { IfOk result (λ r. past_bind r ≤ length pool.new) }
     ensures kept { Keeps pool.old pool.new }
 {
     match one {
         Bind::Among(name, e) => {
-            let set = expression(alloc, pool, around, *e)?;
+            let set = expression(alloc, pool, frames, *e)?;
             Ok(Bind::Among(name.copied()?, set))
         }
         Bind::Is(name, e) => {
-            let value = expression(alloc, pool, around, *e)?;
+            let value = expression(alloc, pool, frames, *e)?;
             Ok(Bind::Is(name.copied()?, value))
         }
     }
@@ -156,17 +182,17 @@ fn bind(
 pub fn binds(
     alloc: Global,
     pool: &mut Pool,
-    around: &Around<'_>,
+    frames: &Frames<'_>,
     list: &[Bind],
 ) -> Result<Vec<Bind>, AllocError>
     requires there { past_binds list.now ≤ length pool.old }
-    requires inner { past_around around.now ≤ length pool.old }
-    ensures made { IfOk result (λ r. StandBinds pool.new r.items (graft_binds (put_by pool.old around.now) (binds_at pool.old list.now))) }
+    requires inner { past_frames frames.now ≤ length pool.old }
+    ensures made { IfOk result (λ r. StandBinds pool.new r.items (graft_binds (put_by pool.old frames.now) (binds_at pool.old list.now))) }
     ensures kept { Keeps pool.old pool.new }
 {
     let mut made = Vec::new(alloc);
     for one in list {
-        made.push(bind(alloc, pool, around, one)?)?;
+        made.push(bind(alloc, pool, frames, one)?)?;
     }
     Ok(made)
 }
@@ -179,27 +205,27 @@ pub fn binds(
 pub fn simple(
     alloc: Global,
     pool: &mut Pool,
-    around: &Around<'_>,
+    frames: &Frames<'_>,
     one: &Simple,
 ) -> Result<Simple, AllocError>
     requires there { past_simple one.now ≤ length pool.old }
-    requires inner { past_around around.now ≤ length pool.old }
-    ensures made { IfOk result (λ r. StandSimple pool.new r (graft_one (put_by pool.old around.now) (simple_at pool.old one.now))) }
+    requires inner { past_frames frames.now ≤ length pool.old }
+    ensures made { IfOk result (λ r. StandSimple pool.new r (graft_one (put_by pool.old frames.now) (simple_at pool.old one.now))) }
     ensures kept { Keeps pool.old pool.new }
 {
     match one {
-        Simple::Assign(list) => Ok(Simple::Assign(assignments(alloc, pool, around, list)?)),
-        Simple::Await(e) => Ok(Simple::Await(expression(alloc, pool, around, *e)?)),
-        Simple::Print(e) => Ok(Simple::Print(expression(alloc, pool, around, *e)?)),
-        Simple::Assert(e) => Ok(Simple::Assert(expression(alloc, pool, around, *e)?)),
+        Simple::Assign(list) => Ok(Simple::Assign(assignments(alloc, pool, frames, list)?)),
+        Simple::Await(e) => Ok(Simple::Await(expression(alloc, pool, frames, *e)?)),
+        Simple::Print(e) => Ok(Simple::Print(expression(alloc, pool, frames, *e)?)),
+        Simple::Assert(e) => Ok(Simple::Assert(expression(alloc, pool, frames, *e)?)),
         Simple::Skip => Ok(Simple::Skip),
         Simple::Goto(name) => Ok(Simple::Goto(name.copied()?)),
         Simple::Macro(name, list) => {
-            let given = expressions(alloc, pool, around, list)?;
+            let given = expressions(alloc, pool, frames, list)?;
             Ok(Simple::Macro(name.copied()?, given))
         }
         Simple::Call(name, list) => {
-            let given = expressions(alloc, pool, around, list)?;
+            let given = expressions(alloc, pool, frames, list)?;
             Ok(Simple::Call(name.copied()?, given))
         }
         Simple::Return => Ok(Simple::Return),

@@ -2,7 +2,6 @@
 #![tactic(auto)]
 
 pub mod algorithm;
-pub mod around;
 pub mod bodies;
 pub mod expressions;
 pub mod macros;

@@ -5,18 +5,18 @@ use Rattle.tla_tree.proofs.PoolNumbers.{Keeps-then, past_at}
 use Rattle.pcal_tree.specs.declared.algorithm.Bind.{Bind}
 use Rattle.pcal_tree.specs.declared.algorithm.Stmt.{Stmt}
 use Rattle.pcal_tree.specs.Algorithm.{Statements, done}
-use Rattle.pcal_tree.specs.InMemory.{span_of, binds_at, past_numbers, past_stmt, past_statements, past_branches, past_macro, past_binds}
+use Rattle.pcal_tree.specs.InMemory.{span_of, binds_at, past_stmt, past_statements, past_branches, past_macro, past_binds}
 use Rattle.pcal_tree.specs.Expand.{followed_by, graft_binds, graft_all, written_out}
 use Rattle.pcal_tree.proofs.InMemoryEach.{past_if, past_either, past_with, past_while}
 use Rattle.pcal_tree.proofs.StatementHeights.{height, heights, branch_heights, if_height, either_height, with_height, while_height}
 use Rattle.expansion_size.specs.FramesIn.{newest_first}
 use Rattle.expansion_size.proofs.MacroLaws.{less_work, fewer_past}
-use Rattle.expansion.specs.AroundIn.{put_by}
+use Rattle.expansion_size.specs.FramesIn.{put_by}
 use Rattle.expansion.specs.Expressions.{StandBinds}
 use Rattle.expansion.specs.Written.{written, written_some, Stand, StandSome}
-use Rattle.expansion.proofs.AroundLaws.{past_called}
+use Rattle.expansion_size.proofs.FrameLaws.{past_called}
 use Rattle.expansion.proofs.Lists.{made_more, made_all}
-use Rattle.expansion.proofs.BodyLaws.{past_branch, branch_at, branch_put, branches_grow, branches_made, stand_none, keeps_all, first_written, all_written, stand_kept, stand_from, stand_pushed, written_kept, next_written, call_written, if_made, either_made, with_made, while_made, binds_stand, inside_is, no_macro_made, call_is}
+use Rattle.expansion.proofs.BodyLaws.{past_branch, branch_at, branch_put, branches_grow, branches_made, stand_none, keeps_all, first_written, all_written, stand_from, stand_pushed, written_kept, next_written, call_written, if_made, either_made, with_made, while_made, binds_stand, inside_is, no_macro_made, call_is}
 use Rattle.expansion.proofs.bodies.+bodies.Goals as goal
 
 pub body-returns-clause-made : goal.body-returns-clause-made
@@ -36,7 +36,7 @@ branches-loop-i-preserved t c =
     let past = past_at past_branch c.args.list.now c.loop-i.i c.index-list-i.result c.index-list-i.is c.loop-i-test.true in
     let old = c.args.pool.now in
     let ms = c.args.macros.now in
-    let a = c.args.around.now in
+    let a = c.args.frames.now in
     let said = c.in_ok-body.ensures in
     let kept = c.loop-i.invariant.0 in (
       Keeps-then _ _ _ kept said.kept,
@@ -50,7 +50,7 @@ pub branches-returns-clause-made : goal.branches-returns-clause-made
 branches-returns-clause-made t c =
     let old = c.args.pool.now in
     let ms = c.args.macros.now in
-    let a = c.args.around.now in
+    let a = c.args.frames.now in
     branches_made ms a old c.loop-i.pool c.loop-i.rows.items c.args.list.now (made_all past_branch branch_at (branch_put ms a old) c.loop-i.pool c.loop-i.rows.items c.args.list.now c.loop-i.i c.loop-i-test.false c.loop-i.invariant.1)
 
 pub call-statements-requires : goal.call-statements-requires
@@ -60,15 +60,11 @@ call-statements-requires t c =
     let o = c.index-macros-i.result in
     let less = less_work ms i o c.index-macros-i.is c.in-Some.ensures.within in
     let past = past_at past_macro ms i o c.index-macros-i.is c.in-Some.ensures.within in
-    let fewer = fewer_past ms i in
-    let made = c.in_ok-given-in-Some.ensures in (
-      omega (arith, less, ap heights c.deref-in-Some-2.ensures.value, c.decreases),
+    let fewer = fewer_past ms i in (
+      omega (arith, less, ap heights c.deref-in-Some.ensures.value, c.decreases),
       (
-        omega (arith, past, ap past_statements c.deref-in-Some-2.ensures.value, c.requires.called, made.kept.longer),
-        (
-          omega (arith, fewer, c.requires.called, made.kept.longer),
-          past_called _ _ _ _ (omega (arith, ap past_numbers c.deref-in-Some.ensures.value, made.made.within)) (omega (arith, c.requires.inner, made.kept.longer)),
-        ),
+        omega (arith, past, ap past_statements c.deref-in-Some.ensures.value, c.requires.called),
+        (omega (arith, fewer, c.requires.called), past_called _ _ _ _ c.requires.there c.requires.inner),
       ),
     )
 
@@ -78,25 +74,20 @@ call-returns-in_ok-push-in-None-clause-made t c = λ us h.
     let ms = c.args.macros.now in
     let es = trees_at ts c.args.one.arguments.now in
     stand_pushed ts ts (keeps_all ts) c.args.out.now.items c.push.new.self.items _ us _ h
-    (subst (Stand ts _) (ap (graft_all (put_by ts c.args.around.now)) (c.in-None.ensures.none ts (span_of c.args.one.span) es)) (no_macro_made ts c.args.one.span c.new.result c.new.ensures.items))
+    (subst (Stand ts _) (ap (graft_all (put_by ts c.args.frames.now)) (c.in-None.ensures.none ts (span_of c.args.one.span) es)) (no_macro_made ts c.args.one.span c.new.result c.new.ensures.items))
     c.in_ok-push-in-None.ensures.items
 
-pub call-returns-in_ok-given-in-Some-clause-made : goal.call-returns-in_ok-given-in-Some-clause-made
-call-returns-in_ok-given-in-Some-clause-made t c = λ us h.
+pub call-returns-in-Some-clause-made : goal.call-returns-in-Some-clause-made
+call-returns-in-Some-clause-made t c = λ us h.
     let ts = c.args.pool.now in
     let ms = c.args.macros.now in
     let i = c.in-Some.i in
     let o = c.index-macros-i.result in
-    let past = past_at past_macro ms i o c.index-macros-i.is c.in-Some.ensures.within in
-    let fewer = fewer_past ms i in
-    let made = c.in_ok-given-in-Some.ensures in
-    let es = c.args.one.arguments.now in
-    let ps = c.expressions.new.pool in
+    let es = trees_at ts c.args.one.arguments.now in
     subst (λ (v : Statements). OnOk c.statements.result (Stand c.statements.new.pool c.statements.new.out.items (followed_by us v)))
-    (ap (written ps (take i ms) _) c.deref-in-Some-2.ensures.value
-    ∙ call_written ts ps made.kept (take i ms) ms _ o _ _ es (span_of c.args.one.span) c.args.one.name.now (omega (arith, fewer, c.requires.called)) c.requires.inner (omega (arith, past, c.requires.called)) c.deref.ensures.value
-    (ap (trees_at ps) c.deref-in-Some.ensures.value ∙ made.made.stand) (c.in-Some.ensures.some ts (span_of c.args.one.span) (trees_at ts es) o c.index-macros-i.is))
-    (c.statements.ensures.made us (stand_kept ts ps made.kept c.args.out.now.items us h))
+    (ap (written ts (take i ms) _) c.deref-in-Some.ensures.value
+    ∙ call_written ts (take i ms) ms _ o _ _ (span_of c.args.one.span) c.args.one.name.now c.deref.ensures.value (c.in-Some.ensures.some ts (span_of c.args.one.span) es o c.index-macros-i.is))
+    (c.statements.ensures.made us h)
 
 pub inside-branches-requires : goal.inside-branches-requires
 inside-branches-requires t c = (
@@ -114,7 +105,7 @@ inside-returns-in_ok-second-in-If-clause-made t c =
     let r = c.body.new.pool in
     let z = c.body-in-If.new.pool in
     let ms = c.args.macros.now in
-    let a = c.args.around.now in
+    let a = c.args.frames.now in
     let o = c.in-If in
     let test = c.in_ok-test-in-If.ensures in
     let first = c.in_ok-first-in-If.ensures in
@@ -132,7 +123,7 @@ inside-returns-in_ok-rows-in-Either-clause-made t c =
     let p = c.args.pool.now in
     let z = c.branches.new.pool in
     let ms = c.args.macros.now in
-    let a = c.args.around.now in
+    let a = c.args.frames.now in
     let o = c.in-Either in
     inside_is p z ms a _ _ _ o.is
     (either_made p z ms a o.span o.list c.in_ok-rows-in-Either.rows
@@ -144,7 +135,7 @@ inside-returns-in_ok-inner-in-With-clause-made t c =
     let q = c.binds.new.pool in
     let z = c.body-in-With.new.pool in
     let ms = c.args.macros.now in
-    let a = c.args.around.now in
+    let a = c.args.frames.now in
     let o = c.in-With in
     let bound = c.in_ok-bound-in-With.ensures in
     let inner = c.in_ok-inner-in-With.ensures in
@@ -160,7 +151,7 @@ inside-returns-in_ok-inner-in-While-clause-made t c =
     let q = c.expression-in-While.new.pool in
     let z = c.body-in-While.new.pool in
     let ms = c.args.macros.now in
-    let a = c.args.around.now in
+    let a = c.args.frames.now in
     let o = c.in-While in
     let test = c.in_ok-test-in-While.ensures in
     let inner = c.in_ok-inner-in-While.ensures in
@@ -170,7 +161,7 @@ inside-returns-in_ok-inner-in-While-clause-made t c =
     (stand_from ms a p q z z test.kept (keeps_all z) c.requires.called c.requires.inner _ o.stmts.items _ c.deref-in-While.ensures.value (omega (arith, past_while o.span o.e o.stmts, ap past_stmt o.is, c.requires.there)) inner.made))
 
 pub statements-loop-one-init : goal.statements-loop-one-init
-statements-loop-one-init t c = (keeps_all c.args.pool.now, λ us h. first_written c.args.pool.now c.args.macros.now c.args.around.now c.args.pool.now c.args.stmts.now c.args.out.now.items us h)
+statements-loop-one-init t c = (keeps_all c.args.pool.now, λ us h. first_written c.args.pool.now c.args.macros.now c.args.frames.now c.args.pool.now c.args.stmts.now c.args.out.now.items us h)
 
 pub statements-stmt-requires : goal.statements-stmt-requires
 statements-stmt-requires t c =
@@ -183,7 +174,7 @@ pub statements-loop-one-preserved : goal.statements-loop-one-preserved
 statements-loop-one-preserved t c =
     let p = c.args.pool.now in
     let ms = c.args.macros.now in
-    let a = c.args.around.now in
+    let a = c.args.frames.now in
     let past = past_at past_stmt c.args.stmts.now c.loop-one.one-index c.one-item.result c.one-item.is c.loop-one-test.true in
     let said = c.in_ok-stmt.ensures in
     let kept = c.loop-one.invariant.0 in (
@@ -196,21 +187,21 @@ statements-loop-one-preserved t c =
 
 pub statements-returns-clause-made : goal.statements-returns-clause-made
 statements-returns-clause-made t c = λ us h.
-    all_written c.args.pool.now c.args.macros.now c.args.around.now c.loop-one.pool c.args.stmts.now c.loop-one.out.items c.loop-one.one-index us c.loop-one-test.false (c.loop-one.invariant.1 us h)
+    all_written c.args.pool.now c.args.macros.now c.args.frames.now c.loop-one.pool c.args.stmts.now c.loop-one.out.items c.loop-one.one-index us c.loop-one-test.false (c.loop-one.invariant.1 us h)
 
 pub stmt-returns-in-Some-clause-made : goal.stmt-returns-in-Some-clause-made
 stmt-returns-in-Some-clause-made t c = λ us h.
     let p = c.args.pool.now in
     let o = c.in-Some.one in
     subst (λ (v : Statements). OnOk c.call.result (Stand c.call.new.pool c.call.new.out.items (followed_by us v)))
-    (call_is p c.args.macros.now c.args.around.now c.args.stmt.now (span_of o.span) o.name.now (trees_at p o.arguments.now) (c.in-Some.ensures.some p)) (c.call.ensures.made us h)
+    (call_is p c.args.macros.now c.args.frames.now c.args.stmt.now (span_of o.span) o.name.now (trees_at p o.arguments.now) (c.in-Some.ensures.some p)) (c.call.ensures.made us h)
 
 pub stmt-returns-in_ok-push-in-None-clause-made : goal.stmt-returns-in_ok-push-in-None-clause-made
 stmt-returns-in_ok-push-in-None-clause-made t c = λ us h.
     let p = c.args.pool.now in
     let z = c.inside.new.pool in
     let ms = c.args.macros.now in
-    let a = c.args.around.now in
+    let a = c.args.frames.now in
     let said = c.in_ok-one-in-None.ensures in
     stand_pushed p z said.kept c.args.out.now.items c.push.new.self.items c.in_ok-one-in-None.one us _ h
     (subst (Stand z (c.in_ok-one-in-None.one ∷ [])) (ap (graft_all (put_by p a)) (sym (c.in-None.ensures.none p (written_out (newest_first p ms))))) said.made) c.in_ok-push-in-None.ensures.items

@@ -30,7 +30,7 @@ decreases-branches l = work l.macros.now + 5 * branch_heights l.list.now + 6
 
 abbrev pub invariant-statements-loop-one : goal.invariant-statements-loop-one
 invariant-statements-loop-one l =
-    Keeps l.fn.pool l.pool × ((us : Statements) → Stand l.fn.pool l.fn.out.items us → Stand l.pool l.out.items (followed_by us (written l.fn.pool l.macros l.around (take l.one-index l.stmts))))
+    Keeps l.fn.pool l.pool × ((us : Statements) → Stand l.fn.pool l.fn.out.items us → Stand l.pool l.out.items (followed_by us (written l.fn.pool l.macros l.frames (take l.one-index l.stmts))))
 
 abbrev pub invariant-branches-loop-i : goal.invariant-branches-loop-i
-invariant-branches-loop-i l = Keeps l.fn.pool l.pool × MadeOf past_branch branch_at (branch_put l.macros l.around l.fn.pool) l.pool l.rows.items (take l.i l.list)
+invariant-branches-loop-i l = Keeps l.fn.pool l.pool × MadeOf past_branch branch_at (branch_put l.macros l.frames l.fn.pool) l.pool l.rows.items (take l.i l.list)
