@@ -23,7 +23,7 @@ use Rattle.expansion_size.specs.FramesIn.{newest_first}
 use Rattle.expansion_size.specs.declared.frames.Frames.{Frames}
 use Rattle.expansion_size.specs.declared.frames.Frames.TheVariants.{Called}
 use Rattle.expansion_size.specs.FramesIn.{put_by, past_frames}
-use Rattle.expansion.proofs.FramesStay.{put_anywhere, put_kept}
+use Rattle.expansion.specs.FramesStay.{put_anywhere, put_kept}
 use Rattle.expansion.specs.Expressions.{StandBinds}
 use Rattle.expansion.specs.Written.{put_out, expand_first, written, written_some, inside_written, body_written, Stand, StandSome}
 use Rattle.expansion.proofs.PutTwice.{all_twice, joined_done, joined_again, put_joined}

@@ -1,6 +1,5 @@
 -- That what is written is the expansion.
 pub mod PutTwice
-pub mod FramesStay
 pub mod Lists
 pub mod MacroLaws
 pub mod BodyLaws

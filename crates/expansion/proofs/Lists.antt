@@ -15,7 +15,7 @@ use Rattle.pcal_tree.proofs.InMemoryEach.{past_one_more}
 use Rattle.pcal_tree.proofs.InMemoryGrown.{each_kept}
 use Rattle.expansion_size.specs.declared.frames.Frames.{Frames}
 use Rattle.expansion_size.specs.FramesIn.{put_by, past_frames}
-use Rattle.expansion.proofs.FramesStay.{put_kept, graft_grown}
+use Rattle.expansion.specs.FramesStay.{put_kept, graft_grown}
 use Rattle.expansion.specs.Expressions.{assignment_put, bind_put, StandNumbers, StandAssignments, StandBinds}
 
 -- the members' numbers are of the pool, and what they stand for there is what is made of the members of another list

@@ -69,7 +69,7 @@ module _ (g : Graft) (free : Anywhere g) (ps : List Name) (us : Trees) where
 
 -- ---- nothing put in
 
-left_none : (l : Tree) → graft_left nothing_put l ≡ l
+pub left_none : (l : Tree) → graft_left nothing_put l ≡ l
 left_none (node m at ts) = ap (placed_at at) (graft_none (node m at ts))
 
 assignments_none : (ms : Assignments) → graft_assignments nothing_put ms ≡ ms

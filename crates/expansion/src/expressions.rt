@@ -13,8 +13,10 @@ use expansion_size::frames::{Found, Frames, lookup};
 use pcal_tree::algorithm::{Assignment, Bind, Simple};
 use std::alloc::{AllocError, Global};
 use tla_pool::form::Form;
+use tla_pool::graft::{Grafting, grafted};
 use tla_pool::{Node, Pool};
-use tla_tree::NodeId;
+use tla_token::Place;
+use tla_tree::{Name, NodeId};
 
 // What stands for an expression, if it is a name for which something does.
 fn found<'a>(pool: &Pool, frames: &'a Frames<'a>, e: NodeId) -> Option<Found<'a>>
@@ -64,29 +66,6 @@ pub fn expression(
     }
 }
 
-/// A left side, which keeps its place.
-///
-/// # Errors
-///
-/// Only for want of memory; the pool may then have more nodes than before.
-pub fn left_side(
-    alloc: Global,
-    pool: &mut Pool,
-    frames: &Frames<'_>,
-    e: NodeId,
-) -> Result<NodeId, AllocError>
-    requires there { e < length pool.old }
-    requires inner { past_frames frames.now ≤ length pool.old }
-    ensures tree { IfOk result (λ r. at pool.new r ≡ graft_left (put_by pool.old frames.now) (at pool.old e)) }
-    ensures within { IfOk result (λ r. r < length pool.new) }
-    ensures kept { Keeps pool.old pool.new }
-{
-    let place = pool.node(e).place;
-    let whole = expression(alloc, pool, frames, e)?;
-    let Node { form, parts, .. } = pool.node(whole).copied(alloc)?;
-    pool.put(form, place, parts)
-}
-
 /// Expressions, one after another.
 ///
 /// # Errors
@@ -109,6 +88,71 @@ pub fn expressions(
         made.push(expression(alloc, pool, frames, list[i])?)?;
     }
     Ok(made)
+}
+
+// What stands for names, as it is put in for them.
+#[derive(Drop)]
+struct Standing<'a> {
+    frames: &'a Frames<'a>,
+}
+
+impl<'a> Grafting for Standing<'a> {
+    ghost use Rattle.std.specs.Prelude.{◌≤◌, length};
+    ghost use Rattle.expansion_size.specs.FramesIn.{put_by, past_frames};
+    ghost use Rattle.expansion.specs.FramesStay.{frames_stay};
+
+    ghost graft = { λ s ts. put_by ts s.frames.now };
+
+    ghost fits = { λ s ts. past_frames s.frames.now ≤ length ts };
+
+    fn put(
+        &self,
+        alloc: Global,
+        pool: &mut Pool,
+        x: &Name,
+        _place: Place,
+    ) -> Result<Option<NodeId>, AllocError> {
+        match lookup(self.frames, x) {
+            None => Ok(None),
+            Some(found) => Ok(Some(expression(
+                alloc,
+                pool,
+                found.around,
+                found.argument,
+            )?)),
+        }
+    }
+
+    ghost stays = { λ s old new h k. frames_stay s.frames.now old new h k };
+}
+
+/// A left side, which keeps its place. However many fields and subscripts it has, it goes through them without calling itself.
+///
+/// # Errors
+///
+/// Only for want of memory; the pool may then have more nodes than before.
+pub fn left_side(
+    alloc: Global,
+    pool: &mut Pool,
+    frames: &Frames<'_>,
+    e: NodeId,
+) -> Result<NodeId, AllocError>
+    requires there { e < length pool.old }
+    requires inner { past_frames frames.now ≤ length pool.old }
+    ensures tree { IfOk result (λ r. at pool.new r ≡ graft_left (put_by pool.old frames.now) (at pool.old e)) }
+    ensures within { IfOk result (λ r. r < length pool.new) }
+    ensures kept { Keeps pool.old pool.new }
+{
+    match frames {
+        Frames::Outside => Ok(e),
+        _ => {
+            let place = pool.node(e).place;
+            let standing = Standing { frames: &*frames };
+            let whole = grafted(alloc, pool, e, &standing)?;
+            let Node { form, parts, .. } = pool.node(whole).copied(alloc)?;
+            pool.put(form, place, parts)
+        }
+    }
 }
 
 // One of the left and right sides of a statement.

@@ -9,7 +9,7 @@ use Rattle.pcal_tree.specs.InMemory.{past_number, past_numbers}
 use Rattle.pcal_tree.proofs.InMemoryEach.{all_below_past, past_all_below}
 use Rattle.tla_pool.specs.FormOf.{form_of}
 use Rattle.expansion_size.specs.FramesIn.{put_by}
-use Rattle.expansion.proofs.FramesStay.{outside_same, graft_grown}
+use Rattle.expansion.specs.FramesStay.{outside_same, graft_grown}
 use Rattle.expansion.proofs.TreeLaws.{part_size, parts_size, as_many}
 use Rattle.expansion.proofs.Lists.{put, put_grown, numbers_grow, made_more, made_all, numbers_made}
 use Rattle.expansion.proofs.expressions.+trees.Goals as goal

@@ -50,3 +50,6 @@ module _ (ts us : List Tree) (k : Keeps ts us) where
 -- outside macros an expression is as it was
 pub outside_same : (ts : List Tree) (f : Frames) (t : Tree) → f ≡ Outside → t ≡ graft (put_by ts f) t
 outside_same ts f t h = sym (ap (λ (f : Frames). graft (put_by ts f) t) h ∙ ap (λ (g : Graft). graft g t) (put_outside ts) ∙ graft_none t)
+
+pub frames_stay : (f : Frames) (old new : List Tree) → past_frames f ≤ length old → Keeps old new → (past_frames f ≤ length new) × (put_by new f ≡ put_by old f)
+frames_stay f old new h k = (omega (arith, h, k.longer), put_kept old new k f h)
