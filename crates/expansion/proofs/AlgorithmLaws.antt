@@ -1,5 +1,5 @@
 -- Procedures, processes and algorithms in memory with their macro calls written out, as the pool grows.
-use Rattle.std.proofs.Common.{◌≡◌, ℕ, ◌+◌, ◌<◌, ◌≤◌, List, [], ◌∷◌, ◌++◌, length, map, Vec, Global, sym, ap, ◌∙◌, arith}
+use Rattle.std.proofs.Common.{◌≡◌, ◌≤◌, List, length, map, Vec, Global, sym, ap, ◌∙◌, arith}
 use Rattle.std.proofs.lemmas.Simd.{map-map}
 use Rattle.tla_tree.specs.Tree.{Name, Tree}
 use Rattle.tla_tree.specs.Pool.{Keeps}

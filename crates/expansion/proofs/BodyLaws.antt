@@ -12,9 +12,8 @@ use Rattle.pcal_tree.specs.declared.algorithm.Stmt.TheOpen.{Stmt-F}
 use Rattle.pcal_tree.specs.declared.algorithm.Stmt.TheFolds.{fold-roll-Stmt, ind-Stmt, map-Stmt}
 use Rattle.pcal_tree.specs.declared.algorithm.Stmt.TheViews.{roll-Stmt}
 use Rattle.pcal_tree.specs.declared.algorithm.Macro as code_macro
-use Rattle.pcal_tree.specs.Algorithm.{Span, Binds, branch, either, with, while, macro, Statements, done, then, mark, no_branches, or, Macro}
+use Rattle.pcal_tree.specs.Algorithm.{Span, Binds, branch, either, with, while, macro, Statements, done, then, no_branches, or, Macro}
 use Rattle.pcal_tree.specs.InMemory.{span_of, binds_at, Before, stmt_step, stmt_at, statements_at, branches_at, branches_from, macro_at, past_stmt, past_statements, past_branches, past_macro}
-use Rattle.pcal_tree.specs.Run.{arguments}
 use Rattle.pcal_tree.specs.Expand.{followed_by, graft_binds, graft_all, expand, written_out}
 use Rattle.pcal_tree.specs.OffencesSteps.{called_with}
 use Rattle.pcal_tree.proofs.InMemoryEach.{if_at, either_at, with_at, while_at, past_if, past_either, past_with, past_while, past_one_more}
@@ -169,18 +168,18 @@ module _ (ts us : List Tree) (ms : List code_macro.Macro) (a : Frames) where
   if_made s e t xs ys rs ss is within h k = record {
     within = let past = past_if s t rs ss in omega (arith, past, within, h.within, k.within);
     stand =
-      (λ j. if_at us s t rs ss j done)
-      ∙ (λ j. then (span_of s) (branch (is j) (h.stand j) (k.stand j)) done)
-      ∙ (λ j. graft_all g (expand_first (written_out (newest_first ts ms)) (sym (if_at ts s e xs ys) j done)));
+        (λ j. if_at us s t rs ss j done)
+        ∙ (λ j. then (span_of s) (branch (is j) (h.stand j) (k.stand j)) done)
+        ∙ (λ j. graft_all g (expand_first (written_out (newest_first ts ms)) (sym (if_at ts s e xs ys) j done)));
   }
 
   pub either_made : (s : code_span.Span) (bs rs : Vec (Vec Stmt Global) Global) → StandSome us rs.items (written_some ts ms a bs.items) → Stand us (Either s rs ∷ []) (inside_written ts ms a (Either s bs))
   either_made s bs rs h = record {
     within = let past = past_either s rs in omega (arith, past, h.within);
     stand =
-      (λ j. either_at us s rs j done)
-      ∙ (λ j. then (span_of s) (either (h.stand j)) done)
-      ∙ (λ j. graft_all g (expand_first (written_out (newest_first ts ms)) (sym (either_at ts s bs) j done)));
+        (λ j. either_at us s rs j done)
+        ∙ (λ j. then (span_of s) (either (h.stand j)) done)
+        ∙ (λ j. graft_all g (expand_first (written_out (newest_first ts ms)) (sym (either_at ts s bs) j done)));
   }
 
   pub with_made : (s : code_span.Span) (bs cs : Vec Bind Global) (xs rs : Vec Stmt Global) → StandBinds us cs.items (graft_binds g (binds_at ts bs.items)) → Stand us rs.items (written ts ms a xs.items)
@@ -188,18 +187,18 @@ module _ (ts us : List Tree) (ms : List code_macro.Macro) (a : Frames) where
   with_made s bs cs xs rs b h = record {
     within = let past = past_with s cs rs in omega (arith, past, b.within, h.within);
     stand =
-      (λ j. with_at us s cs rs j done)
-      ∙ (λ j. then (span_of s) (with (b.stand j) (h.stand j)) done)
-      ∙ (λ j. graft_all g (expand_first (written_out (newest_first ts ms)) (sym (with_at ts s bs xs) j done)));
+        (λ j. with_at us s cs rs j done)
+        ∙ (λ j. then (span_of s) (with (b.stand j) (h.stand j)) done)
+        ∙ (λ j. graft_all g (expand_first (written_out (newest_first ts ms)) (sym (with_at ts s bs xs) j done)));
   }
 
   pub while_made : (s : code_span.Span) (e t : ℕ) (xs rs : Vec Stmt Global) → at us t ≡ graft g (at ts e) → t < length us → Stand us rs.items (written ts ms a xs.items) → Stand us (While s t rs ∷ []) (inside_written ts ms a (While s e xs))
   while_made s e t xs rs is within h = record {
     within = let past = past_while s t rs in omega (arith, past, within, h.within);
     stand =
-      (λ j. while_at us s t rs j done)
-      ∙ (λ j. then (span_of s) (while (is j) (h.stand j)) done)
-      ∙ (λ j. graft_all g (expand_first (written_out (newest_first ts ms)) (sym (while_at ts s e xs) j done)));
+        (λ j. while_at us s t rs j done)
+        ∙ (λ j. then (span_of s) (while (is j) (h.stand j)) done)
+        ∙ (λ j. graft_all g (expand_first (written_out (newest_first ts ms)) (sym (while_at ts s e xs) j done)));
   }
 
 -- ---- macro calls

@@ -1,5 +1,5 @@
 -- Lists in memory that are made member by member, as the pool grows.
-use Rattle.std.proofs.Common.{◌≡◌, ℕ, ◌+◌, ◌<◌, ◌≤◌, List, [], ◌∷◌, ◌++◌, length, map, take, get_or, Vec, Global, refl, sym, ap, ◌∙◌, arith}
+use Rattle.std.proofs.Common.{◌≡◌, ℕ, ◌+◌, ◌<◌, ◌≤◌, List, [], ◌∷◌, ◌++◌, length, map, take, get_or, refl, sym, ap, ◌∙◌, arith}
 use Rattle.std.proofs.lemmas.List.{map_push, take_more, take_all}
 use Rattle.tla_tree.specs.Tree.{Tree, tree, Graft, graft, grafts}
 use Rattle.tla_tree.specs.TreeOf.{trees_from}
@@ -8,7 +8,7 @@ use Rattle.tla_tree.specs.Nesting.{greatest}
 use Rattle.pcal_tree.specs.declared.algorithm.Assignment.{Assignment}
 use Rattle.pcal_tree.specs.declared.algorithm.Bind.{Bind}
 use Rattle.pcal_tree.specs.declared.algorithm.Bind.TheVariants as bind
-use Rattle.pcal_tree.specs.Algorithm.{Assignments, no_assignments, assignment, Binds, no_binds, one_of, is}
+use Rattle.pcal_tree.specs.Algorithm.{Assignments, no_assignments, assignment, no_binds, one_of, is}
 use Rattle.pcal_tree.specs.InMemory.{assignments_at, bind_at, binds_at, past_number, past_assignment, past_bind}
 use Rattle.pcal_tree.specs.Expand.{graft_left, graft_assignments, graft_binds}
 use Rattle.pcal_tree.proofs.InMemoryEach.{past_one_more}
@@ -41,11 +41,11 @@ module _ {A B C : Type 0} (past : A → ℕ) (f : List Tree → A → B) (h : C 
   made_more grows ts us k xs zs i z r m here less within same ys e = record {
     within = let past_all = past_one_more past xs r in let all = ap (λ (l : List A). greatest (map past l)) e in omega (arith, all, past_all, m.within, k.longer, within);
     stand =
-      ap (map (f us)) e
-      ∙ map_push (f us) xs r
-      ∙ (λ j. (each_kept ts us k (f us) (f ts) past (grows ts us k) xs m.within ∙ m.stand) j ++ same j ∷ [])
-      ∙ sym (map_push h (take i zs) z)
-      ∙ ap (map h) (sym (take_more zs i z less ∙ ap (λ (y : C). take i zs ++ y ∷ []) (sym here)));
+        ap (map (f us)) e
+        ∙ map_push (f us) xs r
+        ∙ (λ j. (each_kept ts us k (f us) (f ts) past (grows ts us k) xs m.within ∙ m.stand) j ++ same j ∷ [])
+        ∙ sym (map_push h (take i zs) z)
+        ∙ ap (map h) (sym (take_more zs i z less ∙ ap (λ (y : C). take i zs ++ y ∷ []) (sym here)));
   }
 
   -- all members

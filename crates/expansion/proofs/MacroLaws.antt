@@ -1,7 +1,7 @@
 -- The macro that is called, by the macros in memory; and why the calls that go through bodies end.
-use Rattle.std.proofs.Common.{◌≡◌, ℕ, zero, suc, ◌+◌, ◌*◌, ◌<◌, ◌≤◌, List, [], ◌∷◌, ◌++◌, length, map, take, get_or, reverse, Bool, true, false, IsTrue, ◌↔◌, cond, sym, ap, ◌∙◌, arith}
+use Rattle.std.proofs.Common.{◌≡◌, ℕ, ◌+◌, ◌<◌, List, [], ◌∷◌, ◌++◌, length, map, take, get_or, reverse, Bool, true, false, IsTrue, ◌↔◌, cond, sym, ap, ◌∙◌}
 use Rattle.std.proofs.lemmas.List.{take_more, map-append, reverse-append}
-use Rattle.tla_tree.specs.Tree.{Word, Tree, Trees, Graft}
+use Rattle.tla_tree.specs.Tree.{Word, Tree, Trees}
 use Rattle.pcal_tree.specs.declared.algorithm.Macro.{Macro}
 use Rattle.pcal_tree.specs.Algorithm as pure
 use Rattle.pcal_tree.specs.InMemory.{macro_at}

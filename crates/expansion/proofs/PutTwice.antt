@@ -1,10 +1,10 @@
 -- Statements with arguments put in and then other trees, as where a call is in a macro's body; and lists one after another.
-use Rattle.std.proofs.Common.{◌≡◌, List, [], ◌∷◌, refl, sym, ap, ◌∙◌, Option, Some, None}
+use Rattle.std.proofs.Common.{◌≡◌, List, refl, sym, ap, ◌∙◌, Option, Some, None}
 use Rattle.tla_token.specs.declared.place.Place.{Place}
-use Rattle.tla_tree.specs.Tree.{Word, Name, name, Tree, node, Trees, Graft, graft, grafts, grafted_name}
+use Rattle.tla_tree.specs.Tree.{Name, name, Tree, node, Trees, Graft, graft, grafts, grafted_name}
 use Rattle.pcal_tree.specs.Algorithm.{Span, Assignments, no_assignments, assignment, Binds, no_binds, one_of, is, Statement, assign, await, print, assert, skip, branch, either, with, while, goto, macro, call, return, Statements, done, then, mark, Branches, no_branches, or, Macro}
 use Rattle.pcal_tree.specs.Run.{arguments}
-use Rattle.pcal_tree.specs.Expand.{placed_at, graft_left, graft_assignments, graft_binds, graft_one, graft_all, graft_some, followed_by, Writing, expand_one, expand, expand_some, written_out}
+use Rattle.pcal_tree.specs.Expand.{placed_at, graft_left, graft_assignments, graft_binds, graft_one, graft_all, graft_some, followed_by, Writing, expand_one, expand, written_out}
 use Rattle.pcal_tree.specs.OffencesSteps.{called_with, nothing_put}
 use Rattle.pcal_tree.proofs.TargetLaws.{Anywhere}
 use Rattle.expansion_size.proofs.GraftLaws.{graft_called, grafts_called, graft_none, grafts_none}

@@ -14,8 +14,8 @@ ghost use Rattle.macro_expand.specs.TooLarge.{too_large as too_large_by_trees};
 ghost use Rattle.expansion_size.specs.FramesIn.{newest_first};
 ghost use Rattle.expansion.specs.Expanded.{expanded_procedure, expanded_process};
 
-use expansion_size::frames::Frames;
 use crate::bodies::body;
+use expansion_size::frames::Frames;
 use expansion_size::too_large;
 use pcal_tree::algorithm::{
     Algorithm, Declaration, Definition, Macro, Main, Procedure, Process, Start,

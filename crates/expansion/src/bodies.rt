@@ -11,9 +11,9 @@ ghost use Rattle.expansion_size.specs.FramesIn.{newest_first};
 ghost use Rattle.expansion_size.specs.FramesIn.{put_by, past_frames};
 ghost use Rattle.expansion.specs.Written.{expand_first, inside_written, written, written_some, Stand, StandSome};
 
-use expansion_size::frames::Frames;
 use crate::expressions::{binds, expression, simple};
 use crate::macros::newest;
+use expansion_size::frames::Frames;
 use pcal_tree::algorithm::{Macro, Simple, Span, Stmt};
 use std::alloc::{AllocError, Global};
 use tla_pool::Pool;

@@ -114,12 +114,7 @@ impl<'a> Grafting for Standing<'a> {
     ) -> Result<Option<NodeId>, AllocError> {
         match lookup(self.frames, x) {
             None => Ok(None),
-            Some(found) => Ok(Some(expression(
-                alloc,
-                pool,
-                found.around,
-                found.argument,
-            )?)),
+            Some(found) => Ok(Some(expression(alloc, pool, found.around, found.argument)?)),
         }
     }
 
@@ -194,12 +189,7 @@ fn assignments(
 }
 
 // What a `with` names once.
-fn bind(
-    alloc: Global,
-    pool: &mut Pool,
-    frames: &Frames<'_>,
-    one: &Bind,
-) -> Result<Bind, AllocError>
+fn bind(alloc: Global, pool: &mut Pool, frames: &Frames<'_>, one: &Bind) -> Result<Bind, AllocError>
     requires there { past_bind one.now ≤ length pool.old }
     requires inner { past_frames frames.now ≤ length pool.old }
     ensures made { IfOk result (λ r. bind_at pool.new r ≡ bind_put (put_by pool.old frames.now) pool.old one.now) }

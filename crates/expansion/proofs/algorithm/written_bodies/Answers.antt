@@ -1,9 +1,8 @@
 -- Proves that procedures and what runs are of the expansion.
-use Rattle.std.proofs.Common.{List, length, map, ap, subst, ◌∙◌, arith}
-use Rattle.tla_tree.specs.Nesting.{greatest}
+use Rattle.std.proofs.Common.{List, map, ap, ◌∙◌, arith}
 use Rattle.pcal_tree.specs.declared.algorithm.Macro.{Macro}
 use Rattle.pcal_tree.specs.Expand.{expanded}
-use Rattle.pcal_tree.specs.InMemory.{procedure_at, main_at, past_macro}
+use Rattle.pcal_tree.specs.InMemory.{procedure_at, main_at}
 use Rattle.macro_expand.specs.Size.{expanded_main}
 use Rattle.expansion_size.specs.FramesIn.{newest_first}
 use Rattle.expansion.specs.Expanded.{expanded_procedure}

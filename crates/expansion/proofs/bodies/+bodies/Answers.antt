@@ -1,14 +1,14 @@
 -- Proves what is asked of the functions that go through statements.
-use Rattle.std.proofs.Common.{◌≡◌, List, [], ◌∷◌, length, take, OnOk, Vec, Global, sym, ap, subst, ◌∙◌, arith}
-use Rattle.tla_tree.specs.Pool.{at, trees_at}
+use Rattle.std.proofs.Common.{List, [], ◌∷◌, take, OnOk, Vec, Global, sym, ap, subst, ◌∙◌, arith}
+use Rattle.tla_tree.specs.Pool.{trees_at}
 use Rattle.tla_tree.proofs.PoolNumbers.{Keeps-then, past_at}
 use Rattle.pcal_tree.specs.declared.algorithm.Bind.{Bind}
 use Rattle.pcal_tree.specs.declared.algorithm.Stmt.{Stmt}
 use Rattle.pcal_tree.specs.Algorithm.{Statements, done}
-use Rattle.pcal_tree.specs.InMemory.{span_of, binds_at, past_stmt, past_statements, past_branches, past_macro, past_binds}
+use Rattle.pcal_tree.specs.InMemory.{span_of, binds_at, past_stmt, past_statements, past_branches, past_macro}
 use Rattle.pcal_tree.specs.Expand.{followed_by, graft_binds, graft_all, written_out}
 use Rattle.pcal_tree.proofs.InMemoryEach.{past_if, past_either, past_with, past_while}
-use Rattle.pcal_tree.proofs.StatementHeights.{height, heights, branch_heights, if_height, either_height, with_height, while_height}
+use Rattle.pcal_tree.proofs.StatementHeights.{height, heights, branch_heights, either_height}
 use Rattle.expansion_size.specs.FramesIn.{newest_first}
 use Rattle.expansion_size.proofs.MacroLaws.{less_work, fewer_past}
 use Rattle.expansion_size.specs.FramesIn.{put_by}
@@ -41,9 +41,9 @@ branches-loop-i-preserved t c =
     let kept = c.loop-i.invariant.0 in (
       Keeps-then _ _ _ kept said.kept,
       made_more past_branch branch_at (branch_put ms a old) branches_grow c.loop-i.pool c.body.new.pool said.kept c.loop-i.rows.items c.args.list.now c.loop-i.i c.index-list-i.result c.in_ok-body.field-0
-        c.loop-i.invariant.1 c.index-list-i.is c.loop-i-test.true said.made.within
-        (said.made.stand ∙ ap (written c.loop-i.pool ms a) c.deref.ensures.value ∙ written_kept old c.loop-i.pool kept ms c.requires.called a c.requires.inner c.index-list-i.result.items (omega (arith, past, c.requires.there)))
-        c.push.new.self.items c.in_ok-push.ensures.items,
+          c.loop-i.invariant.1 c.index-list-i.is c.loop-i-test.true said.made.within
+          (said.made.stand ∙ ap (written c.loop-i.pool ms a) c.deref.ensures.value ∙ written_kept old c.loop-i.pool kept ms c.requires.called a c.requires.inner c.index-list-i.result.items (omega (arith, past, c.requires.there)))
+          c.push.new.self.items c.in_ok-push.ensures.items,
     )
 
 pub branches-returns-clause-made : goal.branches-returns-clause-made

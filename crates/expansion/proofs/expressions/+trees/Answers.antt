@@ -1,7 +1,7 @@
 -- Proves what is asked of the functions that go through an expression.
-use Rattle.std.proofs.Common.{ℕ, ◌+◌, ◌≤◌, List, slice_index_or, length, sym, ap, subst, ◌∙◌, arith}
+use Rattle.std.proofs.Common.{ℕ, ◌≤◌, List, slice_index_or, length, sym, ap, subst, ◌∙◌, arith}
 use Rattle.std.proofs.lemmas.List.{get_or_default}
-use Rattle.tla_tree.specs.Tree.{graft, grafts, size, sizes}
+use Rattle.tla_tree.specs.Tree.{grafts, size, sizes}
 use Rattle.tla_tree.specs.Shapes.{Shaped}
 use Rattle.tla_tree.specs.Pool.{Entry, at, trees_at}
 use Rattle.tla_tree.proofs.PoolNumbers.{Keeps-then, AllBelow-more, past_at}
@@ -39,8 +39,8 @@ expressions-loop-i-preserved t c =
     let kept = c.loop-i.invariant.0 in (
       Keeps-then _ _ _ kept said.kept,
       made_more past_number at (put (put_by old c.args.frames.now) old) numbers_grow c.loop-i.pool c.expression.new.pool said.kept c.loop-i.made.items c.args.list.now c.loop-i.i e c.in_ok-expression.field-0
-        c.loop-i.invariant.1 here c.loop-i-test.true (omega (arith, said.within))
-        (said.tree ∙ put_grown old c.loop-i.pool kept c.args.frames.now c.requires.inner e (omega (arith, past, c.requires.there))) c.push.new.self.items c.in_ok-push.ensures.items,
+          c.loop-i.invariant.1 here c.loop-i-test.true (omega (arith, said.within))
+          (said.tree ∙ put_grown old c.loop-i.pool kept c.args.frames.now c.requires.inner e (omega (arith, past, c.requires.there))) c.push.new.self.items c.in_ok-push.ensures.items,
     )
 
 pub expressions-returns-clause-made : goal.expressions-returns-clause-made

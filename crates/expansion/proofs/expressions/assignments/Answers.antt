@@ -28,8 +28,8 @@ loop-one-preserved c =
     let kept = c.loop-one.invariant.0 in (
       Keeps-then _ _ _ kept said.kept,
       made_more past_assignment assignment_at (assignment_put (put_by old c.args.frames.now) old) assignments_grow c.loop-one.pool c.assignment.new.pool said.kept c.loop-one.made.items c.args.list.now c.loop-one.one-index o
-        c.in_ok-assignment.field-0 c.loop-one.invariant.1 here c.loop-one-test.true said.within
-        ((λ j. assignment (said.left j) (said.right j)) ∙ assignment_grown old c.loop-one.pool kept c.args.frames.now c.requires.inner o (omega (arith, past, c.requires.there))) c.push.new.self.items c.in_ok-push.ensures.items,
+          c.in_ok-assignment.field-0 c.loop-one.invariant.1 here c.loop-one-test.true said.within
+          ((λ j. assignment (said.left j) (said.right j)) ∙ assignment_grown old c.loop-one.pool kept c.args.frames.now c.requires.inner o (omega (arith, past, c.requires.there))) c.push.new.self.items c.in_ok-push.ensures.items,
     )
 
 pub returns-clause-made : goal.returns-clause-made

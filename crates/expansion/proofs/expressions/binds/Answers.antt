@@ -19,8 +19,8 @@ loop-one-preserved c =
     let kept = c.loop-one.invariant.0 in (
       Keeps-then _ _ _ kept said.kept,
       made_more past_bind bind_at (bind_put (put_by old c.args.frames.now) old) binds_grow c.loop-one.pool c.bind.new.pool said.kept c.loop-one.made.items c.args.list.now c.loop-one.one-index c.one-item.result c.in_ok-bind.field-0
-        c.loop-one.invariant.1 c.one-item.is c.loop-one-test.true said.within
-        (said.made ∙ bind_grown old c.loop-one.pool kept c.args.frames.now c.requires.inner c.one-item.result (omega (arith, past, c.requires.there))) c.push.new.self.items c.in_ok-push.ensures.items,
+          c.loop-one.invariant.1 c.one-item.is c.loop-one-test.true said.within
+          (said.made ∙ bind_grown old c.loop-one.pool kept c.args.frames.now c.requires.inner c.one-item.result (omega (arith, past, c.requires.there))) c.push.new.self.items c.in_ok-push.ensures.items,
     )
 
 pub returns-clause-made : goal.returns-clause-made
