@@ -18,10 +18,9 @@ use Rattle.pcal_tree.specs.Expand.{followed_by, graft_binds, graft_all, expand, 
 use Rattle.pcal_tree.specs.OffencesSteps.{called_with}
 use Rattle.pcal_tree.proofs.InMemoryEach.{if_at, either_at, with_at, while_at, past_if, past_either, past_with, past_while, past_one_more}
 use Rattle.pcal_tree.proofs.InMemoryGrown.{binds_at-kept, statements_at-kept, each_kept}
-use Rattle.expansion_size.specs.FramesIn.{newest_first}
+use Rattle.expansion_size.specs.FramesIn.{newest_first, put_by, past_frames}
 use Rattle.expansion_size.specs.declared.frames.Frames.{Frames}
 use Rattle.expansion_size.specs.declared.frames.Frames.TheVariants.{Called}
-use Rattle.expansion_size.specs.FramesIn.{put_by, past_frames}
 use Rattle.expansion.specs.FramesStay.{put_anywhere, put_kept}
 use Rattle.expansion.specs.Expressions.{StandBinds}
 use Rattle.expansion.specs.Written.{put_out, expand_first, written, written_some, inside_written, body_written, Stand, StandSome}

@@ -1,4 +1,4 @@
--- What is written for statements in a macro's body, or outside: their macro calls written out, with trees put in for names; and what statements in memory stand for.
+-- What is written for statements in a macro's body, or outside, with their macro calls written out; and what statements in memory stand for.
 use Rattle.std.specs.Prelude.{◌≡◌, ◌≤◌, List, Vec, length}
 use Rattle.std.specs.declared.alloc.Global.{Global}
 use Rattle.tla_tree.specs.Tree.{Tree, Trees, Graft}

@@ -7,12 +7,12 @@ ghost use Rattle.tla_tree.specs.Nesting.{greatest};
 ghost use Rattle.pcal_tree.specs.Algorithm as pure;
 ghost use Rattle.pcal_tree.specs.Expand.{Writing, graft_all, followed_by, expand, written_out};
 ghost use Rattle.pcal_tree.specs.InMemory.{span_of, stmt_at, past_numbers, past_stmt, past_statements, past_branches, past_macro};
-ghost use Rattle.expansion_size.specs.FramesIn.{newest_first};
-ghost use Rattle.expansion_size.specs.FramesIn.{put_by, past_frames};
+ghost use Rattle.expansion_size.specs.FramesIn.{put_by, past_frames, newest_first};
 ghost use Rattle.expansion.specs.Written.{expand_first, inside_written, written, written_some, Stand, StandSome};
 
-use crate::expressions::{binds, expression, simple};
+use crate::expressions::expression;
 use crate::macros::newest;
+use crate::parts::{binds, simple};
 use expansion_size::frames::Frames;
 use pcal_tree::algorithm::{Macro, Simple, Span, Stmt};
 use std::alloc::{AllocError, Global};

@@ -5,5 +5,6 @@ pub mod algorithm;
 pub mod bodies;
 pub mod expressions;
 pub mod macros;
+pub mod parts;
 
 pub use algorithm::expand;

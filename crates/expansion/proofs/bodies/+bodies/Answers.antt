@@ -9,9 +9,8 @@ use Rattle.pcal_tree.specs.InMemory.{span_of, binds_at, past_stmt, past_statemen
 use Rattle.pcal_tree.specs.Expand.{followed_by, graft_binds, graft_all, written_out}
 use Rattle.pcal_tree.proofs.InMemoryEach.{past_if, past_either, past_with, past_while}
 use Rattle.pcal_tree.proofs.StatementHeights.{height, heights, branch_heights, either_height}
-use Rattle.expansion_size.specs.FramesIn.{newest_first}
+use Rattle.expansion_size.specs.FramesIn.{newest_first, put_by}
 use Rattle.expansion_size.proofs.MacroLaws.{less_work, fewer_past}
-use Rattle.expansion_size.specs.FramesIn.{put_by}
 use Rattle.expansion.specs.Expressions.{StandBinds}
 use Rattle.expansion.specs.Written.{written, written_some, Stand, StandSome}
 use Rattle.expansion_size.proofs.FrameLaws.{past_called}

@@ -5,7 +5,7 @@ use Rattle.pcal_tree.specs.InMemory.{bind_at, past_bind}
 use Rattle.expansion_size.specs.FramesIn.{put_by}
 use Rattle.expansion.specs.Expressions.{bind_put}
 use Rattle.expansion.proofs.Lists.{bind_grown, binds_grow, made_more, made_all, binds_made}
-use Rattle.expansion.proofs.expressions.binds.Goals as goal
+use Rattle.expansion.proofs.parts.binds.Goals as goal
 
 pub bind-requires-clause-there : goal.bind-requires-clause-there
 bind-requires-clause-there c =

@@ -8,7 +8,7 @@ use Rattle.pcal_tree.specs.InMemory.{past_assignment}
 use Rattle.expansion_size.specs.FramesIn.{put_by}
 use Rattle.expansion.specs.Expressions.{assignment_put}
 use Rattle.expansion.proofs.Lists.{assignment_at, assignment_grown, assignments_grow, made_more, made_all, assignments_made}
-use Rattle.expansion.proofs.expressions.assignments.Goals as goal
+use Rattle.expansion.proofs.parts.assignments.Goals as goal
 
 pub assignment-requires-clause-there : goal.assignment-requires-clause-there
 assignment-requires-clause-there c =
