@@ -270,6 +270,7 @@ pub fn expand(alloc: Global, pool: &mut Pool, algorithm: &Algorithm) -> Result<A
     ensures within { IfOk result (λ r. past_algorithm r ≤ length pool.new) }
     ensures kept { Keeps pool.old pool.new }
     ensures fine { IfOk result (λ r. first (too_large_by_trees (algorithm_at pool.old algorithm.now)) ≡ None) }
+    ensures same { (r : code_refusal.Refusal) → result ≡ Err (stop.Refused r) → pool.new ≡ pool.old }
     ensures refused { (r : code_refusal.Refusal) → (result ≡ Err (stop.Refused r)) ↔ (first (too_large_by_trees (algorithm_at pool.old algorithm.now)) ≡ Some r) }
 {
     match too_large(pool, algorithm) {
