@@ -28,13 +28,6 @@ abbrev pub Grows : {A B : Type 0} → (A → ℕ) → (List Tree → A → B) �
 Grows past f = (ts us : List Tree) → Keeps ts us → (a : _) → past a ≤ length ts → f us a ≡ f ts a
 
 module _ {A B C : Type 0} (past : A → ℕ) (f : List Tree → A → B) (h : C → B) where
-  pub made_none : (ts : List Tree) (zs : List C) → MadeOf past f h ts [] (take 0 zs)
-  made_none ts zs = record { within = omega arith; stand = ap (map h) (sym (none zs)) }
-    where
-      none : (zs : List C) → take 0 zs ≡ []
-      none [] = refl
-      none (z ∷ zs) = refl
-
   -- one member more
   pub made_more : Grows past f → (ts us : List Tree) → Keeps ts us → (xs : List A) (zs : List C) (i : ℕ) (z : C) (r : A) → MadeOf past f h ts xs (take i zs) → z ≡ get_or zs i z → i < length zs → past r ≤ length us → f us r ≡ h z
       → (ys : List A) → ys ≡ xs ++ r ∷ [] → MadeOf past f h us ys (take (i + 1) zs)
