@@ -1,0 +1,11 @@
+-- What is kept: those that were passed are made.
+use Rattle.std.proofs.Common.{take}
+use Rattle.tla_tree.specs.Pool.{Keeps}
+use Rattle.pcal_tree.specs.InMemory.{bind_at, past_bind}
+use Rattle.expansion_size.specs.FramesIn.{put_by}
+use Rattle.expansion.specs.Expressions.{bind_put}
+use Rattle.expansion.proofs.Lists.{MadeOf}
+use Rattle.expansion.proofs.parts.binds.Given as goal
+
+abbrev pub invariant-loop-one : goal.invariant-loop-one
+invariant-loop-one l = Keeps l.fn.pool l.pool × MadeOf past_bind bind_at (bind_put (put_by l.fn.pool l.frames) l.fn.pool) l.pool l.made.items (take l.one-index l.list)

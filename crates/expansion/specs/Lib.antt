@@ -1,0 +1,5 @@
+-- What algorithms are with their macro calls written out, in memory.
+pub mod FramesStay
+pub mod Expressions
+pub mod Written
+pub mod Expanded
