@@ -1,0 +1,2 @@
+//! Labels that are added where they are missing.
+#![tactic(auto)]
