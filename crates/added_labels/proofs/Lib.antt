@@ -1,2 +1,4 @@
 -- Lemmas of this crate.
 pub mod PlacedLaws
+pub mod NameLaws
+pub mod PlaceLaws

@@ -1,2 +1,5 @@
 //! Labels that are added where they are missing.
 #![tactic(auto)]
+
+pub mod names;
+pub mod place;
