@@ -7,3 +7,4 @@ pub mod PathLaws
 pub mod SideLaws
 pub mod PutLaws
 pub mod KnownLaws
+pub mod AroundLaws

@@ -8,3 +8,4 @@ pub mod PathsIn
 pub mod SidesIn
 pub mod PutIn
 pub mod KnownIn
+pub mod AroundIn

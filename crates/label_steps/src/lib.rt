@@ -1,6 +1,7 @@
 //! Labels that are missing in an algorithm, and variables that are assigned twice in a step: where an algorithm is refused by them.
 #![tactic(auto)]
 
+pub mod around;
 pub mod due;
 pub mod known;
 pub mod laws;
