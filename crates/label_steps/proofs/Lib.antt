@@ -8,3 +8,4 @@ pub mod SideLaws
 pub mod PutLaws
 pub mod KnownLaws
 pub mod AroundLaws
+pub mod WalksLaws

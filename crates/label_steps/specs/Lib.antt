@@ -9,3 +9,4 @@ pub mod SidesIn
 pub mod PutIn
 pub mod KnownIn
 pub mod AroundIn
+pub mod WalksIn

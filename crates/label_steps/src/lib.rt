@@ -8,5 +8,6 @@ pub mod laws;
 pub mod path;
 pub mod put;
 pub mod sides;
+pub mod walk;
 
 pub use due::due_refusal;
