@@ -7,3 +7,5 @@ pub mod PathLaws
 pub mod SideLaws
 pub mod PutLaws
 pub mod KnownLaws
+pub mod AroundLaws
+pub mod WalksLaws

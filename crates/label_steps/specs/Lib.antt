@@ -8,3 +8,5 @@ pub mod PathsIn
 pub mod SidesIn
 pub mod PutIn
 pub mod KnownIn
+pub mod AroundIn
+pub mod WalksIn

@@ -69,8 +69,8 @@ fn pairs(simple: &Simple) -> bool
     matches!(simple, Simple::Goto(_) | Simple::Return)
 }
 
-// Whether a statement with none in it is a jump.
-fn jumps(simple: &Simple) -> bool
+/// Whether a statement with none in it is a jump.
+pub fn jumps(simple: &Simple) -> bool
     ensures { (ts : List Tree) → result ≡ holds_one (simple_at ts simple.now) }
 {
     matches!(

@@ -22,8 +22,8 @@ pub struct Known {
     pub summaries: Vec<Summary>,
 }
 
-// Nothing is assigned.
-fn nothing(alloc: Global) -> Step
+/// Nothing is assigned.
+pub fn nothing(alloc: Global) -> Step
     ensures names { result.names.items ≡ [] }
     ensures twice { result.twice ≡ false }
 {

@@ -1,11 +1,13 @@
 //! Labels that are missing in an algorithm, and variables that are assigned twice in a step: where an algorithm is refused by them.
 #![tactic(auto)]
 
+pub mod around;
 pub mod due;
 pub mod known;
 pub mod laws;
 pub mod path;
 pub mod put;
 pub mod sides;
+pub mod walk;
 
 pub use due::due_refusal;

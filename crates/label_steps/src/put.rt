@@ -44,9 +44,9 @@ pub struct Summary {
     pub pairs: Vec<Pair>,
 }
 
-// Whether the two are the same name.
+/// Whether the two are the same name.
 #[tactic(auto, using(algorithm_limits::proofs::Tables::same_test))]
-fn same(a: &Name, b: &Name) -> bool
+pub fn same(a: &Name, b: &Name) -> bool
     ensures { result ≡ bytes_eq a.now b.now }
 {
     b == a

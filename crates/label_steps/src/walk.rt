@@ -1,0 +1,231 @@
+//! The walk over what is assigned: the first variable that is assigned twice on a path.
+
+ghost use Rattle.std.specs.Prelude.{◌≡◌, ◌≤◌, ◌+◌, ◌||◌, List, length, drop, IfOk, OnOk};
+ghost use Rattle.tla_tree.specs.Tree.{Tree};
+ghost use Rattle.pcal_tree.specs.Algorithm.{Span as PureSpan, Statement, Statements, then, mark, Name as PureName};
+ghost use Rattle.pcal_tree.specs.declared.mark.Mark.{Mark};
+ghost use Rattle.pcal_tree.specs.InMemory.{simple_at, stmt_at, statements_at, branches_at, past_simple, past_stmt, past_statements, past_branches};
+ghost use Rattle.pcal_tree.specs.Offences.{offence_if, first};
+ghost use Rattle.pcal_tree.specs.Run.{is_return, partner_of};
+ghost use Rattle.tla_token.specs.declared.rule.Rule.TheVariants.{AssignTwice};
+ghost use Rattle.algorithm_answer.specs.Joined.{joined};
+ghost use Rattle.pcal_tree.specs.Paths.{has_assigned};
+ghost use Rattle.label_steps.specs.PathsIn.{Behind, path_of};
+ghost use Rattle.label_steps.specs.WalksIn.{IsKind, PassesOne, PassesAll, PassesBehind, PassesArm, PassesArms, Restarts};
+
+use crate::around::Around;
+use crate::due::jumps;
+use crate::path::Path;
+use crate::sides::Step;
+use algorithm_limits::order::or_offence;
+use pcal_tree::algorithm::{Simple, Stmt};
+use std::alloc::{AllocError, Global};
+use tla_pool::Pool;
+use tla_token::{Place, Refusal, Rule};
+
+/// What was met in statements.
+#[derive(Drop)]
+pub struct Met {
+    /// The first variable that is assigned twice.
+    pub first: Option<Refusal>,
+}
+
+// Whether it is a label.
+fn is_label(stmt: &Stmt) -> bool
+    ensures { (ts : List Tree) → IsKind result ts stmt.now }
+{
+    match stmt {
+        Stmt::Label(_, _) => true,
+        Stmt::Simple(_, _) => false,
+        Stmt::If(_, _, _, _) => false,
+        Stmt::Either(_, _) => false,
+        Stmt::With(_, _, _) => false,
+        Stmt::While(_, _, _) => false,
+    }
+}
+
+// Whether it is a `return`.
+fn is_return(stmt: &Stmt) -> bool
+    ensures { (ts : List Tree) (rest : Statements) → result ≡ is_return (partner_of (stmt_at ts stmt.now rest)) }
+{
+    match stmt {
+        Stmt::Simple(_, Simple::Return) => true,
+        _ => false,
+    }
+}
+
+/// Whether a `return` comes directly behind the statement of this number.
+pub fn returns_behind(stmts: &[Stmt], i: usize) -> bool
+    ensures { (ts : List Tree) → result ≡ is_return (partner_of (statements_at ts (drop (i + 1) stmts.now))) }
+{
+    if i >= stmts.len() {
+        return false;
+    }
+    if i + 1 >= stmts.len() {
+        return false;
+    }
+    is_return(&stmts[i + 1])
+}
+
+impl Met {
+    // A statement at this place, to which this path leads, and which assigns so.
+    fn meet(&mut self, path: &Path, place: Place, step: &Step)
+        ensures { self.new.first ≡ joined self.old.first (first (offence_if (step.now.twice || has_assigned (path_of path.now) step.now.names.items) AssignTwice place)) }
+    {
+        self.first = or_offence(self.first, path.meets(step), Rule::AssignTwice, place);
+    }
+}
+
+impl Around {
+    // A statement with none in it; true where a `return` comes directly behind it.
+    fn simple(
+        &self,
+        alloc: Global,
+        pool: &Pool,
+        path: &mut Path,
+        met: &mut Met,
+        returns: bool,
+        place: Place,
+        simple: &Simple,
+    ) -> Result<(), AllocError>
+        requires { past_simple simple.now ≤ length pool.now }
+        ensures kept { OnOk result (Behind path.old.names.keys path.new.names.keys) }
+        ensures passed { OnOk result ((at : PureSpan) → place ≡ at.first → PassesOne self.now returns at (simple_at pool.now simple.now) path.old path.new met.old met.new) }
+    {
+        let step = self.step(alloc, pool, returns, simple)?;
+        met.meet(path, place, &step);
+        path.pass(&step, jumps(simple))
+    }
+
+    // A label, from which a path begins anew, or a statement; true where a `return` comes directly behind it.
+    #[cycle(walk)]
+    fn past(
+        &self,
+        alloc: Global,
+        pool: &Pool,
+        path: &mut Path,
+        met: &mut Met,
+        returns: bool,
+        stmt: &Stmt,
+    ) -> Result<(), AllocError>
+        requires { past_stmt stmt.now ≤ length pool.now }
+        ensures kept { OnOk result ((at : PureSpan) (st : Statement) → stmt_at pool.now stmt.now ≡ then at st → Behind path.old.names.keys path.new.names.keys) }
+        ensures anew { OnOk result ((x : PureName) (k : Mark) → stmt_at pool.now stmt.now ≡ mark x k → Restarts path.new met.old met.new) }
+        ensures passed { OnOk result ((at : PureSpan) (st : Statement) → stmt_at pool.now stmt.now ≡ then at st → PassesOne self.now returns at st path.old path.new met.old met.new) }
+    {
+        match stmt {
+            Stmt::Label(_, _) => {
+                *path = Path::new(alloc);
+                Ok(())
+            }
+            Stmt::Simple(span, simple) => {
+                self.simple(alloc, pool, path, met, returns, span.first, simple)
+            }
+            Stmt::If(_, _, then, otherwise) => {
+                let first = self.arm(alloc, pool, path, met, None, then)?;
+                let second = self.arm(alloc, pool, path, met, first, otherwise)?;
+                path.close(second)
+            }
+            Stmt::Either(_, list) => {
+                let ends = self.arms(alloc, pool, path, met, list)?;
+                path.close(ends)
+            }
+            Stmt::With(_, _, body) => self.list(alloc, pool, path, met, body),
+            Stmt::While(_, _, body) => {
+                self.arm(alloc, pool, path, met, None, body)?;
+                Ok(())
+            }
+        }
+    }
+
+    // A branch, behind others that ended so; the path is then as at its beginning.
+    #[cycle(walk)]
+    fn arm(
+        &self,
+        alloc: Global,
+        pool: &Pool,
+        path: &mut Path,
+        met: &mut Met,
+        before: Option<Path>,
+        stmts: &[Stmt],
+    ) -> Result<Option<Path>, AllocError>
+        requires { past_statements stmts.now ≤ length pool.now }
+        ensures names { OnOk result (path.new.names.keys ≡ path.old.names.keys) }
+        ensures reached { OnOk result (path.new.reached ≡ path.old.reached) }
+        ensures passed { IfOk result (λ r. PassesArm self.now (statements_at pool.now stmts.now) path.old before r met.old met.new) }
+    {
+        let start = path.names.len();
+        let reached = path.reached;
+        self.list(alloc, pool, path, met, stmts)?;
+        let ends = path.leave(start, before)?;
+        path.reached = reached;
+        Ok(ends)
+    }
+
+    // All branches of a statement; the path is then as at their beginning.
+    #[cycle(walk)]
+    fn arms(
+        &self,
+        alloc: Global,
+        pool: &Pool,
+        path: &mut Path,
+        met: &mut Met,
+        list: &[Vec<Stmt>],
+    ) -> Result<Option<Path>, AllocError>
+        requires { past_branches list.now ≤ length pool.now }
+        ensures names { OnOk result (path.new.names.keys ≡ path.old.names.keys) }
+        ensures reached { OnOk result (path.new.reached ≡ path.old.reached) }
+        ensures passed { IfOk result (λ r. PassesArms self.now (branches_at pool.now list.now) path.old r met.old met.new) }
+    {
+        let mut ends = None;
+        for i in 0..list.len() {
+            ends = self.arm(alloc, pool, path, met, ends, &list[i])?;
+        }
+        Ok(ends)
+    }
+
+    // A list of statements, from a label on, which has this number in it.
+    #[cycle(walk)]
+    fn behind(
+        &self,
+        alloc: Global,
+        pool: &Pool,
+        met: &mut Met,
+        start: usize,
+        stmts: &[Stmt],
+    ) -> Result<(), AllocError>
+        requires { past_statements stmts.now ≤ length pool.now }
+        ensures { OnOk result (PassesBehind self.now (statements_at pool.now (drop start stmts.now)) met.old met.new) }
+    {
+        let mut path = Path::new(alloc);
+        for i in start..stmts.len() {
+            let returns = returns_behind(stmts, i);
+            self.past(alloc, pool, &mut path, met, returns, &stmts[i])?;
+        }
+        Ok(())
+    }
+
+    // A list of statements; the path is then that behind those before its first label.
+    #[cycle(walk)]
+    fn list(
+        &self,
+        alloc: Global,
+        pool: &Pool,
+        path: &mut Path,
+        met: &mut Met,
+        stmts: &[Stmt],
+    ) -> Result<(), AllocError>
+        requires { past_statements stmts.now ≤ length pool.now }
+        ensures kept { OnOk result (Behind path.old.names.keys path.new.names.keys) }
+        ensures passed { OnOk result (PassesAll self.now (statements_at pool.now stmts.now) path.old path.new met.old met.new) }
+    {
+        for i in 0..stmts.len() {
+            if is_label(&stmts[i]) {
+                return self.behind(alloc, pool, met, i, stmts);
+            }
+            let returns = returns_behind(stmts, i);
+            self.past(alloc, pool, path, met, returns, &stmts[i])?;
+        }
+        Ok(())
+    }
+}
