@@ -76,8 +76,3 @@ PassesArm a b old before ends m n =
 -- all of a statement's branches were
 abbrev pub PassesArms : Around → Branches → Path → Option Path → Met → Met → Type 0
 PassesArms a bs old ends m n = OnPaths a old (λ ms E p. EndsSo a ms old (straight_some E bs p) ends m n (straight_in_some E p bs))
-
--- a path began anew, and nothing was met
-pub record Restarts (new : Path) (m n : Met) : Type 0 where
-  pub path : Alike (Some []) (path_of new)
-  pub met : n ≡ m

@@ -2,8 +2,7 @@
 
 ghost use Rattle.std.specs.Prelude.{◌≡◌, ◌≤◌, ◌+◌, ◌||◌, List, length, drop, IfOk, OnOk};
 ghost use Rattle.tla_tree.specs.Tree.{Tree};
-ghost use Rattle.pcal_tree.specs.Algorithm.{Span as PureSpan, Statement, Statements, then, mark, Name as PureName};
-ghost use Rattle.pcal_tree.specs.declared.mark.Mark.{Mark};
+ghost use Rattle.pcal_tree.specs.Algorithm.{Span as PureSpan, Statement, Statements, then};
 ghost use Rattle.pcal_tree.specs.InMemory.{simple_at, stmt_at, statements_at, branches_at, past_simple, past_stmt, past_statements, past_branches};
 ghost use Rattle.pcal_tree.specs.Offences.{offence_if, first};
 ghost use Rattle.pcal_tree.specs.Run.{is_return, partner_of};
@@ -11,7 +10,7 @@ ghost use Rattle.tla_token.specs.declared.rule.Rule.TheVariants.{AssignTwice};
 ghost use Rattle.algorithm_answer.specs.Joined.{joined};
 ghost use Rattle.pcal_tree.specs.Paths.{has_assigned};
 ghost use Rattle.label_steps.specs.PathsIn.{Behind, path_of};
-ghost use Rattle.label_steps.specs.WalksIn.{IsKind, PassesOne, PassesAll, PassesBehind, PassesArm, PassesArms, Restarts};
+ghost use Rattle.label_steps.specs.WalksIn.{IsKind, PassesOne, PassesAll, PassesBehind, PassesArm, PassesArms};
 
 use crate::around::Around;
 use crate::due::jumps;
@@ -97,7 +96,7 @@ impl Around {
         path.pass(&step, jumps(simple))
     }
 
-    // A label, from which a path begins anew, or a statement; true where a `return` comes directly behind it.
+    // A statement, and no label; true where a `return` comes directly behind it.
     #[cycle(walk)]
     fn past(
         &self,
@@ -110,14 +109,10 @@ impl Around {
     ) -> Result<(), AllocError>
         requires { past_stmt stmt.now ≤ length pool.now }
         ensures kept { OnOk result ((at : PureSpan) (st : Statement) → stmt_at pool.now stmt.now ≡ then at st → Behind path.old.names.keys path.new.names.keys) }
-        ensures anew { OnOk result ((x : PureName) (k : Mark) → stmt_at pool.now stmt.now ≡ mark x k → Restarts path.new met.old met.new) }
         ensures passed { OnOk result ((at : PureSpan) (st : Statement) → stmt_at pool.now stmt.now ≡ then at st → PassesOne self.now returns at st path.old path.new met.old met.new) }
     {
         match stmt {
-            Stmt::Label(_, _) => {
-                *path = Path::new(alloc);
-                Ok(())
-            }
+            Stmt::Label(_, _) => Ok(()),
             Stmt::Simple(span, simple) => {
                 self.simple(alloc, pool, path, met, returns, span.first, simple)
             }
@@ -199,8 +194,13 @@ impl Around {
     {
         let mut path = Path::new(alloc);
         for i in start..stmts.len() {
+            let stmt = &stmts[i];
+            if is_label(stmt) {
+                path = Path::new(alloc);
+                continue;
+            }
             let returns = returns_behind(stmts, i);
-            self.past(alloc, pool, &mut path, met, returns, &stmts[i])?;
+            self.past(alloc, pool, &mut path, met, returns, stmt)?;
         }
         Ok(())
     }
@@ -220,11 +220,12 @@ impl Around {
         ensures passed { OnOk result (PassesAll self.now (statements_at pool.now stmts.now) path.old path.new met.old met.new) }
     {
         for i in 0..stmts.len() {
-            if is_label(&stmts[i]) {
+            let stmt = &stmts[i];
+            if is_label(stmt) {
                 return self.behind(alloc, pool, met, i, stmts);
             }
             let returns = returns_behind(stmts, i);
-            self.past(alloc, pool, path, met, returns, &stmts[i])?;
+            self.past(alloc, pool, path, met, returns, stmt)?;
         }
         Ok(())
     }
