@@ -2,3 +2,5 @@
 pub mod PlacedLaws
 pub mod NameLaws
 pub mod PlaceLaws
+pub mod SightLaws
+pub mod ChooseLaws

@@ -41,7 +41,7 @@ apart x m s st e = let h : true ≡ false = ap (λ (f : Before). is_mark (f done
 same_span : (s r : Span) (st su : Statement) → (then s st) ≡ (then r su) → s ≡ r
 same_span s r st su e = ap (λ (f : Before). span_of (f done)) e
 
-same_statement : (s r : Span) (st su : Statement) → (then s st) ≡ (then r su) → st ≡ su
+pub same_statement : (s r : Span) (st su : Statement) → (then s st) ≡ (then r su) → st ≡ su
 same_statement s r st su e = ap (λ (f : Before). statement_of (f done)) e
 
 -- ---- a statement with labels inside it

@@ -2,3 +2,5 @@
 pub mod Decided
 pub mod Placed
 pub mod InMemory
+pub mod Sight
+pub mod Chosen

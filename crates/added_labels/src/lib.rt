@@ -3,3 +3,6 @@
 
 pub mod names;
 pub mod place;
+pub mod seen;
+pub mod within;
+pub mod choose;

@@ -24,8 +24,8 @@ pub struct Plan {
     pub names: Names,
 }
 
-// The place of a statement; a label has none.
-fn place_of(stmt: &Stmt) -> Option<Place>
+/// The place of a statement; a label has none.
+pub fn place_of(stmt: &Stmt) -> Option<Place>
     ensures { (ts : List Tree) → IsPlaceOf result (stmt_at ts stmt.now) }
 {
     match stmt {
