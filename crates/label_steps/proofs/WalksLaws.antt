@@ -254,7 +254,7 @@ pub record LeftBehind (a : Around) (ms : List Summary) (E : Effects) (all : List
   pub alike : Alike reached (path_of new)
   pub met : (o : Met) → Gains a ms n o (straight_visits E reached rest) → Gains a ms m o all
 
-begun : (new : Path) → new.names.keys ≡ [] → new.reached ≡ true → Alike (Some []) (path_of new)
+pub begun : (new : Path) → new.names.keys ≡ [] → new.reached ≡ true → Alike (Some []) (path_of new)
 begun new k r = subst (λ (q : paths.Path). Alike (Some []) q) (λ i. cond (sym r i) (Some (sym k i)) None) (λ f. refl)
 
 module _ (a : Around) (ms : List Summary) (E : Effects) where

@@ -104,7 +104,8 @@ fn with_processes(
 {
     let mut so_far = found;
     for i in 0..list.len() {
-        so_far = with_body(alloc, pool, around, so_far, &list[i].body)?;
+        let one = &list[i];
+        so_far = with_body(alloc, pool, around, so_far, &one.body)?;
     }
     Ok(so_far)
 }
