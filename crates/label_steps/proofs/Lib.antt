@@ -9,3 +9,4 @@ pub mod PutLaws
 pub mod KnownLaws
 pub mod AroundLaws
 pub mod WalksLaws
+pub mod TwiceLaws

@@ -23,7 +23,7 @@ use Rattle.pcal_tree.specs.Offences.{offence_if, first}
 use Rattle.pcal_tree.specs.OffencesSteps.{holds_one, Visit, effect_with}
 use Rattle.pcal_tree.specs.Paths as paths
 use Rattle.pcal_tree.specs.Paths.{Effect, Effects, nothing, has_assigned, meets}
-use Rattle.pcal_tree.specs.Run.{Partner, is_return, partner_of}
+use Rattle.pcal_tree.specs.Run.{Partner, no_partner, return_partner, is_return, partner_of}
 use Rattle.pcal_tree.specs.laws.MacroSummaries.{Summary}
 use Rattle.pcal_tree.proofs.InMemoryEach.{label_at, simple_in_list_at, if_at, either_at, with_at, while_at}
 use Rattle.pcal_tree.proofs.EffectLaws.{Alike}
@@ -254,7 +254,7 @@ pub record LeftBehind (a : Around) (ms : List Summary) (E : Effects) (all : List
   pub alike : Alike reached (path_of new)
   pub met : (o : Met) → Gains a ms n o (straight_visits E reached rest) → Gains a ms m o all
 
-begun : (new : Path) → new.names.keys ≡ [] → new.reached ≡ true → Alike (Some []) (path_of new)
+pub begun : (new : Path) → new.names.keys ≡ [] → new.reached ≡ true → Alike (Some []) (path_of new)
 begun new k r = subst (λ (q : paths.Path). Alike (Some []) q) (λ i. cond (sym r i) (Some (sym k i)) None) (λ f. refl)
 
 module _ (a : Around) (ms : List Summary) (E : Effects) where
@@ -451,3 +451,7 @@ module _ (a : Around) (ts : List Tree) (returns : Bool) (old new : Path) where
       (λ ms h E v p z j t.
       while_passed a ms E p (span_of s) j old new m n (pool.at ts e) (statements_at ts b.items) z k r
       (subst (λ (ss : List Stmt). PassesArm a (statements_at ts ss) old None ends m n) d one ms h E v p z).met)
+
+pub some_partner : (at : Span) (b : Bool) → (j : Partner) × (b ≡ is_return j)
+some_partner at true = (return_partner at, refl)
+some_partner at false = (no_partner, refl)

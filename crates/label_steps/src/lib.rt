@@ -8,6 +8,7 @@ pub mod laws;
 pub mod path;
 pub mod put;
 pub mod sides;
+pub mod twice;
 pub mod walk;
 
 pub use due::due_refusal;

@@ -5,10 +5,15 @@ ghost use Rattle.tla_tree.specs.Tree.{Tree};
 ghost use Rattle.pcal_tree.specs.Algorithm.{Span as PureSpan, Statement, Statements, then};
 ghost use Rattle.pcal_tree.specs.InMemory.{simple_at, stmt_at, statements_at, branches_at, past_simple, past_stmt, past_statements, past_branches};
 ghost use Rattle.pcal_tree.specs.Offences.{offence_if, first};
-ghost use Rattle.pcal_tree.specs.Run.{is_return, partner_of};
+ghost use Rattle.pcal_tree.specs.Run.{Partner, is_return, partner_of};
 ghost use Rattle.tla_token.specs.declared.rule.Rule.TheVariants.{AssignTwice};
 ghost use Rattle.algorithm_answer.specs.Joined.{joined};
-ghost use Rattle.pcal_tree.specs.Paths.{has_assigned};
+ghost use Rattle.pcal_tree.proofs.EffectLaws.{Alike};
+ghost use Rattle.pcal_tree.specs.Paths.{Path as PurePath, has_assigned};
+ghost use Rattle.pcal_tree.specs.laws.MacroSummaries.{Summary as Found};
+ghost use Rattle.label_steps.specs.AroundIn.{effects_around};
+ghost use Rattle.label_steps.specs.KnownIn.{AreMacros};
+ghost use Rattle.label_steps.specs.StraightPaths.{straight_one, straight, straight_twice, straight_met};
 ghost use Rattle.label_steps.specs.PathsIn.{Behind, path_of};
 ghost use Rattle.label_steps.specs.WalksIn.{IsKind, PassesOne, PassesAll, PassesBehind, PassesArm, PassesArms};
 
@@ -228,5 +233,53 @@ impl Around {
             self.past(alloc, pool, path, met, returns, stmt)?;
         }
         Ok(())
+    }
+
+    /// The first of what was found and of the variables that are assigned twice in statements; the path is then that behind them,
+    /// up to their first label. It calls itself as deep as statements are in statements.
+    ///
+    /// # Errors
+    ///
+    /// Only for want of memory.
+    pub fn body(
+        &self,
+        alloc: Global,
+        pool: &Pool,
+        path: &mut Path,
+        found: Option<Refusal>,
+        stmts: &[Stmt],
+    ) -> Result<Option<Refusal>, AllocError>
+        requires { past_statements stmts.now ≤ length pool.now }
+        ensures kept { OnOk result (Behind path.old.names.keys path.new.names.keys) }
+        ensures path { OnOk result ((ms : List Found) → AreMacros self.now.known ms → (p : PurePath) → Alike p (path_of path.old) → Alike (straight (effects_around self.now ms) (statements_at pool.now stmts.now) p) (path_of path.new)) }
+        ensures first { IfOk result (λ r. (ms : List Found) → AreMacros self.now.known ms → (p : PurePath) → Alike p (path_of path.old) → r ≡ joined found (first (straight_twice (effects_around self.now ms) p (statements_at pool.now stmts.now)))) }
+    {
+        let mut met = Met { first: found };
+        self.list(alloc, pool, path, &mut met, stmts)?;
+        Ok(met.first)
+    }
+
+    /// The same of one statement, and no label; true where a `return` comes directly behind it.
+    ///
+    /// # Errors
+    ///
+    /// Only for want of memory.
+    pub fn stmt(
+        &self,
+        alloc: Global,
+        pool: &Pool,
+        path: &mut Path,
+        found: Option<Refusal>,
+        returns: bool,
+        stmt: &Stmt,
+    ) -> Result<Option<Refusal>, AllocError>
+        requires { past_stmt stmt.now ≤ length pool.now }
+        ensures kept { OnOk result ((s : PureSpan) (st : Statement) → stmt_at pool.now stmt.now ≡ then s st → Behind path.old.names.keys path.new.names.keys) }
+        ensures path { OnOk result ((s : PureSpan) (st : Statement) → stmt_at pool.now stmt.now ≡ then s st → (ms : List Found) → AreMacros self.now.known ms → (p : PurePath) → Alike p (path_of path.old) → Alike (straight_one (effects_around self.now ms) st p) (path_of path.new)) }
+        ensures first { IfOk result (λ r. (s : PureSpan) (st : Statement) → stmt_at pool.now stmt.now ≡ then s st → (ms : List Found) → AreMacros self.now.known ms → (p : PurePath) → Alike p (path_of path.old) → (j : Partner) → returns ≡ is_return j → r ≡ joined found (first (straight_met (effects_around self.now ms) p s.first st j))) }
+    {
+        let mut met = Met { first: found };
+        self.past(alloc, pool, path, &mut met, returns, stmt)?;
+        Ok(met.first)
     }
 }
