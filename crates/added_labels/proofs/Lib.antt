@@ -4,3 +4,5 @@ pub mod NameLaws
 pub mod PlaceLaws
 pub mod SightLaws
 pub mod ChooseLaws
+pub mod BodyLaws
+pub mod TypedLaws

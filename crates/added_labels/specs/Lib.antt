@@ -4,3 +4,4 @@ pub mod Placed
 pub mod InMemory
 pub mod Sight
 pub mod Chosen
+pub mod WithLabels

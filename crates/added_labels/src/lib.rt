@@ -6,3 +6,6 @@ pub mod place;
 pub mod seen;
 pub mod within;
 pub mod choose;
+pub mod bodies;
+pub mod typed;
+pub mod add;

@@ -31,8 +31,12 @@ fn add_names(list: &mut Vec<Name>, declarations: &[Declaration]) -> Result<(), A
     Ok(())
 }
 
-// The parameters and variables of a procedure.
-fn own_names(alloc: Global, one: &Procedure) -> Result<Vec<Name>, AllocError>
+/// The parameters and variables of a procedure.
+///
+/// # Errors
+///
+/// Only for want of memory.
+pub fn own_names(alloc: Global, one: &Procedure) -> Result<Vec<Name>, AllocError>
     ensures { IfOk result (λ r. r.items ≡ names_of one.now.params.items ++ names_of one.now.variables.items) }
 {
     let mut list = Vec::new(alloc);

@@ -1,0 +1,85 @@
+//! Labels added to an algorithm: first to its macros, and then, where it is known what these assign, to what has steps.
+
+ghost use Rattle.std.specs.Prelude.{◌≡◌, ◌≤◌, true, length, map, reverse, IfOk};
+ghost use Rattle.pcal_tree.specs.Algorithm as tree;
+ghost use Rattle.pcal_tree.specs.InMemory.{macro_at, algorithm_at, past_algorithm};
+ghost use Rattle.pcal_tree.specs.Labelled.{labelled};
+ghost use Rattle.pcal_tree.specs.laws.MacroSummaries.{summaries};
+ghost use Rattle.label_steps.specs.KnownIn.{AreMacros};
+ghost use Rattle.added_labels.specs.WithLabels.{Begun};
+
+use crate::names::Names;
+use crate::place::Plan;
+use crate::seen::Where;
+use crate::typed::typed_names;
+use algorithm_limits::table::Table;
+use label_steps::around::Around;
+use label_steps::known::Known;
+use pcal_tree::algorithm::{Algorithm, Main};
+use std::alloc::{AllocError, Global};
+use std::mem::replace;
+use tla_pool::Pool;
+
+/// Adds labels to the macros of an algorithm. The plan is for the rest of it.
+///
+/// # Errors
+///
+/// Only for want of memory.
+pub fn with_macros(alloc: Global, pool: &Pool, algorithm: Algorithm) -> Result<(Plan, Algorithm), AllocError>
+    requires { past_algorithm algorithm ≤ length pool.now }
+    ensures begun { IfOk result (λ r. Begun pool.now r.0 r.1 (algorithm_at pool.now algorithm)) }
+    ensures numbers { IfOk result (λ r. past_algorithm r.1 ≤ past_algorithm algorithm) }
+{
+    let typed = typed_names(alloc, &algorithm)?;
+    let mut plan = Plan {
+        wanted: Vec::new(alloc),
+        passed: 0,
+        names: Names { typed, from: 1 },
+    };
+    let known = Known {
+        numbers: Table::new(alloc),
+        summaries: Vec::new(alloc),
+    };
+    let around = Around {
+        known,
+        name: None,
+        own: Vec::new(alloc),
+    };
+    let place = Where {
+        around,
+        silent: true,
+    };
+    let mut changed = algorithm;
+    let macros = replace(&mut changed.macros, Vec::new(alloc));
+    changed.macros = plan.macros(alloc, pool, &place, macros)?;
+    Ok((plan, changed))
+}
+
+/// Adds labels to the procedures of an algorithm and to what runs, where these are known to be its macros, which have theirs.
+///
+/// # Errors
+///
+/// Only for want of memory.
+pub fn with_routines(alloc: Global, pool: &Pool, plan: Plan, known: Known, algorithm: Algorithm) -> Result<Algorithm, AllocError>
+    requires { past_algorithm algorithm ≤ length pool.now }
+    ensures with { IfOk result (λ r. (a : tree.Algorithm) → Begun pool.now plan algorithm a → AreMacros known (summaries (reverse (map (macro_at pool.now) algorithm.macros.items))) → algorithm_at pool.now r ≡ labelled true a) }
+    ensures numbers { IfOk result (λ r. past_algorithm r ≤ past_algorithm algorithm) }
+{
+    let mut plan = plan;
+    let mut place = Where {
+        around: Around {
+            known,
+            name: None,
+            own: Vec::new(alloc),
+        },
+        silent: false,
+    };
+    let mut changed = algorithm;
+    let procedures = replace(&mut changed.procedures, Vec::new(alloc));
+    changed.procedures = plan.procedures(alloc, pool, &mut place, procedures)?;
+    place.around.name = None;
+    place.around.own = Vec::new(alloc);
+    let main = replace(&mut changed.main, Main::Alone(Vec::new(alloc)));
+    changed.main = plan.main(alloc, pool, &place, main)?;
+    Ok(changed)
+}
