@@ -1,5 +1,6 @@
 -- What is known of macros, in memory.
-use Rattle.std.specs.Prelude.{◌≡◌, ℕ, zero, suc, List, [], ◌∷◌, Option, Some, None, cond, bytes_eq, map, slice_get}
+use Rattle.std.specs.Prelude.{Bool, ◌||◌, ◌≡◌, ℕ, zero, suc, List, [], ◌∷◌, Option, Some, None, cond, bytes_eq, map, slice_get}
+use Rattle.tla_token.specs.Signs.{is_among}
 use Rattle.tla_tree.specs.Tree.{Word, Trees}
 use Rattle.pcal_tree.specs.Paths.{Effect, nothing}
 use Rattle.pcal_tree.specs.laws.MacroSummaries as found
@@ -15,6 +16,10 @@ use Rattle.label_steps.specs.PutIn.{pair_of}
 pub record Assigns (s : Step) (e : Effect) : Type 0 where
   pub names : Same s.names.items e.variables
   pub twice : s.twice ≡ e.twice
+
+-- one is a parameter of some macro, or they are one name
+abbrev pub may_be_one : Known → Word → Word → Bool
+may_be_one k a b = is_among k.params.keys a || (is_among k.params.keys b || bytes_eq a b)
 
 pub record IsSummary (s : Summary) (d : found.Summary) : Type 0 where
   pub params : s.params.items ≡ d.params

@@ -9,4 +9,5 @@ pub mod SidesIn
 pub mod PutIn
 pub mod KnownIn
 pub mod AroundIn
+pub mod GatheredIn
 pub mod WalksIn

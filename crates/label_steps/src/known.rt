@@ -4,11 +4,13 @@ ghost use Rattle.std.specs.Prelude.{◌≡◌, ◌≤◌, List, [], false, lengt
 ghost use Rattle.tla_tree.specs.Pool.{trees_at};
 ghost use Rattle.pcal_tree.specs.InMemory.{past_numbers};
 ghost use Rattle.pcal_tree.specs.laws.MacroSummaries.{Summary as Found, summary_effect};
-ghost use Rattle.label_steps.specs.KnownIn.{Assigns, AreMacros};
+ghost use Rattle.tla_token.specs.Signs.{is_among};
+ghost use Rattle.label_steps.specs.KnownIn.{Assigns, AreMacros, may_be_one};
 
-use crate::put::Summary;
+use crate::put::{Summary, same};
 use crate::sides::Step;
 use algorithm_limits::table::Table;
+use indexmap::IndexSet;
 use std::alloc::{AllocError, Global};
 use tla_pool::Pool;
 use tla_tree::{Name, NodeId};
@@ -16,6 +18,8 @@ use tla_tree::{Name, NodeId};
 /// What is known of macros.
 #[derive(Drop)]
 pub struct Known {
+    /// The names that are a parameter of some macro.
+    pub params: IndexSet<Name>,
     /// One more than the place of a macro's summary in their list, by its name.
     pub numbers: Table,
     /// What macros assign.
@@ -34,6 +38,20 @@ pub fn nothing(alloc: Global) -> Step
 }
 
 impl Known {
+    /// Whether a name is a parameter of some macro.
+    pub fn is_param(&self, name: &Name) -> bool
+        ensures { result ≡ is_among self.now.params.keys name.now }
+    {
+        self.params.contains(name)
+    }
+
+    /// Whether two names may be one variable where a macro is called: one is a parameter, or they are one name.
+    pub fn may_be_one(&self, first: &Name, second: &Name) -> bool
+        ensures { result ≡ may_be_one self.now first.now second.now }
+    {
+        self.is_param(first) || self.is_param(second) || same(first, second)
+    }
+
     /// What a call of a macro of this name assigns; a call of no macro assigns nothing.
     ///
     /// # Errors

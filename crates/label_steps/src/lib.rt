@@ -3,6 +3,7 @@
 
 pub mod around;
 pub mod due;
+pub mod gathered;
 pub mod known;
 pub mod laws;
 pub mod path;

@@ -16,7 +16,7 @@ use tla_pool::Pool;
 use tla_tree::{Name, NodeId, PlacedName};
 
 /// A left side of a macro: the name with which it begins, and whether it is the whole of it.
-#[derive(Drop)]
+#[derive(Drop, PartialEq, Eq, Hash)]
 pub struct Side {
     /// A parameter, or another name.
     pub name: Name,
@@ -24,8 +24,24 @@ pub struct Side {
     pub whole: bool,
 }
 
+impl Side {
+    /// The same once more.
+    ///
+    /// # Errors
+    ///
+    /// Only for want of memory.
+    pub fn copied(&self) -> Result<Side, AllocError>
+        ensures { IfOk result (λ s. side_of s ≡ side_of self.now) }
+    {
+        Ok(Side {
+            name: self.name.copied()?,
+            whole: self.whole,
+        })
+    }
+}
+
 /// Names of a macro that must not be one variable.
-#[derive(Drop)]
+#[derive(Drop, PartialEq, Eq, Hash)]
 pub enum Pair {
     /// The second is assigned after the first.
     InTurn(Name, Name),
