@@ -22,9 +22,9 @@ use Rattle.label_steps.specs.declared.known.Known.{Known}
 use Rattle.label_steps.specs.declared.put.Side.{Side}
 use Rattle.label_steps.specs.declared.put.Pair.{Pair}
 use Rattle.label_steps.specs.declared.put.Pair.TheVariants as pair
-use Rattle.label_steps.specs.GatheredIn.{PutsIn, breaks, SameBroken, gathered_pairs, Adds}
+use Rattle.label_steps.specs.GatheredIn.{gathered_pairs, Adds}
 use Rattle.label_steps.specs.KnownIn.{may_be_one}
-use Rattle.label_steps.specs.PutIn.{side_of, pair_of}
+use Rattle.label_steps.specs.PutIn.{side_of, pair_of, PutsIn, breaks, SameBroken}
 use Rattle.label_steps.specs.contracts.put.SidePartialEq.TheImpl.{eq-value as same_sides}
 use Rattle.label_steps.specs.contracts.put.PairPartialEq.TheImpl.{eq-value as same_pairs}
 
@@ -91,7 +91,7 @@ module _ (k : Known) where
   }
 
   -- as much as this
-  pub adds_as : (a b : Gathered) (xs ys : List Word) (ps qs : List found.Pair) → Same xs ys → SameBroken k ps qs → Adds k a b xs ps → Adds k a b ys qs
+  pub adds_as : (a b : Gathered) (xs ys : List Word) (ps qs : List found.Pair) → Same xs ys → SameBroken k.params.keys ps qs → Adds k a b xs ps → Adds k a b ys qs
   adds_as a b xs ys ps qs s t h = record {
     names = λ f. h.names f ∙ list_any-append f a.names.keys xs ∙ ap (λ (b : Bool). list_any f a.names.keys || b) (s f) ∙ sym (list_any-append f a.names.keys ys);
     pairs = λ g z.
@@ -100,7 +100,7 @@ module _ (k : Known) where
   }
 
   -- two names that never are one variable
-  never_one : (g : Graft) → PutsIn k g → (a b : Word) → may_be_one k a b ≡ false → same_word (resolved (put_for g) a) (resolved (put_for g) b) ≡ false
+  never_one : (g : Graft) → PutsIn k.params.keys g → (a b : Word) → may_be_one k a b ≡ false → same_word (resolved (put_for g) a) (resolved (put_for g) b) ≡ false
   never_one g z a b e =
       let h = or_parts (is_among k.params.keys a) (is_among k.params.keys b || bytes_eq a b) e in
       let l = or_parts (is_among k.params.keys b) (bytes_eq a b) h.1 in

@@ -5,7 +5,7 @@ ghost use Rattle.tla_tree.specs.Pool.{trees_at};
 ghost use Rattle.pcal_tree.specs.InMemory.{past_numbers};
 ghost use Rattle.pcal_tree.specs.laws.MacroSummaries.{Summary as Found, summary_effect};
 ghost use Rattle.tla_token.specs.Signs.{is_among};
-ghost use Rattle.label_steps.specs.KnownIn.{Assigns, AreMacros, may_be_one};
+ghost use Rattle.label_steps.specs.KnownIn.{Assigns, AreMacros, IsKnown, find_summary, may_be_one};
 
 use crate::put::{Summary, same};
 use crate::sides::Step;
@@ -50,6 +50,22 @@ impl Known {
         ensures { result ≡ may_be_one self.now first.now second.now }
     {
         self.is_param(first) || self.is_param(second) || same(first, second)
+    }
+
+    /// What is known of the macro of this name.
+    pub fn find(&self, name: &Name) -> Option<&Summary>
+        ensures { (ms : List Found) → AreMacros self.now ms → IsKnown self.now.params.keys result (find_summary ms name.now) }
+    {
+        let number = self.numbers.get(name);
+        if number == 0 {
+            return None;
+        }
+        let summaries = self.summaries.as_slice();
+        if number > summaries.len() {
+            return None;
+        }
+        let place = number - 1;
+        Some(&summaries[place])
     }
 
     /// What a call of a macro of this name assigns; a call of no macro assigns nothing.
