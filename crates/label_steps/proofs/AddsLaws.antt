@@ -1,7 +1,8 @@
 -- What is gathered, one thing after another: each once, and no pair of names that never are one variable.
-use Rattle.std.proofs.Common.{◌≡◌, ℕ, ◌+◌, ◌<◌, ◌≤◌, Bool, true, false, ◌&&◌, ◌||◌, List, [], ◌∷◌, ◌++◌, length, take, get_or, map, Option, Some, None, refl, sym, ap, ◌∙◌, subst, cond, append-nil, append_assoc, bytes_eq}
+use Rattle.std.proofs.Common.{◌≡◌, ℕ, ◌+◌, ◌<◌, ◌≤◌, Bool, true, false, ◌&&◌, ◌||◌, List, [], ◌∷◌, ◌++◌, length, take, get_or, map, Option, Some, None, Vec, Global, refl, sym, ap, ◌∙◌, subst, cond, append-nil, append_assoc, bytes_eq}
 use Rattle.std.specs.Prelude.{if◌then◌else◌}
 use Rattle.std.specs.List.{list_any, flat_map}
+use Rattle.std.specs.Option.{option_or}
 use Rattle.std.proofs.lemmas.Bool.{and_parts, or_parts}
 use Rattle.std.proofs.lemmas.List.{take_more, take_all, map-append}
 use Rattle.std.proofs.lemmas.List.Folds.{list_any-append}
@@ -9,21 +10,34 @@ use Rattle.std.proofs.lemmas.Grind.{flat_map-append}
 use Rattle.std.proofs.Math.Bool.{or-false}
 use Rattle.indexmap.specs.IndexSet.{insert_key}
 use Rattle.tla_token.specs.Signs.{is_among}
-use Rattle.tla_tree.specs.Tree.{Word, Tree, Graft}
+use Rattle.tla_tree.specs.Tree.{Word, Tree, Trees, Graft, grafts}
 use Rattle.algorithm_limits.proofs.Tables.{equal, equal_is, same_test}
-use Rattle.pcal_tree.specs.Algorithm.{nowhere}
-use Rattle.pcal_tree.specs.Paths.{same_word}
+use Rattle.pcal_tree.specs.declared.algorithm.Assignment.{Assignment}
+use Rattle.pcal_tree.specs.declared.algorithm.Simple as declared_simple
+use Rattle.pcal_tree.specs.declared.algorithm.Simple.TheVariants as simple
+use Rattle.pcal_tree.specs.Algorithm.{nowhere, Name, Assignments, no_assignments, assignment, Statement, assign, await, print, assert, skip, branch, either, with, while, goto, macro, call, return}
+use Rattle.pcal_tree.specs.InMemory.{simple_at}
+use Rattle.pcal_tree.specs.OffencesSteps.{called_with, effect_with, outer_effects}
+use Rattle.pcal_tree.specs.Paths as paths
+use Rattle.pcal_tree.specs.Paths.{root, roots, is_whole, some_word, same_word}
+use Rattle.pcal_tree.specs.Run.{Partner, no_partner, goto_partner, return_partner}
+use Rattle.pcal_tree.proofs.EffectLaws.{Alike}
 use Rattle.pcal_tree.specs.laws.MacroSummaries as found
-use Rattle.pcal_tree.specs.laws.MacroSummaries.{in_turn, at_once, same_truth, variable_of, resolved, is_broken}
-use Rattle.pcal_tree.proofs.SetLaws.{Same, Sound, any_map}
-use Rattle.pcal_tree.proofs.TargetLaws.{put_for}
+use Rattle.pcal_tree.specs.laws.MacroSummaries.{in_turn, at_once, same_truth, variable_of, resolved, is_broken, argument, put_pair, put_found, sides_of, sides, pairs_of, found_in_call, found_here, found_on, effect_by, summary_effect}
+use Rattle.pcal_tree.proofs.SetLaws.{Same, Sound, any_map, any_flat, any_union}
+use Rattle.pcal_tree.proofs.TargetLaws.{put_for, called_anywhere, found_put}
+use Rattle.label_jumps.proofs.FoundLaws.{flat_mapped}
 use Rattle.label_steps.specs.declared.gathered.Gathered.{Gathered}
 use Rattle.label_steps.specs.declared.known.Known.{Known}
+use Rattle.label_steps.specs.declared.path.Path.{Path}
 use Rattle.label_steps.specs.declared.put.Side.{Side}
+use Rattle.label_steps.specs.declared.put.Summary.{Summary}
 use Rattle.label_steps.specs.declared.put.Pair.{Pair}
 use Rattle.label_steps.specs.declared.put.Pair.TheVariants as pair
-use Rattle.label_steps.specs.GatheredIn.{gathered_pairs, Adds}
-use Rattle.label_steps.specs.KnownIn.{may_be_one}
+use Rattle.label_steps.specs.GatheredIn.{gathered_pairs, Adds, AddsSome, names_on, turns_on, PassesSide}
+use Rattle.label_steps.specs.KnownIn.{may_be_one, find_summary, IsSummary}
+use Rattle.label_steps.specs.PathsIn.{path_of}
+use Rattle.label_steps.proofs.GatherLaws.{pair_sound, Turns, turns_alike}
 use Rattle.label_steps.specs.PutIn.{side_of, pair_of, PutsIn, breaks, SameBroken}
 use Rattle.label_steps.specs.contracts.put.SidePartialEq.TheImpl.{eq-value as same_sides}
 use Rattle.label_steps.specs.contracts.put.PairPartialEq.TheImpl.{eq-value as same_pairs}
@@ -153,3 +167,222 @@ module _ (k : Known) where
 pub singles : {X Y : Type 0} (h : X → Y) (xs : List X) → flat_map (λ x. h x ∷ []) xs ≡ map h xs
 singles h [] = refl
 singles h (x ∷ xs) = ap (λ (ys : List _). h x ∷ ys) (singles h xs)
+
+-- ---- names, one after another
+
+module _ (k : Known) where
+  pub names_more : (a b c : Gathered) (xs : List Word) (i : ℕ) (x : Word) → x ≡ get_or xs i x → i < length xs → Adds k a b (take i xs) [] → Adds k b c (x ∷ []) [] → Adds k a c (take (i + 1) xs) []
+  names_more a b c xs i x e l g h =
+      subst (λ (ys : List Word). Adds k a c ys []) (sym (take_more xs i x l ∙ ap (λ (z : Word). take i xs ++ z ∷ []) (sym e))) (adds_then k a b c (take i xs) (x ∷ []) [] [] g h)
+
+  pub names_all : (a b : Gathered) (xs : List Word) (i : ℕ) → length xs ≤ i → Adds k a b (take i xs) [] → Adds k a b xs []
+  names_all a b xs i l g = subst (λ (ys : List Word). Adds k a b ys []) (take_all i xs l) g
+
+  -- on a path
+  pub on_none : (a : Gathered) (p : Path) (ys : List Word) → p.reached ≡ false → Adds k a a (names_on (path_of p) ys) (turns_on (path_of p) ys)
+  on_none a p ys e = subst (λ (b : Bool). Adds k a a (names_on (cond b (Some p.names.keys) None) ys) (turns_on (cond b (Some p.names.keys) None) ys)) (sym e) (adds_none k a)
+
+  pub on_some : (a b c : Gathered) (p : Path) (ys : List Word) → p.reached ≡ true → Adds k a b ys [] → Adds k b c [] (flat_map (λ y. map (λ x. in_turn x y) p.names.keys) ys)
+      → Adds k a c (names_on (path_of p) ys) (turns_on (path_of p) ys)
+  on_some a b c p ys e g h =
+      subst (λ (t : Bool). Adds k a c (names_on (cond t (Some p.names.keys) None) ys) (turns_on (cond t (Some p.names.keys) None) ys)) (sym e)
+      (subst (λ (xs : List Word). Adds k a c xs (flat_map (λ y. map (λ x. in_turn x y) p.names.keys) ys)) (append-nil ys)
+      (adds_then k a b c ys [] [] (flat_map (λ y. map (λ x. in_turn x y) p.names.keys) ys) g h))
+
+  -- ---- left sides of a statement
+
+  pub side_none : (a : Gathered) (met : List Side) (w : Bool) (o : Option Word) → o ≡ None → PassesSide k a a met met (sides_of w o)
+  side_none a met w o e = subst (λ (p : Option Word). PassesSide k a a met met (sides_of w p)) (sym e) (λ rs s. (adds_none k a, s))
+
+  pub side_some : (a b : Gathered) (met more : List Side) (x : Word) (v w : Bool) (o : Option Word) → o ≡ Some x → v ≡ w
+      → Adds k a b [] (flat_map (λ s. at_once (record { name = x; whole = v }) (side_of s) ∷ []) met) → more ≡ insert_key same_sides.it met (record { name = x; whole = v }) → PassesSide k a b met more (sides_of w o)
+  side_some a b met more x v w o e same g n =
+      subst (λ (p : Option Word). PassesSide k a b met more (sides_of w p)) (sym e) (subst (λ (u : Bool). PassesSide k a b met more (sides_of u (Some x))) same (λ rs s. (
+        adds_as k a b [] [] (flat_map (λ s. at_once one (side_of s) ∷ []) met) (map (at_once one) rs ++ []) (λ f. refl) (λ h z.
+        ap (breaks h) (singles (λ s. at_once one (side_of s)) met) ∙ any_map (is_broken (put_for h)) (λ s. at_once one (side_of s)) met
+        ∙ sym (any_map (λ r. is_broken (put_for h) (at_once one r)) side_of met) ∙ s (λ r. is_broken (put_for h) (at_once one r)) ∙ sym (any_map (is_broken (put_for h)) (at_once one) rs)
+        ∙ ap (breaks h) (sym (append-nil (map (at_once one) rs)))) g,
+        λ f.
+        ap (λ (ss : List Side). list_any f (map side_of ss)) n ∙ any_map f side_of (insert_key same_sides.it met (record { name = x; whole = v }))
+        ∙ any_inserted same_sides.it sides_sound (λ r. f (side_of r)) met (record { name = x; whole = v }) ∙ ap (λ (t : Bool). t || f one) (sym (any_map f side_of met) ∙ s f)
+        ∙ or_turned (list_any f rs) (f one),
+      )))
+    where
+      one : found.Side
+      one = record { name = x; whole = v }
+
+      or_turned : (b c : Bool) → (b || c) ≡ (c || b)
+      or_turned true true = refl
+      or_turned true false = refl
+      or_turned false true = refl
+      or_turned false false = refl
+
+  pub sides_step : (a b c : Gathered) (met more : List Side) (w : Bool) (o : Option Word) (rs : List found.Side) → Same (map side_of met) rs → Adds k a b [] (pairs_of rs) → PassesSide k b c met more (sides_of w o)
+      → Adds k a c [] (pairs_of (sides_of w o ++ rs)) × Same (map side_of more) (sides_of w o ++ rs)
+  sides_step a b c met more w None rs s g h = (subst (λ (ps : List found.Pair). Adds k a c [] ps) (append-nil (pairs_of rs)) (adds_then k a b c [] [] (pairs_of rs) [] g (h rs s).0), (h rs s).1)
+  sides_step a b c met more w (Some x) rs s g h = (
+    adds_as k a c [] [] (pairs_of rs ++ (these ++ [])) (these ++ pairs_of rs) (λ f. refl) (λ f z.
+    list_any-append (is_broken (put_for f)) (pairs_of rs) (these ++ []) ∙ ap (λ (b : Bool). breaks f (pairs_of rs) || b) (ap (breaks f) (append-nil these))
+    ∙ or_turned (breaks f (pairs_of rs)) (breaks f these) ∙ sym (list_any-append (is_broken (put_for f)) these (pairs_of rs))) (adds_then k a b c [] [] (pairs_of rs) (these ++ []) g (h rs s).0),
+    (h rs s).1,
+  )
+    where
+      these : List found.Pair
+      these = map (at_once (record { name = x; whole = w })) rs
+
+      or_turned : (b c : Bool) → (b || c) ≡ (c || b)
+      or_turned true true = refl
+      or_turned true false = refl
+      or_turned false true = refl
+      or_turned false false = refl
+
+  -- ---- calls
+
+  found_in : (ms : List found.Summary) (m : Word) (us : Trees) (d : found.Summary) → find_summary ms m ≡ Some d → found_in_call ms m us ≡ put_found (argument d.params us) d.found
+  found_in [] m us d e = cc
+  found_in (s ∷ older) m us d e = by (bytes_eq s.name m) e (found_in older m us d)
+    where
+      by : (b : Bool) → cond b (Some s) (find_summary older m) ≡ Some d → (find_summary older m ≡ Some d → found_in_call older m us ≡ put_found (argument d.params us) d.found)
+          → cond b (put_found (argument s.params us) s.found) (found_in_call older m us) ≡ put_found (argument d.params us) d.found
+      by true e h = ap (λ (o : Option found.Summary). found_of o) e
+        where
+          found_of : Option found.Summary → found.Found
+          found_of None = found.none_found
+          found_of (Some q) = put_found (argument q.params us) q.found
+      by false e h = h e
+
+  found_in_none : (ms : List found.Summary) (m : Word) (us : Trees) → find_summary ms m ≡ None → found_in_call ms m us ≡ found.none_found
+  found_in_none [] m us e = refl
+  found_in_none (s ∷ older) m us e = by (bytes_eq s.name m) e (found_in_none older m us)
+    where
+      by : (b : Bool) → cond b (Some s) (find_summary older m) ≡ None → (find_summary older m ≡ None → found_in_call older m us ≡ found.none_found)
+          → cond b (put_found (argument s.params us) s.found) (found_in_call older m us) ≡ found.none_found
+      by true e h = cc
+      by false e h = h e
+
+  pub call_none : (a : Gathered) (ms : List found.Summary) (m : Word) (us : Trees) → find_summary ms m ≡ None → Adds k a a [] (found_in_call ms m us).pairs
+  call_none a ms m us e = subst (λ (f : found.Found). Adds k a a [] f.pairs) (sym (found_in_none ms m us e)) (adds_none k a)
+
+  -- pairs with trees put in are broken by what is put in around the call as they are by both
+  put_broken : (ps : List Name) (us : Trees) (g : Graft) (z : PutsIn k.params.keys g) (qs : List found.Pair)
+      → breaks g (flat_map (put_pair (argument ps us)) qs) ≡ breaks (called_with ps (grafts g us) g) qs
+  put_broken ps us g z qs =
+      sym (found_put ps us g z.anywhere (record { names = []; pairs = qs })).1
+
+  puts_around : (ps : List Name) (us : Trees) (g : Graft) → PutsIn k.params.keys g → ((x : Word) → is_among k.params.keys x ≡ false → (ts : Trees) → argument ps ts x ≡ None) → PutsIn k.params.keys (called_with ps (grafts g us) g)
+  puts_around ps us g z none = record {
+    anywhere = called_anywhere ps (grafts g us) g z.anywhere;
+    params = λ x e. (λ i. option_or (none x e (grafts g us) i) (z.params x e i));
+  }
+
+  pub call_some : (a b : Gathered) (ms : List found.Summary) (m : Word) (us : Trees) (s : Summary) (d : found.Summary) → find_summary ms m ≡ Some d → IsSummary k.params.keys s d
+      → Adds k a b [] (flat_map (λ p. put_pair (argument s.params.items us) (pair_of p)) s.pairs.keys) → Adds k a b [] (found_in_call ms m us).pairs
+  call_some a b ms m us s d e is g =
+      subst (λ (f : found.Found). Adds k a b [] f.pairs) (sym (found_in ms m us d e))
+      (adds_as k a b [] [] (flat_map (λ p. put_pair (argument s.params.items us) (pair_of p)) s.pairs.keys) (flat_map (put_pair (argument d.params us)) d.found.pairs) (λ f. refl) (λ h z.
+      ap (breaks h) (flat_mapped (put_pair (argument s.params.items us)) pair_of s.pairs.keys)
+      ∙ ap (λ (ps : List Name). breaks h (flat_map (put_pair (argument ps us)) (map pair_of s.pairs.keys))) is.params
+      ∙ put_broken d.params us h z (map pair_of s.pairs.keys) ∙ is.pairs (called_with d.params (grafts h us) h) (puts_around d.params us h z is.inside)
+      ∙ sym (put_broken d.params us h z d.found.pairs)) g)
+
+  -- ---- a statement
+
+  pub then_pairs : (a b c : Gathered) (xs : List Word) (ps qs : List found.Pair) → Adds k a b xs ps → Adds k b c [] qs → Adds k a c xs (ps ++ qs)
+  then_pairs a b c xs ps qs g h = subst (λ (ys : List Word). Adds k a c ys (ps ++ qs)) (append-nil xs) (adds_then k a b c xs [] ps qs g h)
+
+  -- ---- where something is gathered
+
+  pub adds_some_none : (o : Option Gathered) → AddsSome k o o [] []
+  adds_some_none None = tt
+  adds_some_none (Some a) = adds_none k a
+
+  pub adds_some_then : (o p q : Option Gathered) (xs ys : List Word) (ps qs : List found.Pair) → AddsSome k o p xs ps → AddsSome k p q ys qs → AddsSome k o q (xs ++ ys) (ps ++ qs)
+  adds_some_then None None None xs ys ps qs g h = tt
+  adds_some_then (Some a) (Some b) (Some c) xs ys ps qs g h = adds_then k a b c xs ys ps qs g h
+  adds_some_then None None (Some c) xs ys ps qs g h = absurd h
+  adds_some_then None (Some b) q xs ys ps qs g h = absurd g
+  adds_some_then (Some a) None q xs ys ps qs g h = absurd g
+  adds_some_then (Some a) (Some b) None xs ys ps qs g h = absurd h
+
+  pub adds_some_as : (o p : Option Gathered) (xs ys : List Word) (ps qs : List found.Pair) → Same xs ys → SameBroken k.params.keys ps qs → AddsSome k o p xs ps → AddsSome k o p ys qs
+  adds_some_as None None xs ys ps qs s t g = tt
+  adds_some_as (Some a) (Some b) xs ys ps qs s t g = adds_as k a b xs ys ps qs s t g
+  adds_some_as None (Some b) xs ys ps qs s t g = absurd g
+  adds_some_as (Some a) None xs ys ps qs s t g = absurd g
+
+-- ---- what a macro's statements assign
+
+roots_sides : (ms : Assignments) → roots ms ≡ map (λ s. s.name) (sides ms)
+roots_sides no_assignments = refl
+roots_sides (assignment l e ms) = by (root l) (roots_sides ms)
+  where
+    by : (o : Option Word) → roots ms ≡ map (λ s. s.name) (sides ms) → some_word o ++ roots ms ≡ map (λ s. s.name) (sides_of (is_whole l) o ++ sides ms)
+    by None h = h
+    by (Some x) h = ap (λ (xs : List Word). x ∷ xs) h
+
+call_names : (ms : List found.Summary) (m : Word) (us : Trees) → (summary_effect ms m us).variables ≡ (found_in_call ms m us).names
+call_names [] m us = refl
+call_names (d ∷ older) m us = by (bytes_eq d.name m) (call_names older m us)
+  where
+    by : (b : Bool) → (summary_effect older m us).variables ≡ (found_in_call older m us).names
+        → (cond b (effect_by (argument d.params us) d.found) (summary_effect older m us)).variables ≡ (cond b (put_found (argument d.params us) d.found) (found_in_call older m us)).names
+    by true h = refl
+    by false h = h
+
+-- outside procedures
+pub outside_names : (ms : List found.Summary) (st : Statement) (j : Partner) → (effect_with (outer_effects (summary_effect ms)) st j).variables ≡ (found_here ms st).names
+outside_names ms (assign l) j = roots_sides l
+outside_names ms (macro m us) j = call_names ms m us
+outside_names ms (await e) j = refl
+outside_names ms (print e) j = refl
+outside_names ms (assert e) j = refl
+outside_names ms skip j = refl
+outside_names ms (branch e b c) j = refl
+outside_names ms (either bs) j = refl
+outside_names ms (with bs b) j = refl
+outside_names ms (while e b) j = refl
+outside_names ms (goto n) j = refl
+outside_names ms (call n us) no_partner = refl
+outside_names ms (call n us) (goto_partner l) = refl
+outside_names ms (call n us) (return_partner at) = refl
+outside_names ms return j = refl
+
+pub plain_names : (ms : List found.Summary) (st : Statement) → (outer_effects (summary_effect ms) st).variables ≡ (found_here ms st).names
+plain_names ms (assign l) = roots_sides l
+plain_names ms (macro m us) = call_names ms m us
+plain_names ms (await e) = refl
+plain_names ms (print e) = refl
+plain_names ms (assert e) = refl
+plain_names ms skip = refl
+plain_names ms (branch e b c) = refl
+plain_names ms (either bs) = refl
+plain_names ms (with bs b) = refl
+plain_names ms (while e b) = refl
+plain_names ms (goto n) = refl
+plain_names ms (call n us) = refl
+plain_names ms return = refl
+
+-- on paths that have assigned the same
+module _ (ms : List found.Summary) (st : Statement) (ys : List Word) (same : Same ys (found_here ms st).names) where
+  pub names_alike : (p q : paths.Path) → Alike p q → Same (names_on q ys) (found_on p (found_here ms st)).names
+  names_alike None None h f = refl
+  names_alike (Some xs) (Some us) h f = same f
+  names_alike None (Some us) h f = absurd h
+  names_alike (Some xs) None h f = absurd h
+
+  pub pairs_alike : (p q : paths.Path) → Alike p q → (f : found.Pair → Bool) → list_any f (turns_on q ys ++ (found_here ms st).pairs) ≡ list_any f (found_on p (found_here ms st)).pairs
+  pairs_alike None None h f = refl
+  pairs_alike (Some xs) (Some us) h f =
+      list_any-append f (Turns us ys) (found_here ms st).pairs
+      ∙ ap (λ (b : Bool). b || list_any f (found_here ms st).pairs)
+      (sym (turns_alike xs us ys h f) ∙ any_flat f (λ y. map (λ x. in_turn x y) xs) ys ∙ same (λ y. list_any f (map (λ x. in_turn x y) xs)) ∙ sym (any_flat f (λ y. map (λ x. in_turn x y) xs) (found_here ms st).names))
+      ∙ or_turned (list_any f (Turns xs (found_here ms st).names)) (list_any f (found_here ms st).pairs)
+      ∙ sym (any_union found.same_pair pair_sound f (found_here ms st).pairs (Turns xs (found_here ms st).names))
+    where
+      or_turned : (b c : Bool) → (b || c) ≡ (c || b)
+      or_turned true true = refl
+      or_turned true false = refl
+      or_turned false true = refl
+      or_turned false false = refl
+  pairs_alike None (Some us) h f = absurd h
+  pairs_alike (Some xs) None h f = absurd h

@@ -11,3 +11,4 @@ pub mod AroundLaws
 pub mod AddsLaws
 pub mod WalksLaws
 pub mod TwiceLaws
+pub mod LearnLaws

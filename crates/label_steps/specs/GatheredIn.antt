@@ -44,3 +44,9 @@ turns_on (Some xs) ys = flat_map (λ y. map (λ x. in_turn x y) xs) ys
 abbrev pub PassesSide : Known → Gathered → Gathered → List code.Side → List code.Side → List Side → Type 0
 PassesSide k old new met more ss =
     (rs : List Side) → Same (map side_of met) rs → Adds k old new [] (flat_map (λ s. map (at_once s) rs) ss) × Same (map side_of more) (ss ++ rs)
+
+-- where something is gathered
+abbrev pub AddsSome : Known → Option Gathered → Option Gathered → List Word → List Pair → Type 0
+AddsSome k None None xs ps = Unit {0}
+AddsSome k (Some a) (Some b) xs ps = Adds k a b xs ps
+AddsSome k _ _ xs ps = ⊥

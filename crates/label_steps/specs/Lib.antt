@@ -11,3 +11,4 @@ pub mod KnownIn
 pub mod AroundIn
 pub mod GatheredIn
 pub mod WalksIn
+pub mod MacrosIn

@@ -52,6 +52,17 @@ fn side_put(
 }
 
 impl Gathered {
+    /// Nothing.
+    pub fn new(alloc: Global) -> Gathered
+        ensures names { result.names.keys ≡ [] }
+        ensures pairs { result.pairs.keys ≡ [] }
+    {
+        Gathered {
+            names: IndexSet::new(alloc),
+            pairs: IndexSet::new(alloc),
+        }
+    }
+
     // The second name is assigned after the first.
     fn turn(&mut self, known: &Known, first: &Name, second: &Name) -> Result<(), AllocError>
         ensures { OnOk result (Adds known.now self.old self.new [] (in_turn first.now second.now ∷ [])) }

@@ -6,6 +6,7 @@ pub mod due;
 pub mod gathered;
 pub mod known;
 pub mod laws;
+pub mod macros;
 pub mod path;
 pub mod put;
 pub mod sides;
