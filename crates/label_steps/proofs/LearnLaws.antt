@@ -4,6 +4,7 @@ use Rattle.std.specs.List.{list_any, flat_map}
 use Rattle.std.proofs.lemmas.Bool.{or_parts}
 use Rattle.std.proofs.lemmas.List.{take_more, take_all, map-append}
 use Rattle.std.proofs.lemmas.List.Folds.{list_any-append}
+use Rattle.std.proofs.lemmas.List.{reverse-append}
 use Rattle.std.proofs.Math.Bool.{or-false}
 use Rattle.tla_token.specs.Signs.{is_among}
 use Rattle.tla_tree.specs.Tree.{Word, Trees, Tree, no_trees, tree, Graft}
@@ -29,6 +30,7 @@ use Rattle.label_steps.specs.StraightPaths.{straight_visits}
 use Rattle.label_steps.specs.WalksIn.{SameVariables, Gains}
 use Rattle.label_steps.proofs.AddsLaws.{any_inserted, plain_names}
 use Rattle.label_steps.proofs.GatherLaws.{gathered_is}
+use Rattle.label_steps.proofs.StraightLaws.{neither_one}
 use Rattle.label_steps.proofs.TwiceLaws.{outside}
 
 -- ---- parameters
@@ -74,7 +76,7 @@ one_inside f (y ∷ ys) (suc i) x e l h = one_inside f ys i x e (omega (arith, l
 pub same_variables : (a : Around) (ms : List found.Summary) → a.name ≡ None → a.own.items ≡ [] → SameVariables (assigning (found_here ms)) (effects_around a ms)
 same_variables a ms n o st f = sym (ap (λ (E : Effects). list_any f (E st).variables) (outside a ms n o) ∙ ap (list_any f) (plain_names ms st))
 
-pub is_gathered : (a : Around) (ms : List found.Summary) (empty r : Gathered) (m n : Met) (b : Statements) → a.name ≡ None → a.own.items ≡ [] → due_in false None b ≡ [] → empty.names.keys ≡ [] → empty.pairs.keys ≡ [] → m.found ≡ Some empty
+is_gathered : (a : Around) (ms : List found.Summary) (empty r : Gathered) (m n : Met) (b : Statements) → a.name ≡ None → a.own.items ≡ [] → due_in false None b ≡ [] → empty.names.keys ≡ [] → empty.pairs.keys ≡ [] → m.found ≡ Some empty
     → n.found ≡ Some r → Gains a ms m n (straight_visits (assigning (found_here ms)) (Some []) b) → IsGathered a.known.params.keys r ms b
 is_gathered a ms empty r m n b name own due none no_pairs before after g =
     let adds : Adds a.known empty r (gathered (found_here ms) (Some []) b).names (gathered (found_here ms) (Some []) b).pairs =
@@ -87,8 +89,27 @@ is_gathered a ms empty r m n b name own due none no_pairs before after g =
           adds.pairs h z ∙ ap (λ (ps : List Pair). breaks h (map pair_of ps ++ (gathered (found_here ms) (Some []) b).pairs)) no_pairs ∙ is.pairs (is_broken (put_for h));
     }
 
-pub never_gathered : (a : Around) (ms : List found.Summary) (empty : Gathered) (m n : Met) (b : Statements) → a.name ≡ None → a.own.items ≡ [] → m.found ≡ Some empty → n.found ≡ None
+never_gathered : (a : Around) (ms : List found.Summary) (empty : Gathered) (m n : Met) (b : Statements) → a.name ≡ None → a.own.items ≡ [] → m.found ≡ Some empty → n.found ≡ None
     → Gains a ms m n (straight_visits (assigning (found_here ms)) (Some []) b) → ⊥
 never_gathered a ms empty m n b name own before after g =
     subst (λ (o : Option Gathered). AddsSome a.known o None (gathered (found_here ms) (Some []) b).names (gathered (found_here ms) (Some []) b).pairs) before
     (subst (λ (o : Option Gathered). AddsSome a.known m.found o (gathered (found_here ms) (Some []) b).names (gathered (found_here ms) (Some []) b).pairs) after (g.found name own))
+
+pub taken_gathered : (a : Around) (ms : List found.Summary) (empty r : Gathered) (m n : Met) (b : Statements) → a.name ≡ None → a.own.items ≡ [] → due_in false None b ≡ [] → empty.names.keys ≡ [] → empty.pairs.keys ≡ [] → m.found ≡ Some empty
+    → ((g : Gathered) → n.found ≡ Some g → r ≡ g) → Gains a ms m n (straight_visits (assigning (found_here ms)) (Some []) b) → IsGathered a.known.params.keys r ms b
+taken_gathered a ms empty r m n b name own due none no_pairs before after g = by n.found refl
+  where
+    by : (o : Option Gathered) → n.found ≡ o → IsGathered a.known.params.keys r ms b
+    by None e = absurd (never_gathered a ms empty m n b name own before e g)
+    by (Some x) e = subst (λ (z : Gathered). IsGathered a.known.params.keys z ms b) (sym (after x e)) (is_gathered a ms empty x m n b name own due none no_pairs before e g)
+
+-- ---- one more
+
+pub one_due : {X Y Z : Type 0} (f : Y → List Z) (h : X → Y) (xs : List X) (i : ℕ) (x : X) → x ≡ get_or xs i x → i < length xs → flat_map f (map h xs) ≡ [] → f (h x) ≡ []
+one_due f h [] i x e l d = absurd (omega (arith, l))
+one_due f h (y ∷ ys) zero x e l d = ap (λ z. f (h z)) e ∙ (neither_one (f (h y)) (flat_map f (map h ys)) d).0
+one_due f h (y ∷ ys) (suc i) x e l d = one_due f h ys i x e (omega (arith, l)) (neither_one (f (h y)) (flat_map f (map h ys)) d).1
+
+pub newest_first : {X Y : Type 0} (h : X → Y) (xs : List X) (i : ℕ) (x : X) → x ≡ get_or xs i x → i < length xs → reverse (map h (take (i + 1) xs)) ≡ h x ∷ reverse (map h (take i xs))
+newest_first {X = X} h xs i x e l =
+    ap (λ (ys : List X). reverse (map h ys)) (take_more xs i x l ∙ ap (λ (z : X). take i xs ++ z ∷ []) (sym e)) ∙ ap reverse (map-append h (take i xs) (x ∷ [])) ∙ reverse-append (map h (take i xs)) (h x ∷ [])

@@ -1,6 +1,6 @@
 //! What is known of the macros of an algorithm.
 
-ghost use Rattle.std.specs.Prelude.{◌≡◌, ◌≤◌, ◌∷◌, ◌||◌, List, [], false, None, length, map, reverse, IfOk, OnOk};
+ghost use Rattle.std.specs.Prelude.{◌≡◌, ◌≤◌, ◌∷◌, ◌||◌, List, [], false, Some, None, length, map, reverse, IfOk, OnOk};
 ghost use Rattle.std.specs.List.{list_any, flat_map};
 ghost use Rattle.tla_token.specs.Signs.{is_among};
 ghost use Rattle.tla_tree.specs.Nesting.{greatest};
@@ -9,6 +9,7 @@ ghost use Rattle.pcal_tree.specs.InMemory.{statements_at, macro_at, past_stateme
 ghost use Rattle.pcal_tree.specs.laws.MacroSummaries.{Summary as Found, summaries};
 ghost use Rattle.label_steps.specs.KnownIn.{AreMacros, IsSummary};
 ghost use Rattle.label_steps.specs.MacrosIn.{params_of, AreInside, IsGathered, summary_after, StaysAround};
+ghost use Rattle.label_steps.specs.declared.gathered.Gathered.{Gathered as PureGathered};
 ghost use Rattle.label_steps.specs.MissingLabels.{due_in};
 
 use crate::around::Around;
@@ -35,12 +36,29 @@ fn copies(alloc: Global, names: &[PlacedName]) -> Result<Vec<PlacedName>, AllocE
     Ok(list)
 }
 
+// The name alone.
+fn name_of(one: &PlacedName) -> Result<Name, AllocError>
+    ensures { IfOk result (λ r. r ≡ one.now.word) }
+{
+    one.name.copied()
+}
+
+// What was gathered; nothing where nothing was to be.
+fn taken(alloc: Global, found: Option<Gathered>) -> Gathered
+    ensures { (a : PureGathered) → found ≡ Some a → result ≡ a }
+{
+    match found {
+        None => Gathered::new(alloc),
+        Some(gathered) => gathered,
+    }
+}
+
 // These parameters are there too.
 fn add_params(set: &mut IndexSet<Name>, params: &[PlacedName]) -> Result<(), AllocError>
     ensures { OnOk result ((x : Word) → is_among set.new.keys x ≡ (is_among set.old.keys x || is_among (params_of params.now) x)) }
 {
     for one in params {
-        set.insert(one.name.copied()?)?;
+        set.insert(name_of(one)?)?;
     }
     Ok(())
 }
@@ -73,10 +91,8 @@ impl Around {
             found: Some(Gathered::new(alloc)),
         };
         self.list(alloc, pool, &mut path, &mut met, stmts)?;
-        match met.found {
-            None => Ok(Gathered::new(alloc)),
-            Some(found) => Ok(found),
-        }
+        let Met { found, .. } = met;
+        Ok(taken(alloc, found))
     }
 
     // A macro's summary.
@@ -101,7 +117,7 @@ impl Around {
         let summary = self.summary(alloc, pool, one)?;
         self.known.summaries.push(summary)?;
         let number = self.known.summaries.len();
-        self.known.numbers.set(one.name.name.copied()?, number)?;
+        self.known.numbers.set(name_of(&one.name)?, number)?;
         Ok(())
     }
 }
