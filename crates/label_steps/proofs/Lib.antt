@@ -12,3 +12,4 @@ pub mod AddsLaws
 pub mod WalksLaws
 pub mod TwiceLaws
 pub mod LearnLaws
+pub mod AgreeLaws

@@ -75,13 +75,13 @@ alike_joined (Some xs) (Some ys) (Some us) None h k = absurd k
 alike_joined None (Some ys) o r h k = absurd h
 alike_joined (Some xs) None o r h k = absurd h
 
-has_alike : (p q : paths.Path) (xs ys : List Word) → Alike p q → Same xs ys → has_assigned p xs ≡ has_assigned q ys
+pub has_alike : (p q : paths.Path) (xs ys : List Word) → Alike p q → Same xs ys → has_assigned p xs ≡ has_assigned q ys
 has_alike None None xs ys h s = refl
 has_alike (Some us) (Some vs) xs ys h s = meets_same us vs xs ys h s
 has_alike None (Some vs) xs ys h s = absurd h
 has_alike (Some us) None xs ys h s = absurd h
 
-assigned_alike : (xs ys : List Word) (p q : paths.Path) → Same xs ys → Alike p q → Alike (option_map (λ us. xs ++ us) p) (option_map (λ us. ys ++ us) q)
+pub assigned_alike : (xs ys : List Word) (p q : paths.Path) → Same xs ys → Alike p q → Alike (option_map (λ us. xs ++ us) p) (option_map (λ us. ys ++ us) q)
 assigned_alike xs ys None None s h = h
 assigned_alike xs ys (Some us) (Some vs) s h = same_both xs ys us vs s h
 assigned_alike xs ys None (Some vs) s h = absurd h

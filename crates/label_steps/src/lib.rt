@@ -10,7 +10,9 @@ pub mod macros;
 pub mod path;
 pub mod put;
 pub mod sides;
+pub mod steps;
 pub mod twice;
 pub mod walk;
 
 pub use due::due_refusal;
+pub use steps::steps_refusal;
