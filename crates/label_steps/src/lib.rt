@@ -5,6 +5,7 @@ pub mod around;
 pub mod due;
 pub mod gathered;
 pub mod known;
+pub mod labels;
 pub mod laws;
 pub mod macros;
 pub mod path;
@@ -15,4 +16,5 @@ pub mod twice;
 pub mod walk;
 
 pub use due::due_refusal;
+pub use labels::label_refusal;
 pub use steps::steps_refusal;
