@@ -1,22 +1,18 @@
 -- What is gathered, one thing after another: each once, and no pair of names that never are one variable.
-use Rattle.std.proofs.Common.{◌≡◌, ℕ, ◌+◌, ◌<◌, ◌≤◌, Bool, true, false, ◌&&◌, ◌||◌, List, [], ◌∷◌, ◌++◌, length, take, get_or, map, Option, Some, None, Vec, Global, refl, sym, ap, ◌∙◌, subst, cond, append-nil, append_assoc, bytes_eq}
+use Rattle.std.proofs.Common.{◌≡◌, ℕ, ◌+◌, ◌<◌, ◌≤◌, Bool, true, false, ◌&&◌, ◌||◌, List, [], ◌∷◌, ◌++◌, length, take, get_or, map, Option, Some, None, refl, sym, ap, ◌∙◌, subst, cond, append-nil, append_assoc, bytes_eq}
 use Rattle.std.specs.Prelude.{if◌then◌else◌}
 use Rattle.std.specs.List.{list_any, flat_map}
 use Rattle.std.specs.Option.{option_or}
 use Rattle.std.proofs.lemmas.Bool.{and_parts, or_parts}
-use Rattle.std.proofs.lemmas.List.{take_more, take_all, map-append}
+use Rattle.std.proofs.lemmas.List.{take_more, take_all}
 use Rattle.std.proofs.lemmas.List.Folds.{list_any-append}
 use Rattle.std.proofs.lemmas.Grind.{flat_map-append}
 use Rattle.std.proofs.Math.Bool.{or-false}
 use Rattle.indexmap.specs.IndexSet.{insert_key}
 use Rattle.tla_token.specs.Signs.{is_among}
-use Rattle.tla_tree.specs.Tree.{Word, Tree, Trees, Graft, grafts}
-use Rattle.algorithm_limits.proofs.Tables.{equal, equal_is, same_test}
-use Rattle.pcal_tree.specs.declared.algorithm.Assignment.{Assignment}
-use Rattle.pcal_tree.specs.declared.algorithm.Simple as declared_simple
-use Rattle.pcal_tree.specs.declared.algorithm.Simple.TheVariants as simple
-use Rattle.pcal_tree.specs.Algorithm.{nowhere, Name, Assignments, no_assignments, assignment, Statement, assign, await, print, assert, skip, branch, either, with, while, goto, macro, call, return}
-use Rattle.pcal_tree.specs.InMemory.{simple_at}
+use Rattle.tla_tree.specs.Tree.{Word, Trees, Graft, grafts}
+use Rattle.algorithm_limits.proofs.Tables.{equal, equal_is}
+use Rattle.pcal_tree.specs.Algorithm.{Name, Assignments, no_assignments, assignment, Statement, assign, await, print, assert, skip, branch, either, with, while, goto, macro, call, return}
 use Rattle.pcal_tree.specs.OffencesSteps.{called_with, effect_with, outer_effects}
 use Rattle.pcal_tree.specs.Paths as paths
 use Rattle.pcal_tree.specs.Paths.{root, roots, is_whole, some_word, same_word}
@@ -199,13 +195,13 @@ module _ (k : Known) where
   side_some a b met more x v w o e same g n =
       subst (λ (p : Option Word). PassesSide k a b met more (sides_of w p)) (sym e) (subst (λ (u : Bool). PassesSide k a b met more (sides_of u (Some x))) same (λ rs s. (
         adds_as k a b [] [] (flat_map (λ s. at_once one (side_of s) ∷ []) met) (map (at_once one) rs ++ []) (λ f. refl) (λ h z.
-        ap (breaks h) (singles (λ s. at_once one (side_of s)) met) ∙ any_map (is_broken (put_for h)) (λ s. at_once one (side_of s)) met
-        ∙ sym (any_map (λ r. is_broken (put_for h) (at_once one r)) side_of met) ∙ s (λ r. is_broken (put_for h) (at_once one r)) ∙ sym (any_map (is_broken (put_for h)) (at_once one) rs)
-        ∙ ap (breaks h) (sym (append-nil (map (at_once one) rs)))) g,
+            ap (breaks h) (singles (λ s. at_once one (side_of s)) met) ∙ any_map (is_broken (put_for h)) (λ s. at_once one (side_of s)) met
+            ∙ sym (any_map (λ r. is_broken (put_for h) (at_once one r)) side_of met) ∙ s (λ r. is_broken (put_for h) (at_once one r)) ∙ sym (any_map (is_broken (put_for h)) (at_once one) rs)
+            ∙ ap (breaks h) (sym (append-nil (map (at_once one) rs)))) g,
         λ f.
-        ap (λ (ss : List Side). list_any f (map side_of ss)) n ∙ any_map f side_of (insert_key same_sides.it met (record { name = x; whole = v }))
-        ∙ any_inserted same_sides.it sides_sound (λ r. f (side_of r)) met (record { name = x; whole = v }) ∙ ap (λ (t : Bool). t || f one) (sym (any_map f side_of met) ∙ s f)
-        ∙ or_turned (list_any f rs) (f one),
+            ap (λ (ss : List Side). list_any f (map side_of ss)) n ∙ any_map f side_of (insert_key same_sides.it met (record { name = x; whole = v }))
+            ∙ any_inserted same_sides.it sides_sound (λ r. f (side_of r)) met (record { name = x; whole = v }) ∙ ap (λ (t : Bool). t || f one) (sym (any_map f side_of met) ∙ s f)
+            ∙ or_turned (list_any f rs) (f one),
       )))
     where
       one : found.Side
@@ -222,8 +218,8 @@ module _ (k : Known) where
   sides_step a b c met more w None rs s g h = (subst (λ (ps : List found.Pair). Adds k a c [] ps) (append-nil (pairs_of rs)) (adds_then k a b c [] [] (pairs_of rs) [] g (h rs s).0), (h rs s).1)
   sides_step a b c met more w (Some x) rs s g h = (
     adds_as k a c [] [] (pairs_of rs ++ (these ++ [])) (these ++ pairs_of rs) (λ f. refl) (λ f z.
-    list_any-append (is_broken (put_for f)) (pairs_of rs) (these ++ []) ∙ ap (λ (b : Bool). breaks f (pairs_of rs) || b) (ap (breaks f) (append-nil these))
-    ∙ or_turned (breaks f (pairs_of rs)) (breaks f these) ∙ sym (list_any-append (is_broken (put_for f)) these (pairs_of rs))) (adds_then k a b c [] [] (pairs_of rs) (these ++ []) g (h rs s).0),
+        list_any-append (is_broken (put_for f)) (pairs_of rs) (these ++ []) ∙ ap (λ (b : Bool). breaks f (pairs_of rs) || b) (ap (breaks f) (append-nil these))
+        ∙ or_turned (breaks f (pairs_of rs)) (breaks f these) ∙ sym (list_any-append (is_broken (put_for f)) these (pairs_of rs))) (adds_then k a b c [] [] (pairs_of rs) (these ++ []) g (h rs s).0),
     (h rs s).1,
   )
     where

@@ -1,5 +1,5 @@
 -- What is assigned twice along straight paths rests on what calls assign, and not on how that is computed.
-use Rattle.std.proofs.Common.{◌≡◌, List, [], ◌∷◌, ◌++◌, Bool, true, false, ◌||◌, Option, Some, None, reverse, refl, sym, ap, ◌∙◌}
+use Rattle.std.proofs.Common.{◌≡◌, List, [], ◌∷◌, ◌++◌, Bool, false, ◌||◌, Option, Some, None, reverse, refl, sym, ap, ◌∙◌}
 use Rattle.std.specs.List.{flat_map}
 use Rattle.std.specs.Option.{option_or}
 use Rattle.std.proofs.lemmas.Grind.{flat_map-append}
@@ -10,7 +10,7 @@ use Rattle.tla_tree.specs.Tree.{Word, Trees}
 use Rattle.pcal_tree.specs.Algorithm.{Name, Statement, assign, await, print, assert, skip, branch, either, with, while, goto, macro, call, return, Statements, done, then, mark, Branches, no_branches, or, Macro, Procedure, Process, Main, alone, processes, Algorithm}
 use Rattle.pcal_tree.specs.Offences.{offence_if, first}
 use Rattle.pcal_tree.specs.OffencesSteps.{inside, Visit, effect_with, call_effect, effects_in, procedure_effects, outer_effects}
-use Rattle.pcal_tree.specs.Paths.{Effect, Effects, Path, joined}
+use Rattle.pcal_tree.specs.Paths.{Effect, Effects, Path}
 use Rattle.pcal_tree.specs.Run.{Partner, return_partner, partner_of}
 use Rattle.pcal_tree.specs.Variables.{declared}
 use Rattle.pcal_tree.specs.laws.MacroSummaries.{summaries, summary_effect}
@@ -84,8 +84,8 @@ module _ (E F : Effects) (a : AgreeAll E F) where
     list_twice (mark n m rest) p q k = list_twice rest (Some []) (Some []) (λ f. refl)
     list_twice (then at st rest) p q k =
         let more =
-            two (straight_inside E p st) (straight_visits E (straight_one E st p) rest) (straight_inside F q st) (straight_visits F (straight_one F st q) rest) (inside_twice st p q k)
-            (list_twice rest (straight_one E st p) (straight_one F st q) (one_alike st p q k)) in
+        two (straight_inside E p st) (straight_visits E (straight_one E st p) rest) (straight_inside F q st) (straight_visits F (straight_one F st q) rest) (inside_twice st p q k)
+        (list_twice rest (straight_one E st p) (straight_one F st q) (one_alike st p q k)) in
         λ i. here p q k at.first st (partner_of rest) i ++ more i
 
     some_twice : (bs : Branches) (p q : Path) → Alike p q → flat_map (twice_at E) (straight_in_some E p bs) ≡ flat_map (twice_at F) (straight_in_some F q bs)

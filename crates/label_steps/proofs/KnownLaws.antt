@@ -36,16 +36,8 @@ assigns_found : (ms : List found.Summary) (m : Word) (ts : Trees) (s : Step) (o 
 assigns_found ms m ts s o e a = subst (λ (f : Effect). Assigns s f) (ap (λ (p : Option found.Summary). effect_found p ts) (sym e) ∙ found_call ms m ts) a
 
 -- a name of no macro
-pub no_call : (k : Known) (ms : List found.Summary) (m : Word) (ts : Trees) (s : Step) → AreMacros k ms → number_of k.numbers m ≡ 0 → s.names.items ≡ [] → s.twice ≡ false → Assigns s (summary_effect ms m ts)
-no_call k ms m ts s a e n t =
-    assigns_found ms m ts s None (subst (λ (i : ℕ). IsFound k.params.keys k.summaries.items i (find_summary ms m)) e (a m)) (record { names = λ f. ap (list_any f) n; twice = t })
-
-pub past_call : (k : Known) (ms : List found.Summary) (m : Word) (ts : Trees) (s : Step) → AreMacros k ms → length k.summaries.items < number_of k.numbers m → Assigns s (summary_effect ms m ts)
-past_call k ms m ts s a less = by (number_of k.numbers m) less (a m)
-  where
-    by : (n : ℕ) → length k.summaries.items < n → IsFound k.params.keys k.summaries.items n (find_summary ms m) → Assigns s (summary_effect ms m ts)
-    by zero l f = absurd (omega (arith, l))
-    by (suc i) l f = let h = slice_get_within k.summaries.items i f.1 f.3 in absurd (omega (arith, l, h))
+pub no_call : (ms : List found.Summary) (m : Word) (ts : Trees) (s : Step) → find_summary ms m ≡ None → s.names.items ≡ [] → s.twice ≡ false → Assigns s (summary_effect ms m ts)
+no_call ms m ts s e n t = assigns_found ms m ts s None e (record { names = λ f. ap (list_any f) n; twice = t })
 
 -- by the macro's summary
 step_assigns : (xs : List Word) (r : Step) (s : Summary) (d : found.Summary) (ts : Trees) → r.names.items ≡ flat_map (variable_put s.params.items ts) s.names.keys
@@ -60,12 +52,9 @@ step_assigns xs r s d ts n t h = record {
       ∙ h.pairs (arguments d.params ts) (record { anywhere = arguments_anywhere d.params ts; params = λ x e. h.inside x e ts });
 }
 
-pub found_assigns : (k : Known) (ms : List found.Summary) (m : Word) (ts : Trees) (r : Step) (s : Summary) → AreMacros k ms → (i : ℕ) → number_of k.numbers m ≡ suc i → s ≡ get_or k.summaries.items i s
+pub one_call : (xs : List Word) (ms : List found.Summary) (m : Word) (ts : Trees) (r : Step) (s : Summary) (d : found.Summary) → find_summary ms m ≡ Some d → IsSummary xs s d
     → r.names.items ≡ flat_map (variable_put s.params.items ts) s.names.keys → r.twice ≡ list_any (is_broken (argument s.params.items ts)) (map pair_of s.pairs.keys) → Assigns r (summary_effect ms m ts)
-found_assigns k ms m ts r s a i e is n t =
-    let f = subst (λ (j : ℕ). IsFound k.params.keys k.summaries.items j (find_summary ms m)) e (a m) in
-    let same : f.1 ≡ s = sym (get_or_from_slice_get k.summaries.items i f.1 s f.3) ∙ sym is in
-    assigns_found ms m ts r (Some f.0) f.2 (step_assigns k.params.keys r s f.0 ts n t (subst (λ (q : Summary). IsSummary k.params.keys q f.0) same f.4))
+one_call xs ms m ts r s d e is n t = assigns_found ms m ts r (Some d) e (step_assigns xs r s d ts n t is)
 
 -- ---- one more macro
 

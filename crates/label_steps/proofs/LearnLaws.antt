@@ -1,28 +1,27 @@
 -- What is known of macros, one after another.
-use Rattle.std.proofs.Common.{◌≡◌, ℕ, zero, suc, arith, ◌+◌, ◌<◌, ◌≤◌, Bool, true, false, ◌||◌, List, [], ◌∷◌, ◌++◌, length, take, get_or, map, reverse, Option, Some, None, refl, sym, ap, ◌∙◌, subst, cond, append-nil, bytes_eq}
+use Rattle.std.proofs.Common.{◌≡◌, ℕ, zero, suc, arith, ◌+◌, ◌<◌, Bool, true, false, ◌||◌, List, [], ◌∷◌, ◌++◌, length, take, get_or, map, reverse, Option, Some, None, refl, sym, ap, ◌∙◌, subst, cond, bytes_eq}
 use Rattle.std.specs.List.{list_any, flat_map}
 use Rattle.std.proofs.lemmas.Bool.{or_parts}
-use Rattle.std.proofs.lemmas.List.{take_more, take_all, map-append}
+use Rattle.std.proofs.lemmas.List.{take_more, map-append}
 use Rattle.std.proofs.lemmas.List.Folds.{list_any-append}
 use Rattle.std.proofs.lemmas.List.{reverse-append}
 use Rattle.std.proofs.Math.Bool.{or-false}
 use Rattle.tla_token.specs.Signs.{is_among}
-use Rattle.tla_tree.specs.Tree.{Word, Trees, Tree, no_trees, tree, Graft}
+use Rattle.tla_tree.specs.Tree.{Word, Trees, no_trees, tree}
 use Rattle.indexmap.specs.IndexSet.{insert_key}
 use Rattle.algorithm_limits.proofs.Tables.{equal, equal_is}
-use Rattle.pcal_tree.specs.Algorithm.{Name, Statements, Statement}
+use Rattle.pcal_tree.specs.Algorithm.{Name, Statements}
 use Rattle.pcal_tree.specs.Paths.{Effects}
 use Rattle.pcal_tree.specs.laws.MacroSummaries as found
 use Rattle.pcal_tree.specs.laws.MacroSummaries.{argument, found_here, is_broken}
 use Rattle.pcal_tree.proofs.TargetLaws.{put_for}
 use Rattle.label_steps.specs.declared.put.Pair.{Pair}
 use Rattle.label_steps.specs.PutIn.{pair_of, breaks}
-use Rattle.pcal_tree.proofs.SetLaws.{Same}
 use Rattle.label_steps.specs.declared.around.Around.{Around}
 use Rattle.label_steps.specs.declared.gathered.Gathered.{Gathered}
 use Rattle.label_steps.specs.declared.walk.Met.{Met}
 use Rattle.label_steps.specs.AroundIn.{effects_around}
-use Rattle.label_steps.specs.Gathered.{assigning, gathered, names_met, pairs_met}
+use Rattle.label_steps.specs.Gathered.{assigning, gathered}
 use Rattle.label_steps.specs.GatheredIn.{AddsSome, Adds}
 use Rattle.label_steps.specs.MacrosIn.{params_of, AreInside, IsGathered}
 use Rattle.label_steps.specs.MissingLabels.{due_in}

@@ -83,17 +83,12 @@ impl Known {
         requires { past_numbers args.now ≤ length pool.now }
         ensures { IfOk result (λ r. (ms : List Found) → AreMacros self.now ms → Assigns r (summary_effect ms name.now (trees_at pool.now args.now))) }
     {
-        let number = self.numbers.get(name);
-        if number == 0 {
-            return Ok(nothing(alloc));
+        match self.find(name) {
+            None => Ok(nothing(alloc)),
+            Some(summary) => {
+                let step = summary.step(alloc, pool, args)?;
+                Ok(step)
+            }
         }
-        let summaries = self.summaries.as_slice();
-        if number > summaries.len() {
-            return Ok(nothing(alloc));
-        }
-        let place = number - 1;
-        let summary = &summaries[place];
-        let step = summary.step(alloc, pool, args)?;
-        Ok(step)
     }
 }

@@ -12,6 +12,7 @@ pub mod path;
 pub mod put;
 pub mod sides;
 pub mod steps;
+pub mod truths;
 pub mod twice;
 pub mod walk;
 

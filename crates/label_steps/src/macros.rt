@@ -76,12 +76,7 @@ fn all_params(alloc: Global, macros: &[Macro]) -> Result<IndexSet<Name>, AllocEr
 
 impl Around {
     // What is gathered of a macro's body.
-    fn gathered(
-        &self,
-        alloc: Global,
-        pool: &Pool,
-        stmts: &[Stmt],
-    ) -> Result<Gathered, AllocError>
+    fn gathered(&self, alloc: Global, pool: &Pool, stmts: &[Stmt]) -> Result<Gathered, AllocError>
         requires { past_statements stmts.now ≤ length pool.now }
         ensures { IfOk result (λ r. (ms : List Found) → AreMacros self.now.known ms → self.now.name ≡ None → self.now.own.items ≡ [] → due_in false None (statements_at pool.now stmts.now) ≡ [] → IsGathered self.now.known.params.keys r ms (statements_at pool.now stmts.now)) }
     {

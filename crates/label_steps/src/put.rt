@@ -11,6 +11,7 @@ ghost use Rattle.pcal_tree.specs.laws.MacroSummaries.{argument, resolved, resolv
 ghost use Rattle.label_steps.specs.PutIn.{side_of, pair_of, variable_put};
 
 use crate::sides::{Step, is_whole, root};
+use crate::truths::{both, either};
 use indexmap::IndexSet;
 use std::alloc::{AllocError, Global};
 use tla_pool::Pool;
@@ -67,20 +68,6 @@ pub fn same(a: &Name, b: &Name) -> bool
     ensures { result ≡ bytes_eq a.now b.now }
 {
     b == a
-}
-
-// Whether one of the two holds.
-fn either(a: bool, b: bool) -> bool
-    ensures { result ≡ (a || b) }
-{
-    a || b
-}
-
-// Whether both hold.
-fn both(a: bool, b: bool) -> bool
-    ensures { result ≡ (a && b) }
-{
-    a && b
 }
 
 // The argument that stands for a name, if one does.

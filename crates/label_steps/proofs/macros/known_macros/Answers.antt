@@ -1,5 +1,5 @@
 -- Proves that what is known of macros is found.
-use Rattle.std.proofs.Common.{◌≡◌, ◌∷◌, false, None, [], List, map, reverse, take, sym, ap, ◌∙◌, subst, arith}
+use Rattle.std.proofs.Common.{false, None, List, map, reverse, take, sym, ap, ◌∙◌, subst, arith}
 use Rattle.tla_token.specs.Signs.{is_among}
 use Rattle.tla_tree.proofs.PoolNumbers.{past_at}
 use Rattle.pcal_tree.specs.declared.algorithm.Macro.{Macro}

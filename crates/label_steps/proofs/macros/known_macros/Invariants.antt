@@ -1,5 +1,5 @@
 -- What is kept: the macros that were passed are known.
-use Rattle.std.proofs.Common.{◌≡◌, false, None, [], List, map, reverse, take}
+use Rattle.std.proofs.Common.{◌≡◌, false, None, [], map, reverse, take}
 use Rattle.std.specs.List.{list_any, flat_map}
 use Rattle.tla_token.specs.Signs.{is_among}
 use Rattle.tla_tree.specs.Tree.{Word}

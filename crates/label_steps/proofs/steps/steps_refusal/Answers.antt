@@ -1,5 +1,5 @@
 -- Proves that the first of what is missing or assigned twice is found.
-use Rattle.std.proofs.Common.{◌≡◌, false, None, [], List, map, reverse, sym, ap, ◌∙◌, subst}
+use Rattle.std.proofs.Common.{◌≡◌, false, None, [], List, map, reverse, sym, ◌∙◌, subst}
 use Rattle.std.specs.List.{flat_map}
 use Rattle.std.proofs.lemmas.Result.{IfOk-weaker}
 use Rattle.pcal_tree.specs.declared.algorithm.Macro.{Macro}

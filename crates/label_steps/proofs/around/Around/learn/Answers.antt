@@ -1,5 +1,5 @@
 -- Proves that one more macro is known.
-use Rattle.std.proofs.Common.{◌≡◌, ◌+◌, ◌∷◌, [], List, length, refl, ap, ◌∙◌, arith}
+use Rattle.std.proofs.Common.{◌∷◌, [], List, length, refl, ap, ◌∙◌, arith}
 use Rattle.std.proofs.lemmas.List.{length-append}
 use Rattle.tla_tree.specs.Tree.{Word}
 use Rattle.algorithm_limits.specs.Numbers.{with_number}

@@ -1,5 +1,4 @@
 -- Proves that what pairs are is kept.
-use Rattle.std.proofs.Common.{[], ◌∷◌}
 use Rattle.tla_tree.specs.Pool.{trees_at}
 use Rattle.pcal_tree.specs.laws.MacroSummaries.{argument, put_pair}
 use Rattle.label_steps.specs.PutIn.{pair_of}

@@ -1,5 +1,5 @@
 -- Proves that the left sides of an assignment are kept.
-use Rattle.std.proofs.Common.{◌-◌, ◌+◌, ◌<◌, [], List, length, map, slice_index_or, drop, refl, subst, arith}
+use Rattle.std.proofs.Common.{◌-◌, ◌<◌, [], length, map, slice_index_or, drop, subst, arith}
 use Rattle.std.proofs.lemmas.List.{get_or_default}
 use Rattle.tla_tree.specs.Pool.{at}
 use Rattle.tla_tree.proofs.PoolNumbers.{past_at}
@@ -35,8 +35,8 @@ loop-i-preserved c =
     let e = slice_index_or ms i unset in
     let inside : i < length ms = omega (arith, c.loop-i-test.true) in
     let h =
-        sides_step c.args.known.now c.args.self.now c.loop-i.self c.side.new.self c.loop-i.met.keys c.side.new.sides.keys (is_whole (at ts e.left)) (root (at ts e.left)) (sides (assignments_at ts (drop (length ms - c.loop-i.i) ms)))
-        c.loop-i.invariant.met c.loop-i.invariant.adds c.in_ok-side.ensures in
+    sides_step c.args.known.now c.args.self.now c.loop-i.self c.side.new.self c.loop-i.met.keys c.side.new.sides.keys (is_whole (at ts e.left)) (root (at ts e.left)) (sides (assignments_at ts (drop (length ms - c.loop-i.i) ms)))
+    c.loop-i.invariant.met c.loop-i.invariant.adds c.in_ok-side.ensures in
     let next = next_side ts ms c.loop-i.i e (get_or_default ms i unset e inside) c.loop-i-test.true in
     record {
       adds = subst (λ (ns : Assignments). Adds c.args.known.now c.args.self.now c.side.new.self [] (pairs_of (sides ns))) next h.0;
