@@ -1,16 +1,12 @@
 -- What statements assign where they stand, one kind after another.
 use Rattle.std.proofs.Common.{◌≡◌, List, [], Bool, true, false, ◌||◌, Option, Some, None, refl, sym, ap, ◌∙◌, cond, bytes_eq}
 use Rattle.std.specs.List.{list_any}
-use Rattle.tla_tree.specs.Tree.{Name, Word, Tree, Trees}
-use Rattle.tla_tree.specs.Pool.{trees_at}
-use Rattle.pcal_tree.specs.declared.algorithm.Simple as declared_simple
-use Rattle.pcal_tree.specs.declared.algorithm.Simple.TheVariants as simple
+use Rattle.tla_tree.specs.Tree.{Name, Trees}
 use Rattle.pcal_tree.specs.Algorithm.{call}
-use Rattle.pcal_tree.specs.InMemory.{simple_at}
 use Rattle.pcal_tree.specs.Paths.{Effect, nothing}
 use Rattle.pcal_tree.specs.OffencesSteps.{effect_with}
 use Rattle.pcal_tree.specs.Run.{Partner, no_partner, goto_partner, return_partner, is_return}
-use Rattle.pcal_tree.specs.laws.MacroSummaries.{Summary, summary_effect}
+use Rattle.pcal_tree.specs.laws.MacroSummaries.{Summary}
 use Rattle.label_steps.specs.declared.around.Around.{Around}
 use Rattle.label_steps.specs.declared.sides.Step.{Step}
 use Rattle.label_steps.specs.AroundIn.{is_own, effects_around}

@@ -1,5 +1,5 @@
 -- What an algorithm's bodies assign twice.
-use Rattle.std.proofs.Common.{◌≡◌, List, [], ◌++◌, Option, Some, None, map, refl, sym, ap, ◌∙◌, subst}
+use Rattle.std.proofs.Common.{◌≡◌, List, [], ◌++◌, Option, Some, None, map, sym, ap, ◌∙◌}
 use Rattle.std.specs.List.{flat_map}
 use Rattle.std.proofs.lemmas.Simd.{map-map}
 use Rattle.std.proofs.lemmas.List.{map-append}
@@ -7,13 +7,11 @@ use Rattle.tla_token.specs.declared.rule.Refusal.{Refusal}
 use Rattle.tla_tree.specs.Tree.{Tree, Word, Trees}
 use Rattle.pcal_tree.specs.declared.algorithm.Declaration.{Declaration}
 use Rattle.pcal_tree.specs.declared.algorithm.Procedure.{Procedure}
-use Rattle.pcal_tree.specs.declared.algorithm.Main.{Main}
-use Rattle.pcal_tree.specs.declared.algorithm.Algorithm as code
 use Rattle.pcal_tree.specs.Algorithm as tree
-use Rattle.pcal_tree.specs.InMemory.{declaration_at, procedure_at, main_at, algorithm_at}
+use Rattle.pcal_tree.specs.InMemory.{declaration_at, procedure_at}
 use Rattle.pcal_tree.specs.Offences.{first}
 use Rattle.pcal_tree.specs.OffencesSteps.{effects_in, procedure_effects, outer_effects}
-use Rattle.pcal_tree.specs.Paths.{Effect, Effects}
+use Rattle.pcal_tree.specs.Paths.{Effect}
 use Rattle.pcal_tree.specs.Variables.{declared}
 use Rattle.pcal_tree.specs.laws.MacroSummaries.{Summary, summary_effect}
 use Rattle.algorithm_answer.specs.Joined.{joined}

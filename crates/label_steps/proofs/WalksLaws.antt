@@ -24,7 +24,7 @@ use Rattle.pcal_tree.specs.OffencesSteps.{holds_one, Visit, effect_with}
 use Rattle.pcal_tree.specs.Paths as paths
 use Rattle.pcal_tree.specs.Paths.{Effect, Effects, nothing, has_assigned, meets}
 use Rattle.pcal_tree.specs.Run.{Partner, no_partner, return_partner, is_return, partner_of}
-use Rattle.pcal_tree.specs.laws.MacroSummaries.{Summary}
+use Rattle.pcal_tree.specs.laws.MacroSummaries.{Summary, Pair, Found, found_here, found_on, none_found, is_broken}
 use Rattle.pcal_tree.proofs.InMemoryEach.{label_at, simple_in_list_at, if_at, either_at, with_at, while_at}
 use Rattle.pcal_tree.proofs.EffectLaws.{Alike}
 use Rattle.pcal_tree.proofs.SetLaws.{Same, same_both, meets_same}
@@ -37,9 +37,14 @@ use Rattle.label_steps.specs.declared.sides.Step.{Step}
 use Rattle.label_steps.specs.declared.walk.Met.{Met}
 use Rattle.label_steps.specs.AroundIn.{effects_around}
 use Rattle.label_steps.specs.AssignedTwice.{twice_at}
+use Rattle.label_steps.specs.Gathered.{names_met, pairs_met}
+use Rattle.label_steps.specs.GatheredIn.{AddsSome, names_on, turns_on}
 use Rattle.label_steps.specs.KnownIn.{Assigns}
 use Rattle.label_steps.specs.PathsIn.{Behind, path_of, ends_of}
 use Rattle.label_steps.specs.StraightPaths.{straight_one, straight, straight_some, straight_inside, straight_visits, straight_in_some}
+use Rattle.pcal_tree.proofs.TargetLaws.{put_for}
+use Rattle.label_steps.proofs.AddsLaws.{adds_some_none, adds_some_then, adds_some_as, outside_names, names_alike, pairs_alike}
+use Rattle.label_steps.proofs.TwiceLaws.{outside}
 use Rattle.label_steps.specs.WalksIn.{IsKind, SameVariables, Gains, Walks, one_visit, EndsSo, PassesOne, PassesAll, PassesArm, PassesArms}
 
 -- ---- paths that have assigned the same
@@ -70,13 +75,13 @@ alike_joined (Some xs) (Some ys) (Some us) None h k = absurd k
 alike_joined None (Some ys) o r h k = absurd h
 alike_joined (Some xs) None o r h k = absurd h
 
-has_alike : (p q : paths.Path) (xs ys : List Word) → Alike p q → Same xs ys → has_assigned p xs ≡ has_assigned q ys
+pub has_alike : (p q : paths.Path) (xs ys : List Word) → Alike p q → Same xs ys → has_assigned p xs ≡ has_assigned q ys
 has_alike None None xs ys h s = refl
 has_alike (Some us) (Some vs) xs ys h s = meets_same us vs xs ys h s
 has_alike None (Some vs) xs ys h s = absurd h
 has_alike (Some us) None xs ys h s = absurd h
 
-assigned_alike : (xs ys : List Word) (p q : paths.Path) → Same xs ys → Alike p q → Alike (option_map (λ us. xs ++ us) p) (option_map (λ us. ys ++ us) q)
+pub assigned_alike : (xs ys : List Word) (p q : paths.Path) → Same xs ys → Alike p q → Alike (option_map (λ us. xs ++ us) p) (option_map (λ us. ys ++ us) q)
 assigned_alike xs ys None None s h = h
 assigned_alike xs ys (Some us) (Some vs) s h = same_both xs ys us vs s h
 assigned_alike xs ys None (Some vs) s h = absurd h
@@ -89,13 +94,17 @@ same_path p q k r = λ i. cond (r i) (Some (k i)) None
 
 module _ (a : Around) (ms : List Summary) where
   pub gains_none : (m : Met) → Gains a ms m m []
-  gains_none m = record { first = sym (joined_none m.first) }
+  gains_none m = record { first = sym (joined_none m.first); found = λ n o. adds_some_none a.known m.found }
 
   pub gains_then : (m n o : Met) (vs ws : List Visit) → Gains a ms m n vs → Gains a ms n o ws → Gains a ms m o (vs ++ ws)
   gains_then m n o vs ws g h = record {
     first =
         found_then m.first n.first o.first (flat_map (twice_at (effects_around a ms)) vs) (flat_map (twice_at (effects_around a ms)) ws) g.first h.first
         ∙ ap (λ (rs : List Refusal). joined m.first (first rs)) (sym (flat_map-append (twice_at (effects_around a ms)) vs ws));
+    found = λ x y.
+        subst (λ (xs : List Word). AddsSome a.known m.found o.found xs (flat_map (pairs_met (found_here ms)) (vs ++ ws))) (sym (flat_map-append (names_met (found_here ms)) vs ws))
+        (subst (λ (ps : List Pair). AddsSome a.known m.found o.found (flat_map (names_met (found_here ms)) vs ++ flat_map (names_met (found_here ms)) ws) ps) (sym (flat_map-append (pairs_met (found_here ms)) vs ws))
+        (adds_some_then a.known m.found n.found o.found _ _ _ _ (g.found x y) (h.found x y)));
   }
 
 -- ---- statements with none in them
@@ -132,9 +141,10 @@ path_past ts E F s p q h j xs x n = by x n
 pub simple_passed : (a : Around) (ms : List Summary) (ts : List Tree) (E : Effects) → SameVariables E (effects_around a ms) → (p : paths.Path) (old new : Path) → Alike p (path_of old)
     → (j : Partner) (x : declared_simple.Simple) (at : Span) (place : Place) (step : Step) (m n : Met) (jumps : Bool) → Assigns step (effect_with (effects_around a ms) (simple_at ts x) j) → place ≡ at.first
     → n.first ≡ joined m.first (first (offence_if (step.twice || has_assigned (path_of old) step.names.items) AssignTwice place)) → jumps ≡ holds_one (simple_at ts x)
+    → AddsSome a.known m.found n.found (names_on (path_of old) step.names.items) (turns_on (path_of old) step.names.items ++ (found_here ms (simple_at ts x)).pairs)
     → Alike (path_of new) (cond jumps None (option_map (λ us. step.names.items ++ us) (path_of old)))
     → Walks a ms (straight_one E (simple_at ts x) p) new m n (one_visit p at (simple_at ts x) j ∷ straight_inside E p (simple_at ts x))
-simple_passed a ms ts E s p old new h j x at place step m n jumps k there e b moved = record {
+simple_passed a ms ts E s p old new h j x at place step m n jumps k there e b gathers moved = record {
   path =
       alike_then (straight_one E (simple_at ts x) p) (cond jumps None (option_map (λ us. step.names.items ++ us) (path_of old))) (path_of new)
       (subst (λ (c : Bool). Alike (straight_one E (simple_at ts x) p) (cond c None (option_map (λ us. step.names.items ++ us) (path_of old)))) (sym b)
@@ -147,6 +157,14 @@ simple_passed a ms ts E s p old new h j x at place step m n jumps k there e b mo
         (λ i. k.twice i || has_alike (path_of old) p step.names.items (effect_with (effects_around a ms) (simple_at ts x) j).variables (alike_sym p (path_of old) h) k.names i)
         ∙ ap (λ (l : Place). joined m.first (first (offence_if ((effect_with (effects_around a ms) (simple_at ts x) j).twice || has_assigned p (effect_with (effects_around a ms) (simple_at ts x) j).variables) AssignTwice l))) there
         ∙ ap (λ (rs : List Refusal). joined m.first (first rs)) (sym (append-nil (twice_at (effects_around a ms) (one_visit p at (simple_at ts x) j))));
+    found = λ name own.
+        let same : Same step.names.items (found_here ms (simple_at ts x)).names =
+        λ f. k.names f ∙ ap (λ (F : Effects). list_any f (effect_with F (simple_at ts x) j).variables) (outside a ms name own) ∙ ap (list_any f) (outside_names ms (simple_at ts x) j) in
+        adds_some_as a.known m.found n.found (names_on (path_of old) step.names.items) (names_met (found_here ms) (one_visit p at (simple_at ts x) j) ++ []) (turns_on (path_of old) step.names.items ++ (found_here ms (simple_at ts x)).pairs)
+        (pairs_met (found_here ms) (one_visit p at (simple_at ts x) j) ++ [])
+        (λ f. names_alike ms (simple_at ts x) step.names.items same p (path_of old) h f ∙ ap (list_any f) (sym (append-nil (found_on p (found_here ms (simple_at ts x))).names)))
+        (λ g z. pairs_alike ms (simple_at ts x) step.names.items same p (path_of old) h (is_broken (put_for g)) ∙ ap (list_any (is_broken (put_for g))) (sym (append-nil (found_on p (found_here ms (simple_at ts x))).pairs)))
+        gathers;
   });
 }
 
@@ -185,10 +203,16 @@ module _ (a : Around) (ms : List Summary) where
       never None = refl
       never (Some xs) = refl
 
-  gains_over : (p : paths.Path) (at : Span) (st : Statement) (j : Partner) (m n : Met) (vs : List Visit) → effect_with (effects_around a ms) st j ≡ nothing → Gains a ms m n vs → Gains a ms m n (one_visit p at st j ∷ vs)
-  gains_over p at st j m n vs e g = record {
+  gains_over : (p : paths.Path) (at : Span) (st : Statement) (j : Partner) (m n : Met) (vs : List Visit) → effect_with (effects_around a ms) st j ≡ nothing → found_here ms st ≡ none_found → Gains a ms m n vs → Gains a ms m n (one_visit p at st j ∷ vs)
+  gains_over p at st j m n vs e none g = record {
     first = g.first ∙ ap (λ (rs : List Refusal). joined m.first (first (rs ++ flat_map (twice_at (effects_around a ms)) vs))) (sym (visit_nothing p at st j e));
+    found = λ x y.
+        subst (λ (f : Found). AddsSome a.known m.found n.found (f.names ++ flat_map (names_met (found_here ms)) vs) (f.pairs ++ flat_map (pairs_met (found_here ms)) vs)) (sym (ap (found_on p) none ∙ none_on p)) (g.found x y);
   }
+    where
+      none_on : (q : paths.Path) → found_on q none_found ≡ none_found
+      none_on None = refl
+      none_on (Some xs) = refl
 
   module _ (E : Effects) (p : paths.Path) (at : Span) (j : Partner) where
     pub if_passed : (old new between : Path) (m n o : Met) (e : Tree) (b c : Statements) (ends all : Option Path) → Alike (ends_of old.names.keys ends) (straight E b p) → Gains a ms m n (straight_visits E p b)
@@ -203,7 +227,7 @@ module _ (a : Around) (ms : List Summary) where
           (subst (λ (xs : List Word). Alike (paths.joined (ends_of xs ends) (straight E c p)) (ends_of between.names.keys all)) same
           (alike_sym (ends_of between.names.keys all) (paths.joined (ends_of between.names.keys ends) (straight E c p)) k))
           (subst (λ (xs : List Word). Alike (ends_of xs all) (path_of new)) same_last (alike_sym (path_of new) (ends_of last.names.keys all) close)));
-      met = gains_over p at (branch e b c) j m o (straight_visits E p b ++ straight_visits E p c) refl (gains_then a ms m n o (straight_visits E p b) (straight_visits E p c) g i);
+      met = gains_over p at (branch e b c) j m o (straight_visits E p b ++ straight_visits E p c) refl refl (gains_then a ms m n o (straight_visits E p b) (straight_visits E p c) g i);
     }
 
     pub either_passed : (old new last : Path) (m n : Met) (bs : Branches) (ends : Option Path) → Alike (ends_of old.names.keys ends) (straight_some E bs p) → Gains a ms m n (straight_in_some E p bs)
@@ -212,18 +236,18 @@ module _ (a : Around) (ms : List Summary) where
       path =
           alike_then (straight_some E bs p) (ends_of old.names.keys ends) (path_of new) (alike_sym (ends_of old.names.keys ends) (straight_some E bs p) h)
           (subst (λ (xs : List Word). Alike (ends_of xs ends) (path_of new)) same (alike_sym (path_of new) (ends_of last.names.keys ends) close));
-      met = gains_over p at (either bs) j m n (straight_in_some E p bs) refl g;
+      met = gains_over p at (either bs) j m n (straight_in_some E p bs) refl refl g;
     }
 
     pub with_passed : (new : Path) (m n : Met) (bs : Binds) (b : Statements) → Walks a ms (straight E b p) new m n (straight_visits E p b)
         → Walks a ms (straight_one E (with bs b) p) new m n (one_visit p at (with bs b) j ∷ straight_inside E p (with bs b))
-    with_passed new m n bs b w = record { path = w.path; met = gains_over p at (with bs b) j m n (straight_visits E p b) refl w.met }
+    with_passed new m n bs b w = record { path = w.path; met = gains_over p at (with bs b) j m n (straight_visits E p b) refl refl w.met }
 
     pub while_passed : (old new : Path) (m n : Met) (e : Tree) (b : Statements) → Alike p (path_of old) → new.names.keys ≡ old.names.keys → new.reached ≡ old.reached → Gains a ms m n (straight_visits E p b)
         → Walks a ms (straight_one E (while e b) p) new m n (one_visit p at (while e b) j ∷ straight_inside E p (while e b))
     while_passed old new m n e b h k r g = record {
       path = subst (λ (q : paths.Path). Alike p q) (sym (same_path new old k r)) h;
-      met = gains_over p at (while e b) j m n (straight_visits E p b) refl g;
+      met = gains_over p at (while e b) j m n (straight_visits E p b) refl refl g;
     }
 
 -- ---- what stands for a statement

@@ -9,4 +9,6 @@ pub mod SidesIn
 pub mod PutIn
 pub mod KnownIn
 pub mod AroundIn
+pub mod GatheredIn
 pub mod WalksIn
+pub mod MacrosIn

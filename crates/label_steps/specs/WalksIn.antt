@@ -1,5 +1,5 @@
 -- What is met where statements are gone through.
-use Rattle.std.specs.Prelude.{◌≡◌, List, [], ◌∷◌, Bool, true, false, Option, Some}
+use Rattle.std.specs.Prelude.{◌≡◌, List, [], ◌∷◌, Bool, true, false, Option, Some, None}
 use Rattle.std.specs.List.{flat_map}
 use Rattle.tla_tree.specs.Tree.{Tree}
 use Rattle.pcal_tree.specs.declared.mark.Mark.{Mark}
@@ -11,7 +11,7 @@ use Rattle.pcal_tree.specs.OffencesSteps.{inside, Visit}
 use Rattle.pcal_tree.specs.Paths as paths
 use Rattle.pcal_tree.specs.Paths.{Effects}
 use Rattle.pcal_tree.specs.Run.{Partner, is_return}
-use Rattle.pcal_tree.specs.laws.MacroSummaries.{Summary}
+use Rattle.pcal_tree.specs.laws.MacroSummaries.{Summary, found_here}
 use Rattle.pcal_tree.proofs.EffectLaws.{Alike}
 use Rattle.pcal_tree.proofs.SetLaws.{Same}
 use Rattle.algorithm_answer.specs.Joined.{joined}
@@ -20,6 +20,8 @@ use Rattle.label_steps.specs.declared.path.Path.{Path}
 use Rattle.label_steps.specs.declared.walk.Met.{Met}
 use Rattle.label_steps.specs.AroundIn.{effects_around}
 use Rattle.label_steps.specs.AssignedTwice.{twice_at}
+use Rattle.label_steps.specs.Gathered.{names_met, pairs_met}
+use Rattle.label_steps.specs.GatheredIn.{AddsSome}
 use Rattle.label_steps.specs.KnownIn.{AreMacros}
 use Rattle.label_steps.specs.PathsIn.{path_of, ends_of}
 use Rattle.label_steps.specs.StraightPaths.{straight_one, straight, straight_some, straight_inside, straight_visits, straight_in_some}
@@ -36,6 +38,7 @@ SameVariables E F = (st : Statement) → Same (E st).variables (F st).variables
 -- these statements were met
 pub record Gains (a : Around) (ms : List Summary) (m n : Met) (vs : List Visit) : Type 0 where
   pub first : n.first ≡ joined m.first (first (flat_map (twice_at (effects_around a ms)) vs))
+  pub found : a.name ≡ None → a.own.items ≡ [] → AddsSome a.known m.found n.found (flat_map (names_met (found_here ms)) vs) (flat_map (pairs_met (found_here ms)) vs)
 
 -- they were met along a path, which leads to this one
 pub record Walks (a : Around) (ms : List Summary) (q : paths.Path) (new : Path) (m n : Met) (vs : List Visit) : Type 0 where

@@ -3,12 +3,19 @@
 
 pub mod around;
 pub mod due;
+pub mod gathered;
 pub mod known;
+pub mod labels;
 pub mod laws;
+pub mod macros;
 pub mod path;
 pub mod put;
 pub mod sides;
+pub mod steps;
+pub mod truths;
 pub mod twice;
 pub mod walk;
 
 pub use due::due_refusal;
+pub use labels::label_refusal;
+pub use steps::steps_refusal;

@@ -6,23 +6,10 @@ ghost use Rattle.pcal_tree.specs.Paths.{joined, has_assigned};
 ghost use Rattle.label_steps.specs.PathsIn.{Behind, Grows, path_of, ends_of};
 
 use crate::sides::Step;
+use crate::truths::{both, either};
 use indexmap::IndexSet;
 use std::alloc::{AllocError, Global};
 use tla_tree::Name;
-
-// Whether one of the two holds.
-fn either(a: bool, b: bool) -> bool
-    ensures { result ≡ (a || b) }
-{
-    a || b
-}
-
-// Whether both hold.
-fn both(a: bool, b: bool) -> bool
-    ensures { result ≡ (a && b) }
-{
-    a && b
-}
 
 // These names are there too, behind those that are.
 #[tactic(auto, using(crate::proofs::PathLaws::grows_none, crate::proofs::PathLaws::grows_one, crate::proofs::PathLaws::grows_more, crate::proofs::PathLaws::grows_all))]

@@ -1,6 +1,6 @@
 //! The walk over what is assigned: the first variable that is assigned twice on a path.
 
-ghost use Rattle.std.specs.Prelude.{◌≡◌, ◌≤◌, ◌+◌, ◌||◌, List, length, drop, IfOk, OnOk};
+ghost use Rattle.std.specs.Prelude.{◌≡◌, ◌≤◌, ◌+◌, ◌++◌, ◌||◌, List, length, drop, IfOk, OnOk};
 ghost use Rattle.tla_tree.specs.Tree.{Tree};
 ghost use Rattle.pcal_tree.specs.Algorithm.{Span as PureSpan, Statement, Statements, then};
 ghost use Rattle.pcal_tree.specs.InMemory.{simple_at, stmt_at, statements_at, branches_at, past_simple, past_stmt, past_statements, past_branches};
@@ -10,7 +10,8 @@ ghost use Rattle.tla_token.specs.declared.rule.Rule.TheVariants.{AssignTwice};
 ghost use Rattle.algorithm_answer.specs.Joined.{joined};
 ghost use Rattle.pcal_tree.proofs.EffectLaws.{Alike};
 ghost use Rattle.pcal_tree.specs.Paths.{Path as PurePath, has_assigned};
-ghost use Rattle.pcal_tree.specs.laws.MacroSummaries.{Summary as Found};
+ghost use Rattle.pcal_tree.specs.laws.MacroSummaries.{Summary as Found, found_here};
+ghost use Rattle.label_steps.specs.GatheredIn.{AddsSome, names_on, turns_on};
 ghost use Rattle.label_steps.specs.AroundIn.{effects_around};
 ghost use Rattle.label_steps.specs.KnownIn.{AreMacros};
 ghost use Rattle.label_steps.specs.StraightPaths.{straight_one, straight, straight_twice, straight_met};
@@ -19,6 +20,7 @@ ghost use Rattle.label_steps.specs.WalksIn.{IsKind, PassesOne, PassesAll, Passes
 
 use crate::around::Around;
 use crate::due::jumps;
+use crate::gathered::Gathered;
 use crate::path::Path;
 use crate::sides::Step;
 use algorithm_limits::order::or_offence;
@@ -32,6 +34,8 @@ use tla_token::{Place, Refusal, Rule};
 pub struct Met {
     /// The first variable that is assigned twice.
     pub first: Option<Refusal>,
+    /// In a macro, what is gathered of it.
+    pub found: Option<Gathered>,
 }
 
 // Whether it is a label.
@@ -73,10 +77,25 @@ pub fn returns_behind(stmts: &[Stmt], i: usize) -> bool
 
 impl Met {
     // A statement at this place, to which this path leads, and which assigns so.
-    fn meet(&mut self, path: &Path, place: Place, step: &Step)
-        ensures { self.new.first ≡ joined self.old.first (first (offence_if (step.now.twice || has_assigned (path_of path.now) step.now.names.items) AssignTwice place)) }
+    fn meet(
+        &mut self,
+        alloc: Global,
+        around: &Around,
+        pool: &Pool,
+        path: &Path,
+        place: Place,
+        simple: &Simple,
+        step: &Step,
+    ) -> Result<(), AllocError>
+        requires { past_simple simple.now ≤ length pool.now }
+        ensures first { OnOk result (self.new.first ≡ joined self.old.first (first (offence_if (step.now.twice || has_assigned (path_of path.now) step.now.names.items) AssignTwice place))) }
+        ensures found { OnOk result ((ms : List Found) → AreMacros around.now.known ms → AddsSome around.now.known self.old.found self.new.found (names_on (path_of path.now) step.now.names.items) (turns_on (path_of path.now) step.now.names.items ++ (found_here ms (simple_at pool.now simple.now)).pairs)) }
     {
         self.first = or_offence(self.first, path.meets(step), Rule::AssignTwice, place);
+        match &mut self.found {
+            None => Ok(()),
+            Some(found) => found.meet(alloc, &around.known, pool, path, simple, &step.names),
+        }
     }
 }
 
@@ -97,7 +116,7 @@ impl Around {
         ensures passed { OnOk result ((at : PureSpan) → place ≡ at.first → PassesOne self.now returns at (simple_at pool.now simple.now) path.old path.new met.old met.new) }
     {
         let step = self.step(alloc, pool, returns, simple)?;
-        met.meet(path, place, &step);
+        met.meet(alloc, self, pool, path, place, simple, &step)?;
         path.pass(&step, jumps(simple))
     }
 
@@ -210,9 +229,13 @@ impl Around {
         Ok(())
     }
 
-    // A list of statements; the path is then that behind those before its first label.
+    /// A list of statements; the path is then that behind those before its first label.
+    ///
+    /// # Errors
+    ///
+    /// Only for want of memory.
     #[cycle(walk)]
-    fn list(
+    pub fn list(
         &self,
         alloc: Global,
         pool: &Pool,
@@ -254,7 +277,10 @@ impl Around {
         ensures path { OnOk result ((ms : List Found) → AreMacros self.now.known ms → (p : PurePath) → Alike p (path_of path.old) → Alike (straight (effects_around self.now ms) (statements_at pool.now stmts.now) p) (path_of path.new)) }
         ensures first { IfOk result (λ r. (ms : List Found) → AreMacros self.now.known ms → (p : PurePath) → Alike p (path_of path.old) → r ≡ joined found (first (straight_twice (effects_around self.now ms) p (statements_at pool.now stmts.now)))) }
     {
-        let mut met = Met { first: found };
+        let mut met = Met {
+            first: found,
+            found: None,
+        };
         self.list(alloc, pool, path, &mut met, stmts)?;
         Ok(met.first)
     }
@@ -278,7 +304,10 @@ impl Around {
         ensures path { OnOk result ((s : PureSpan) (st : Statement) → stmt_at pool.now stmt.now ≡ then s st → (ms : List Found) → AreMacros self.now.known ms → (p : PurePath) → Alike p (path_of path.old) → Alike (straight_one (effects_around self.now ms) st p) (path_of path.new)) }
         ensures first { IfOk result (λ r. (s : PureSpan) (st : Statement) → stmt_at pool.now stmt.now ≡ then s st → (ms : List Found) → AreMacros self.now.known ms → (p : PurePath) → Alike p (path_of path.old) → (j : Partner) → returns ≡ is_return j → r ≡ joined found (first (straight_met (effects_around self.now ms) p s.first st j))) }
     {
-        let mut met = Met { first: found };
+        let mut met = Met {
+            first: found,
+            found: None,
+        };
         self.past(alloc, pool, path, &mut met, returns, stmt)?;
         Ok(met.first)
     }

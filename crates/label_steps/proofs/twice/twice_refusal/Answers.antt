@@ -1,5 +1,5 @@
 -- Proves that the first variable that is assigned twice in an algorithm is found.
-use Rattle.std.proofs.Common.{Some, None, [], List, map, sym, ap, ◌∙◌, subst}
+use Rattle.std.proofs.Common.{Some, [], List, map, sym, ap, ◌∙◌, subst}
 use Rattle.std.specs.List.{flat_map}
 use Rattle.std.proofs.lemmas.Result.{IfOk-weaker}
 use Rattle.pcal_tree.specs.declared.algorithm.Procedure.{Procedure}

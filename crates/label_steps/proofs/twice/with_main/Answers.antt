@@ -8,7 +8,6 @@ use Rattle.pcal_tree.specs.declared.algorithm.Main.{Main}
 use Rattle.pcal_tree.specs.Algorithm as tree
 use Rattle.pcal_tree.specs.InMemory.{statements_at, process_at, main_at}
 use Rattle.pcal_tree.specs.Offences.{first}
-use Rattle.pcal_tree.specs.OffencesSteps.{outer_effects}
 use Rattle.pcal_tree.specs.Paths.{Effects}
 use Rattle.pcal_tree.specs.laws.MacroSummaries.{summary_effect}
 use Rattle.algorithm_answer.specs.Joined.{joined}

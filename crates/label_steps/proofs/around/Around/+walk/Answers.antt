@@ -1,5 +1,5 @@
 -- Proves that the first variable that is assigned twice on a path is found.
-use Rattle.std.proofs.Common.{◌≡◌, ◌+◌, true, false, List, Vec, Global, drop, refl, sym, ap, ◌∙◌, subst, arith}
+use Rattle.std.proofs.Common.{◌+◌, List, Vec, Global, drop, refl, ap, ◌∙◌, subst, arith}
 use Rattle.std.proofs.lemmas.Result.{on_ok_weaker}
 use Rattle.tla_tree.specs.Tree.{Word}
 use Rattle.tla_tree.proofs.PoolNumbers.{past_at}
@@ -11,7 +11,7 @@ use Rattle.pcal_tree.proofs.EffectLaws.{Alike}
 use Rattle.pcal_tree.proofs.InMemoryEach.{simple_in_list_at, past_either}
 use Rattle.pcal_tree.proofs.StatementHeights.{height, heights, branch_heights, either_height}
 use Rattle.label_steps.specs.PathsIn.{path_of, ends_of}
-use Rattle.label_steps.specs.StraightPaths.{straight, straight_some, straight_visits, straight_in_some}
+use Rattle.label_steps.specs.StraightPaths.{straight, straight_visits}
 use Rattle.label_steps.specs.WalksIn.{IsKind, EndsSo}
 use Rattle.label_steps.proofs.WalksLaws.{next_one, next_none, next_branch, next_no_branch, left_more, left_done, left_labelled, behind_first, behind_more, behind_label, behind_done, ArmsLeft, arms_first, arms_more, arms_done, arm_passed, taken, stays_behind, behind_then, still_alike, not_label, as_stands, if_stands, either_stands, with_stands, while_stands}
 use Rattle.label_steps.proofs.around.Around.+walk.Goals as goal
