@@ -6,3 +6,4 @@ pub mod SightLaws
 pub mod ChooseLaws
 pub mod BodyLaws
 pub mod TypedLaws
+pub mod AddLaws
