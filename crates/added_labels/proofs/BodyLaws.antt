@@ -1,5 +1,5 @@
 -- Bodies with their labels, one after another.
-use Rattle.std.proofs.Common.{◌≡◌, ℕ, ◌+◌, ◌<◌, ◌≤◌, max, Bool, true, false, List, [], ◌∷◌, ◌++◌, length, map, take, drop, get_or, Option, Some, None, Vec, Global, refl, sym, ap, ◌∙◌, subst, cond, codes, reverse, arith}
+use Rattle.std.proofs.Common.{◌≡◌, ℕ, ◌+◌, ◌<◌, ◌≤◌, Bool, true, false, List, [], ◌∷◌, ◌++◌, length, map, take, drop, get_or, Some, None, Vec, Global, refl, sym, ap, ◌∙◌, subst, cond, codes, reverse, arith}
 use Rattle.std.proofs.lemmas.List.{take_more, take_all, map-append}
 use Rattle.tla_tree.specs.Tree.{Tree, Word, Trees}
 use Rattle.tla_tree.specs.Nesting.{greatest}
@@ -17,7 +17,7 @@ use Rattle.pcal_tree.specs.declared.algorithm.Algorithm as code
 use Rattle.pcal_tree.specs.InMemory.{statements_at, macro_at, procedure_at, process_at, main_at, algorithm_at}
 use Rattle.pcal_tree.specs.Labelled.{Supply, labelled}
 use Rattle.pcal_tree.proofs.EffectLabels.{labelled_by_summaries}
-use Rattle.pcal_tree.specs.OffencesSteps.{Before, at_first, procedure_effects, outer_effects}
+use Rattle.pcal_tree.specs.OffencesSteps.{Before, at_first, outer_effects}
 use Rattle.pcal_tree.specs.Paths.{Effect, Effects, nothing}
 use Rattle.pcal_tree.specs.laws.MacroSummaries.{Summary, summaries, summary_effect}
 use Rattle.pcal_tree.proofs.InMemoryEach.{past_one_more}
@@ -28,11 +28,10 @@ use Rattle.added_labels.specs.declared.place.Plan.{Plan}
 use Rattle.added_labels.specs.declared.seen.Where.{Where}
 use Rattle.added_labels.specs.Chosen.{begins_with}
 use Rattle.added_labels.specs.Decided.{chosen}
-use Rattle.added_labels.specs.InMemory.{AreLeft, IsPlan, PutsAll}
-use Rattle.added_labels.specs.Placed as placed
-use Rattle.added_labels.specs.Placed.{body_with, names_past, macro_with, past_macro, procedure_with, past_procedure, process_with, past_process, each_with, past_each, main_with, past_macros, all_names}
+use Rattle.added_labels.specs.InMemory.{AreLeft, PutsAll}
+use Rattle.added_labels.specs.Placed.{macro_with, past_macro, procedure_with, past_procedure, process_with, past_process, each_with, past_each, main_with, past_macros, all_names}
 use Rattle.added_labels.specs.Sight.{effects_of}
-use Rattle.added_labels.specs.WithLabels.{With, BodyWith, OneWith, EachWith, MainWith, IsSilent, IsOutside, Begun}
+use Rattle.added_labels.specs.WithLabels.{BodyWith, OneWith, EachWith, MainWith, IsSilent, IsOutside, Begun}
 use Rattle.added_labels.proofs.PlacedLaws.{all_added}
 use Rattle.added_labels.proofs.SightLaws.{effects_there}
 
@@ -163,8 +162,8 @@ routines_are ts plan mid x a ps vs m n b h k is im =
       definitions = (b.now i).definitions;
       macros = (b.now i).macros;
       procedures = (p.with ∙ (λ j. each_with (procedure_with C) (past_procedure C) s (map (procedure_at ts) (is j)))
-      ∙ (λ j. each_with (procedure_with (Summed (reverse ((b.now j).macros)))) (past_procedure (Summed (reverse ((b.now j).macros)))) s ((b.now j).procedures))) i;
+          ∙ (λ j. each_with (procedure_with (Summed (reverse ((b.now j).macros)))) (past_procedure (Summed (reverse ((b.now j).macros)))) s ((b.now j).procedures))) i;
       main = (r ∙ (λ j. main_with C (past_each (past_procedure C) s (map (procedure_at ts) (is j))) (main_at ts (im j)))
-      ∙ (λ j. main_with (Summed (reverse ((b.now j).macros))) (past_each (past_procedure (Summed (reverse ((b.now j).macros)))) s ((b.now j).procedures)) ((b.now j).main))) i;
+          ∙ (λ j. main_with (Summed (reverse ((b.now j).macros))) (past_each (past_procedure (Summed (reverse ((b.now j).macros)))) s ((b.now j).procedures)) ((b.now j).main))) i;
     })
     ∙ sym (labelled_by_summaries true a ∙ all_added Summed (codes "Lbl_") a)

@@ -1,10 +1,6 @@
 -- What is decided of statements one after another, along the paths in memory.
-use Rattle.std.proofs.Common.{◌≡◌, ℕ, Vec, Global, List, [], ◌∷◌, ◌++◌, Bool, true, false, ◌||◌, ◌&&◌, not, cond, Option, Some, None, refl, sym, ap, ◌∙◌, subst, append_assoc, append-nil, true≢false}
-use Rattle.std.specs.Prelude.{IfOk}
-use Rattle.std.specs.Option.{option_map}
-use Rattle.std.specs.List.{flat_map}
+use Rattle.std.proofs.Common.{◌≡◌, ℕ, Vec, Global, List, [], ◌∷◌, ◌++◌, Bool, true, false, ◌||◌, ◌&&◌, not, cond, Option, Some, None, refl, sym, ap, ◌∙◌, subst, append_assoc, true≢false}
 use Rattle.std.proofs.lemmas.Bool.{or_parts}
-use Rattle.tla_token.specs.declared.rule.Rule.{Rule}
 use Rattle.tla_token.specs.declared.rule.Rule.TheVariants.{AfterBranch}
 use Rattle.tla_tree.specs.Tree.{Word, Tree}
 use Rattle.tla_tree.specs.Pool.{at as expr_at}
@@ -25,19 +21,18 @@ use Rattle.pcal_tree.specs.Paths.{Effect, Effects, nothing, joined, after_one, a
 use Rattle.pcal_tree.specs.OffencesSteps.{Before, at_label, inside, holds_one, holds, due_after, effect_with, offences_at}
 use Rattle.pcal_tree.proofs.EffectLaws.{Alike}
 use Rattle.pcal_tree.proofs.InMemoryEach.{simple_in_list_at, if_at, either_at, with_at, while_at}
-use Rattle.pcal_tree.proofs.SetLaws.{Same}
 use Rattle.label_steps.specs.KnownIn.{Assigns}
 use Rattle.label_steps.specs.PathsIn.{Behind, path_of, ends_of}
 use Rattle.label_steps.specs.declared.path.Path.{Path}
 use Rattle.label_steps.specs.declared.sides.Step.{Step}
-use Rattle.label_steps.proofs.WalksLaws.{alike_then, alike_itself, alike_joined, behind_then}
+use Rattle.label_steps.proofs.WalksLaws.{alike_then, alike_joined}
 use Rattle.added_labels.specs.declared.seen.Seen.{Seen}
 use Rattle.added_labels.specs.Decided as decided
 use Rattle.added_labels.specs.Decided.{stand, held_inside, due_behind, path_behind, behind, held, ending, held_some, path_behind_some, chosen_inside, chosen, chosen_some}
-use Rattle.added_labels.specs.Sight.{is_due, is_while, here, offends, is_kept, Stands, SeesOne, SeesList, Begins, IsKept}
+use Rattle.added_labels.specs.Sight.{is_due, is_while, here, offends, is_kept, SeesOne, SeesList, Begins, IsKept}
 use Rattle.added_labels.specs.Chosen.{StandsNow, OnPath, ChoosesOne, ChoosesList, ChoosesBranch, ChoosesBranches, begins_with}
 use Rattle.added_labels.proofs.PlaceLaws.{same_statement}
-use Rattle.added_labels.proofs.SightLaws.{some, some_both, here_is, or_three, Quiet, quiet_here, never_assigned, Into, Out, Labelled, Ended, not_held, due_if, path_same, has_alike, simple_facts, simple_path, joined_none, joined_three, begins_anew, kept_begins}
+use Rattle.added_labels.proofs.SightLaws.{some, some_both, here_is, or_three, Quiet, never_assigned, Into, Out, Labelled, Ended, due_if, path_same, has_alike, simple_facts, joined_none, joined_three, begins_anew, kept_begins}
 
 -- ---- before which statement a label is added
 
@@ -273,9 +268,14 @@ choice_next E q bs b rest old now m n r ends all ws us vs k h s = record {
       let g = h.joins c in
       let w = or_parts (held E (inside q) b) (held_some E q rest) g.0 in
       let e = g.1.0 in
-      let y = (ending E (inside q) b).path in
-      (w.1, (joined e y, subst (λ (ks : List Word). Alike (ends_of ks all) (joined e y)) k (s.joins w.0 e (subst (λ (ks : List Word). Alike (ends_of ks ends) e) (sym k) g.1.1)),
-      joined_three e y (path_behind_some E q rest) ∙ g.1.2));
+      let y = (ending E (inside q) b).path in (
+        w.1,
+        (
+          joined e y,
+          subst (λ (ks : List Word). Alike (ends_of ks all) (joined e y)) k (s.joins w.0 e (subst (λ (ks : List Word). Alike (ends_of ks ends) e) (sym k) g.1.1)),
+          joined_three e y (path_behind_some E q rest) ∙ g.1.2,
+        ),
+      );
 }
 
 pub choice_ends : (E : Effects) (q : paths.Path) (bs : Branches) (old : Path) (m r : Seen) (ends : Option Path) (ws vs : List Bool) → ChoiceOfBranches E q bs no_branches old m r ends ws vs → ChoosesBranches E q bs old m r ends ws vs

@@ -1,8 +1,8 @@
 -- The next name is the one with the first number from some number on that no typed label has.
-use Rattle.std.proofs.Common.{◌≡◌, ℕ, nat_lt, ltb-true, ltb-false, zero, suc, ◌+◌, ◌-◌, ◌<◌, ◌≤◌, ◌^◌, length, List, Bool, true, false, cond, codes, refl, sym, ◌∙◌, ap, subst, arith, true≢false}
+use Rattle.std.proofs.Common.{◌≡◌, ℕ, nat_lt, ltb-true, ltb-false, zero, suc, ◌+◌, ◌-◌, ◌<◌, ◌≤◌, ◌^◌, length, List, Bool, true, false, cond, codes, refl, sym, ◌∙◌, ap, arith, true≢false}
 use Rattle.tla_token.specs.Signs.{is_among}
 use Rattle.tla_tree.specs.Tree.{Word}
-use Rattle.pcal_tree.specs.Names.{with_number, free_from}
+use Rattle.pcal_tree.specs.Names.{with_number}
 use Rattle.pcal_tree.specs.Labelled.{Supply, added_name, free_number, number}
 use Rattle.pcal_tree.proofs.FreeNames.{free_is, free_untaken}
 use Rattle.label_jumps.specs.Meeting.{is_met}

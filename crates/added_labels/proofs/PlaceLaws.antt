@@ -1,5 +1,5 @@
 -- Labels that are put before statements one after another.
-use Rattle.std.proofs.Common.{◌≡◌, ℕ, ◌+◌, ◌<◌, ◌≤◌, max, Bool, true, false, List, [], ◌∷◌, ◌++◌, length, map, take, get_or, Option, Some, None, Vec, Global, refl, sym, ap, ◌∙◌, subst, append-nil, append_assoc, arith}
+use Rattle.std.proofs.Common.{◌≡◌, ℕ, ◌+◌, ◌<◌, ◌≤◌, Bool, true, false, List, [], ◌∷◌, ◌++◌, length, map, take, get_or, Option, Some, None, Vec, Global, refl, sym, ap, ◌∙◌, subst, append-nil, arith}
 use Rattle.std.proofs.lemmas.List.{take_more, take_all, map-append}
 use Rattle.tla_token.specs.declared.place.Place.{Place}
 use Rattle.tla_tree.specs.Tree.{Name, Tree}
@@ -151,9 +151,10 @@ some_label old new s before after o at l h e w p a n = record {
       let g = subst (λ (o : Option Place). IsPlaceOf o (stmt_at ts s)) e (h ts) in
       absurd (apart x m g.0 g.1 (sym f ∙ g.2));
   statement = λ ts k q sp st f.
-      let g = subst (λ (o : Option Place). IsPlaceOf o (stmt_at ts s)) e (h ts) in
-      (λ rest. listed_is ts l rest ∙ w k q ts rest ∙ ap (λ (z : Place). labelled_if (is_wanted k) k.names z rest) (g.3 ∙ ap (λ (z : Span). z.first) (same_span g.0 sp g.1 st (sym g.2 ∙ f))),
-      p k q);
+      let g = subst (λ (o : Option Place). IsPlaceOf o (stmt_at ts s)) e (h ts) in (
+        λ rest. listed_is ts l rest ∙ w k q ts rest ∙ ap (λ (z : Place). labelled_if (is_wanted k) k.names z rest) (g.3 ∙ ap (λ (z : Span). z.first) (same_span g.0 sp g.1 st (sym g.2 ∙ f))),
+        p k q,
+      );
 }
 
 pub one_label : (old new : code.Plan) (s : Stmt) (before after : List Stmt) (o : Option Place) (at : Place) (l : Option Stmt) (x : Stmt)
@@ -260,9 +261,10 @@ next_put old mid now new all rs ns n m s r w t h l i q out o =
 
 pub all_put : (old new : code.Plan) (all rs : List Stmt) (n : ℕ) → length all ≤ n → PutsSome old new (take n all) rs → PutsAll old new all rs
 all_put old new all rs n l h ts k p =
-    let a = (subst (λ (zs : List Stmt). PutsSome old new zs rs) (take_all n all l) h).put ts k p in
-    (sym (ap (placed k) (sym (onto_done (map (stmt_at ts) all))) ∙ a.placed done ∙ onto_done (map (stmt_at ts) rs)),
-    subst (IsPlan new) (sym (ap (past k) (sym (onto_done (map (stmt_at ts) all))) ∙ a.past done)) a.plan)
+    let a = (subst (λ (zs : List Stmt). PutsSome old new zs rs) (take_all n all l) h).put ts k p in (
+      sym (ap (placed k) (sym (onto_done (map (stmt_at ts) all))) ∙ a.placed done ∙ onto_done (map (stmt_at ts) rs)),
+      subst (IsPlan new) (sym (ap (past k) (sym (onto_done (map (stmt_at ts) all))) ∙ a.past done)) a.plan,
+    )
 
 pub all_numbers : (old new : code.Plan) (all rs : List Stmt) (n : ℕ) → length all ≤ n → PutsSome old new (take n all) rs → past_statements rs ≤ past_statements all
 all_numbers old new all rs n l h = (subst (λ (zs : List Stmt). PutsSome old new zs rs) (take_all n all l) h).numbers
@@ -338,9 +340,10 @@ next_in old mid new all rs n m s r w t h i q out o =
 
 pub all_in : (old new : code.Plan) (all rs : List (Vec Stmt Global)) (n : ℕ) → length all ≤ n → PutsIn old new (take n all) rs → PutsBranches old new all rs
 all_in old new all rs n l h ts k p =
-    let a = (subst (λ (zs : List (Vec Stmt Global)). PutsIn old new zs rs) (take_all n all l) h).put ts k p in
-    (sym (ap (placed_some k) (sym (or_done (map (List_at ts) all))) ∙ a.placed no_branches ∙ or_done (map (List_at ts) rs)),
-    subst (IsPlan new) (sym (ap (past_some k) (sym (or_done (map (List_at ts) all))) ∙ a.past no_branches)) a.plan)
+    let a = (subst (λ (zs : List (Vec Stmt Global)). PutsIn old new zs rs) (take_all n all l) h).put ts k p in (
+      sym (ap (placed_some k) (sym (or_done (map (List_at ts) all))) ∙ a.placed no_branches ∙ or_done (map (List_at ts) rs)),
+      subst (IsPlan new) (sym (ap (past_some k) (sym (or_done (map (List_at ts) all))) ∙ a.past no_branches)) a.plan,
+    )
 
 pub in_numbers : (old new : code.Plan) (all rs : List (Vec Stmt Global)) (n : ℕ) → length all ≤ n → PutsIn old new (take n all) rs → greatest (map Past rs) ≤ greatest (map Past all)
 in_numbers old new all rs n l h = (subst (λ (zs : List (Vec Stmt Global)). PutsIn old new zs rs) (take_all n all l) h).numbers

@@ -1,17 +1,16 @@
 -- Labels are added before the statements for which that was decided.
-use Rattle.std.proofs.Common.{◌≡◌, List, [], ◌∷◌, Bool, true, false, ◌||◌, not, ◌&&◌, Option, Some, None, cond, reverse, codes, refl, sym, ap, ◌∙◌}
+use Rattle.std.proofs.Common.{◌≡◌, List, [], ◌∷◌, Bool, true, false, ◌||◌, Option, Some, None, cond, reverse, refl, sym, ap, ◌∙◌}
 use Rattle.tla_token.specs.declared.place.Place.{Place}
 use Rattle.tla_token.specs.declared.rule.Rule.{Rule}
 use Rattle.tla_token.specs.declared.rule.Rule.TheVariants.{FirstLabel, AfterBranch}
 use Rattle.tla_tree.specs.Tree.{Word, Trees, Tree}
 use Rattle.pcal_tree.specs.Algorithm.{Span, Statement, assign, await, print, assert, skip, branch, either, with, while, goto, macro, call, return, Statements, done, then, mark, Branches, no_branches, or, Macro, Procedure, Process, Main, alone, processes, Algorithm}
 use Rattle.pcal_tree.specs.Run.{Partner, partner_of}
-use Rattle.pcal_tree.specs.Tests.{is_empty}
 use Rattle.pcal_tree.specs.Paths.{Effect, Effects, Path, joined, rounds, nothing, after_one, after, after_some}
-use Rattle.pcal_tree.specs.OffencesSteps.{Before, holds_one, holds, holds_some, due_after, at_label, at_first, inside, next, procedure_effects, outer_effects}
+use Rattle.pcal_tree.specs.OffencesSteps.{Before, holds_one, holds, holds_some, due_after, at_label, at_first, inside, procedure_effects, outer_effects}
 use Rattle.pcal_tree.specs.Labelled.{Supply, names_after, labelled_if, needs_label, before, add_inside, add, add_some, add_to_macros, add_to_procedures, add_to_processes, add_to_main, with_labels}
 use Rattle.added_labels.specs.Decided.{stand, held_inside, due_behind, path_behind, behind, held, ending, held_some, path_behind_some, chosen_inside, chosen, chosen_some}
-use Rattle.added_labels.specs.Placed.{Plan, passed, past_inside, past, past_some, placed_inside, placed, placed_some, body_with, names_past, macro_with, past_macro, macros_with, past_macros, procedure_with, past_procedure, procedures_with, past_procedures, process_with, past_process, each_with, main_with, all_with, all_names}
+use Rattle.added_labels.specs.Placed.{Plan, past_inside, past, past_some, placed_inside, placed, placed_some, past_macro, macros_with, past_macros, past_procedure, procedures_with, past_procedures, process_with, past_process, each_with, main_with, all_with, all_names}
 
 abbrev pub plan : List Bool → Supply → Plan
 plan ws s = record { wanted = ws; names = s }

@@ -6,9 +6,9 @@ use Rattle.std.proofs.lemmas.Bool.{or_parts}
 use Rattle.std.proofs.lemmas.Grind.{flat_map-append}
 use Rattle.tla_token.specs.declared.place.Place.{Place}
 use Rattle.tla_token.specs.declared.rule.Rule.{Rule}
-use Rattle.tla_token.specs.declared.rule.Rule.TheVariants.{AfterBranch, AssignTwice, WhileLabel}
+use Rattle.tla_token.specs.declared.rule.Rule.TheVariants.{AfterBranch, AssignTwice}
 use Rattle.tla_token.specs.declared.rule.Refusal.{Refusal}
-use Rattle.tla_tree.specs.Tree.{Word, Tree, Trees}
+use Rattle.tla_tree.specs.Tree.{Word, Tree}
 use Rattle.pcal_tree.specs.declared.mark.Mark.{Mark}
 use Rattle.pcal_tree.specs.Algorithm.{Name, Span, Binds, Statement, assign, await, print, assert, skip, branch, either, with, while, goto, macro, call, return, Statements, done, then, mark, Branches, no_branches, or}
 use Rattle.std.specs.Option.{option_map}
@@ -29,19 +29,18 @@ use Rattle.label_steps.specs.KnownIn.{Assigns}
 use Rattle.std.specs.Option.{is_some}
 use Rattle.added_labels.specs.InMemory.{IsPlaceOf}
 use Rattle.added_labels.proofs.PlaceLaws.{same_statement}
-use Rattle.pcal_tree.specs.Run.{Partner, no_partner, goto_partner, return_partner, is_pair, is_return, partner_of}
+use Rattle.pcal_tree.specs.Run.{Partner, partner_of}
 use Rattle.pcal_tree.specs.Tests.{is_empty}
 use Rattle.pcal_tree.specs.Offences.{offence_if}
 use Rattle.pcal_tree.specs.Paths as paths
 use Rattle.pcal_tree.specs.Paths.{Effect, Effects, nothing, joined, again, rounds, after_one, after, after_some, has_assigned}
-use Rattle.pcal_tree.specs.OffencesSteps.{Before, at_label, inside, next, holds_one, holds, holds_some, due_after, Visit, visits_inside, visits, visits_of_some, due_offence, while_offence, missing_label, effect_with, offences_at, assigns_twice, step_offences}
+use Rattle.pcal_tree.specs.OffencesSteps.{Before, at_label, inside, next, holds_one, holds, holds_some, due_after, Visit, visits_inside, visits, visits_of_some, due_offence, while_offence, missing_label, effect_with, offences_at, assigns_twice}
 use Rattle.pcal_tree.specs.laws.MacroSummaries.{Summary}
 use Rattle.pcal_tree.proofs.EffectLaws.{Alike}
 use Rattle.label_steps.specs.AroundIn.{effects_around}
 use Rattle.label_steps.specs.PathsIn.{Behind, path_of, ends_of}
 use Rattle.label_steps.specs.declared.path.Path.{Path}
-use Rattle.label_steps.specs.declared.around.Around.{Around}
-use Rattle.label_steps.proofs.WalksLaws.{alike_sym, alike_then, alike_itself, alike_joined, behind_then}
+use Rattle.label_steps.proofs.WalksLaws.{alike_then, alike_itself, alike_joined, behind_then}
 use Rattle.added_labels.specs.declared.seen.Seen.{Seen}
 use Rattle.added_labels.specs.declared.seen.Where.{Where}
 use Rattle.added_labels.specs.Sight.{effects_of, is_due, is_while, here, offends, offends_inside, offends_in_some, Stands, Fine, is_kept, SeesOne, SeesList, SeesBranch, SeesBranches, Rounds, Begins, Finishes, IsKept}
@@ -472,10 +471,14 @@ one_left E bs b rest old now m n r ends all k t h s = record {
   joins = λ q a c.
       let g = h.joins q a c in
       let w = or_parts (holds b) (holds_some rest) g.0 in
-      let e = g.1.0 in
-      (w.1, (joined e (after E b false q),
-      subst (λ (ks : List Word). Alike (ends_of ks all) (joined e (after E b false q))) k (s.joins q e (subst (λ (z : paths.Path). Alike z q) (sym same) a) w.0 (subst (λ (ks : List Word). Alike (ends_of ks ends) e) (sym k) g.1.1)),
-      joined_three e (after E b false q) (after_some E rest q) ∙ g.1.2));
+      let e = g.1.0 in (
+        w.1,
+        (
+          joined e (after E b false q),
+          subst (λ (ks : List Word). Alike (ends_of ks all) (joined e (after E b false q))) k (s.joins q e (subst (λ (z : paths.Path). Alike z q) (sym same) a) w.0 (subst (λ (ks : List Word). Alike (ends_of ks ends) e) (sym k) g.1.1)),
+          joined_three e (after E b false q) (after_some E rest q) ∙ g.1.2,
+        ),
+      );
 }
   where
     same : path_of now ≡ path_of old

@@ -1,12 +1,9 @@
 -- Labels that are met in the bodies of an algorithm.
-use Rattle.std.proofs.Common.{◌≡◌, ℕ, ◌+◌, ◌<◌, ◌≤◌, false, List, [], ◌∷◌, ◌++◌, length, map, take, get_or, Vec, Global, refl, sym, ap, ◌∙◌, subst, append-nil}
+use Rattle.std.proofs.Common.{◌≡◌, ℕ, ◌+◌, ◌<◌, ◌≤◌, false, List, [], ◌∷◌, ◌++◌, length, map, take, get_or, sym, ap, ◌∙◌, append-nil}
 use Rattle.std.specs.List.{flat_map}
 use Rattle.std.proofs.lemmas.Grind.{flat_map-append}
 use Rattle.std.proofs.lemmas.List.{take_more, take_all, map-append}
-use Rattle.pcal_tree.specs.declared.algorithm.Stmt.{Stmt}
-use Rattle.tla_tree.specs.Tree.{Tree}
 use Rattle.pcal_tree.specs.Algorithm.{Statements}
-use Rattle.pcal_tree.specs.InMemory.{statements_at}
 use Rattle.pcal_tree.specs.OffencesLabels.{Label, labels}
 use Rattle.label_jumps.specs.declared.labels.Labels.{Labels}
 use Rattle.label_jumps.specs.Meeting.{Meets}

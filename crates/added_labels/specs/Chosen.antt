@@ -1,10 +1,10 @@
 -- What is decided along a path in memory.
-use Rattle.std.specs.Prelude.{◌≡◌, List, [], ◌∷◌, ◌++◌, Bool, true, false, ◌||◌, Option, Some, None}
-use Rattle.pcal_tree.specs.Algorithm.{Span, Statement, Statements, Branches}
+use Rattle.std.specs.Prelude.{◌≡◌, List, [], ◌++◌, Bool, true, false, ◌||◌, Option, Some}
+use Rattle.pcal_tree.specs.Algorithm.{Statement, Statements, Branches}
 use Rattle.pcal_tree.specs.Run.{Partner}
 use Rattle.pcal_tree.specs.Paths as paths
 use Rattle.pcal_tree.specs.Paths.{Effects, joined}
-use Rattle.pcal_tree.specs.OffencesSteps.{Before, at_first, inside}
+use Rattle.pcal_tree.specs.OffencesSteps.{Before, inside}
 use Rattle.pcal_tree.proofs.EffectLaws.{Alike}
 use Rattle.label_steps.specs.PathsIn.{path_of, ends_of}
 use Rattle.label_steps.specs.declared.path.Path.{Path}

@@ -1,11 +1,11 @@
 -- Before which statements labels are added, along straight paths: each loop gets a label, and what is behind a statement with a label or a jump in it.
-use Rattle.std.specs.Prelude.{List, [], ◌∷◌, Bool, true, false, ◌||◌, Option, Some, None, cond}
+use Rattle.std.specs.Prelude.{List, ◌∷◌, Bool, true, false, ◌||◌, Option, Some, None, cond}
 use Rattle.tla_token.specs.declared.rule.Rule.{Rule}
 use Rattle.tla_token.specs.declared.rule.Rule.TheVariants.{AfterBranch}
-use Rattle.pcal_tree.specs.Algorithm.{Span, Statement, branch, either, with, while, Statements, done, then, mark, Branches, no_branches, or}
+use Rattle.pcal_tree.specs.Algorithm.{Span, Statement, branch, either, while, Statements, done, then, mark, Branches, no_branches, or}
 use Rattle.pcal_tree.specs.Run.{Partner, partner_of}
 use Rattle.pcal_tree.specs.Paths.{Effects, Path, joined, after_one}
-use Rattle.pcal_tree.specs.OffencesSteps.{Before, holds_one, holds, due_after, at_label, inside}
+use Rattle.pcal_tree.specs.OffencesSteps.{Before, holds_one, due_after, at_label, inside}
 use Rattle.pcal_tree.specs.Labelled.{needs_label, before}
 
 -- what is before a statement when its label is added

@@ -1,17 +1,15 @@
 -- What is left for added labels, in memory.
 use Rattle.std.specs.Prelude.{◌≡◌, ◌≤◌, ℕ, List, [], ◌∷◌, Bool, Option, Some, None, drop, codes, ◌++◌, map, Vec}
 use Rattle.std.specs.declared.alloc.Global.{Global}
-use Rattle.tla_token.specs.Signs.{is_among}
 use Rattle.tla_tree.specs.Tree.{Word}
 use Rattle.tla_token.specs.declared.place.Place.{Place}
 use Rattle.tla_tree.specs.Tree.{Tree}
-use Rattle.pcal_tree.specs.declared.mark.Mark.TheVariants.{Plain}
 use Rattle.pcal_tree.specs.declared.algorithm.Stmt.{Stmt}
-use Rattle.pcal_tree.specs.Algorithm.{Span, Statement, Statements, Branches, then, mark}
+use Rattle.pcal_tree.specs.Algorithm.{Span, Statement, Statements, then, mark}
 use Rattle.tla_tree.specs.Tree.{Name}
 use Rattle.pcal_tree.specs.declared.mark.Mark.{Mark}
 use Rattle.pcal_tree.specs.InMemory.{Before, stmt_at, statements_at, branches_at, past_stmt, past_statements}
-use Rattle.pcal_tree.specs.Labelled.{Supply, added_name, number, names_after, labelled_if}
+use Rattle.pcal_tree.specs.Labelled.{Supply, added_name, number, labelled_if}
 use Rattle.label_jumps.specs.Meeting.{AreMet}
 use Rattle.added_labels.specs.declared.names.Names.{Names}
 use Rattle.added_labels.specs.declared.place.Plan as code

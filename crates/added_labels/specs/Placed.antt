@@ -1,5 +1,5 @@
 -- Statements and algorithms with labels put in where it was decided.
-use Rattle.std.specs.Prelude.{List, [], ◌∷◌, Bool, false, Some, None, reverse, codes, cond, ◌&&◌, ◌||◌}
+use Rattle.std.specs.Prelude.{List, [], ◌∷◌, Bool, false, Some, None, reverse}
 use Rattle.tla_token.specs.declared.rule.Rule.TheVariants.{FirstLabel}
 use Rattle.tla_tree.specs.Tree.{Word, Trees}
 use Rattle.pcal_tree.specs.Algorithm.{Statement, branch, either, while, Statements, done, then, mark, Branches, no_branches, or, Macro, Procedure, Process, Main, alone, processes, Algorithm}

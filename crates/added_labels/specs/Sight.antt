@@ -1,8 +1,7 @@
 -- What is seen of statements inside a `with`.
-use Rattle.std.specs.Prelude.{◌≡◌, List, [], ◌++◌, Bool, true, false, ◌||◌, ◌&&◌, not, cond, Option, Some, None}
+use Rattle.std.specs.Prelude.{◌≡◌, List, [], Bool, true, false, ◌||◌, ◌&&◌, not, cond, Option, Some, None}
 use Rattle.std.specs.List.{flat_map}
 use Rattle.tla_token.specs.declared.rule.Rule.{Rule}
-use Rattle.tla_tree.specs.Tree.{Word}
 use Rattle.pcal_tree.specs.Algorithm.{Statement, branch, either, with, while, Statements, Branches}
 use Rattle.pcal_tree.specs.Run.{Partner, is_pair, is_return}
 use Rattle.pcal_tree.specs.Tests.{is_empty}

@@ -45,7 +45,11 @@ fn are_added(algorithm: &Algorithm, forced: bool) -> bool
 /// # Errors
 ///
 /// Only for want of memory.
-pub fn with_macros(alloc: Global, pool: &Pool, algorithm: Algorithm) -> Result<(Plan, Algorithm), AllocError>
+pub fn with_macros(
+    alloc: Global,
+    pool: &Pool,
+    algorithm: Algorithm,
+) -> Result<(Plan, Algorithm), AllocError>
     requires { past_algorithm algorithm ≤ length pool.now }
     ensures begun { IfOk result (λ r. Begun pool.now r.0 r.1 (algorithm_at pool.now algorithm)) }
     ensures numbers { IfOk result (λ r. past_algorithm r.1 ≤ past_algorithm algorithm) }
@@ -81,7 +85,13 @@ pub fn with_macros(alloc: Global, pool: &Pool, algorithm: Algorithm) -> Result<(
 /// # Errors
 ///
 /// Only for want of memory.
-pub fn with_routines(alloc: Global, pool: &Pool, plan: Plan, known: Known, algorithm: Algorithm) -> Result<Algorithm, AllocError>
+pub fn with_routines(
+    alloc: Global,
+    pool: &Pool,
+    plan: Plan,
+    known: Known,
+    algorithm: Algorithm,
+) -> Result<Algorithm, AllocError>
     requires { past_algorithm algorithm ≤ length pool.now }
     ensures macros { IfOk result (λ r. r.macros ≡ algorithm.macros) }
     ensures with { IfOk result (λ r. (a : tree.Algorithm) → Begun pool.now plan algorithm a → AreMacros known (summaries (reverse (map (macro_at pool.now) algorithm.macros.items))) → algorithm_at pool.now r ≡ labelled true a) }
@@ -112,7 +122,12 @@ pub fn with_routines(alloc: Global, pool: &Pool, plan: Plan, known: Known, algor
 /// # Errors
 ///
 /// Only for want of memory.
-pub fn with_labels(alloc: Global, pool: &Pool, algorithm: Algorithm, forced: bool) -> Result<Algorithm, AllocError>
+pub fn with_labels(
+    alloc: Global,
+    pool: &Pool,
+    algorithm: Algorithm,
+    forced: bool,
+) -> Result<Algorithm, AllocError>
     requires { past_algorithm algorithm ≤ length pool.now }
     ensures with { IfOk result (λ r. flat_map (λ d. due_in false None d.body) (algorithm_at pool.now r).macros ≡ [] → algorithm_at pool.now r ≡ labelled forced (algorithm_at pool.now algorithm)) }
     ensures numbers { IfOk result (λ r. past_algorithm r ≤ past_algorithm algorithm) }

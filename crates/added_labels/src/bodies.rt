@@ -20,7 +20,14 @@ use tla_pool::Pool;
 
 impl Plan {
     // A body with its labels; true where a label must be before its first statement.
-    fn body(&mut self, alloc: Global, pool: &Pool, place: &Where, due: bool, body: Vec<Stmt>) -> Result<Vec<Stmt>, AllocError>
+    fn body(
+        &mut self,
+        alloc: Global,
+        pool: &Pool,
+        place: &Where,
+        due: bool,
+        body: Vec<Stmt>,
+    ) -> Result<Vec<Stmt>, AllocError>
         requires { past_statements body.items ≤ length pool.now }
         ensures with { IfOk result (λ r. (ms : List Found) → AreMacros place.now.around.known ms → (p : Before) → begins_with due p → BodyWith (effects_of place.now ms) p pool.now self.old self.new body.items r.items) }
         ensures numbers { IfOk result (λ r. past_statements r.items ≤ past_statements body.items) }
@@ -33,7 +40,13 @@ impl Plan {
     }
 
     // A macro with its labels.
-    fn one_macro(&mut self, alloc: Global, pool: &Pool, place: &Where, one: Macro) -> Result<Macro, AllocError>
+    fn one_macro(
+        &mut self,
+        alloc: Global,
+        pool: &Pool,
+        place: &Where,
+        one: Macro,
+    ) -> Result<Macro, AllocError>
         requires numbers { past_macro one ≤ length pool.now }
         requires silent { IsSilent place.now }
         ensures with { IfOk result (λ r. OneWith (macro_at pool.now) macro_with names_past_macro self.old self.new one r) }
@@ -53,7 +66,13 @@ impl Plan {
     /// # Errors
     ///
     /// Only for want of memory.
-    pub fn macros(&mut self, alloc: Global, pool: &Pool, place: &Where, list: Vec<Macro>) -> Result<Vec<Macro>, AllocError>
+    pub fn macros(
+        &mut self,
+        alloc: Global,
+        pool: &Pool,
+        place: &Where,
+        list: Vec<Macro>,
+    ) -> Result<Vec<Macro>, AllocError>
         requires numbers { greatest (map past_macro list.items) ≤ length pool.now }
         requires silent { IsSilent place.now }
         ensures with { IfOk result (λ r. EachWith (macro_at pool.now) macro_with names_past_macro self.old self.new list.items r.items) }
@@ -67,7 +86,13 @@ impl Plan {
     }
 
     // A procedure with its labels.
-    fn one_procedure(&mut self, alloc: Global, pool: &Pool, place: &mut Where, one: Procedure) -> Result<Procedure, AllocError>
+    fn one_procedure(
+        &mut self,
+        alloc: Global,
+        pool: &Pool,
+        place: &mut Where,
+        one: Procedure,
+    ) -> Result<Procedure, AllocError>
         requires numbers { past_procedure one ≤ length pool.now }
         requires loud { place.old.silent ≡ false }
         ensures loud { OnOk result (place.new.silent ≡ false) }
@@ -97,7 +122,13 @@ impl Plan {
     /// # Errors
     ///
     /// Only for want of memory.
-    pub fn procedures(&mut self, alloc: Global, pool: &Pool, place: &mut Where, list: Vec<Procedure>) -> Result<Vec<Procedure>, AllocError>
+    pub fn procedures(
+        &mut self,
+        alloc: Global,
+        pool: &Pool,
+        place: &mut Where,
+        list: Vec<Procedure>,
+    ) -> Result<Vec<Procedure>, AllocError>
         requires numbers { greatest (map past_procedure list.items) ≤ length pool.now }
         requires loud { place.old.silent ≡ false }
         ensures loud { OnOk result (place.new.silent ≡ false) }
@@ -113,7 +144,13 @@ impl Plan {
     }
 
     // A process with its labels.
-    fn one_process(&mut self, alloc: Global, pool: &Pool, place: &Where, one: Process) -> Result<Process, AllocError>
+    fn one_process(
+        &mut self,
+        alloc: Global,
+        pool: &Pool,
+        place: &Where,
+        one: Process,
+    ) -> Result<Process, AllocError>
         requires numbers { past_process one ≤ length pool.now }
         requires outside { IsOutside place.now }
         ensures with { IfOk result (λ r. (ms : List Found) → AreMacros place.now.around.known ms → OneWith (process_at pool.now) (process_with (summary_effect ms)) (names_past_process (summary_effect ms)) self.old self.new one r) }
@@ -139,7 +176,13 @@ impl Plan {
     }
 
     // Processes with their labels.
-    fn processes(&mut self, alloc: Global, pool: &Pool, place: &Where, list: Vec<Process>) -> Result<Vec<Process>, AllocError>
+    fn processes(
+        &mut self,
+        alloc: Global,
+        pool: &Pool,
+        place: &Where,
+        list: Vec<Process>,
+    ) -> Result<Vec<Process>, AllocError>
         requires numbers { greatest (map past_process list.items) ≤ length pool.now }
         requires outside { IsOutside place.now }
         ensures with { IfOk result (λ r. (ms : List Found) → AreMacros place.now.around.known ms → EachWith (process_at pool.now) (process_with (summary_effect ms)) (names_past_process (summary_effect ms)) self.old self.new list.items r.items) }
@@ -157,7 +200,13 @@ impl Plan {
     /// # Errors
     ///
     /// Only for want of memory.
-    pub fn main(&mut self, alloc: Global, pool: &Pool, place: &Where, main: Main) -> Result<Main, AllocError>
+    pub fn main(
+        &mut self,
+        alloc: Global,
+        pool: &Pool,
+        place: &Where,
+        main: Main,
+    ) -> Result<Main, AllocError>
         requires numbers { past_main main ≤ length pool.now }
         requires outside { IsOutside place.now }
         ensures with { IfOk result (λ r. (ms : List Found) → AreMacros place.now.around.known ms → MainWith (summary_effect ms) pool.now self.old main r) }

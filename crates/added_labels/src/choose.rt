@@ -24,7 +24,13 @@ use std::alloc::{AllocError, Global};
 use tla_pool::Pool;
 
 // Before a statement, where it is told whether a label is added: then a path begins anew.
-fn stand(alloc: Global, path: &mut Path, kept: Option<Path>, seen: Seen, needs: bool) -> (Seen, Option<Path>)
+fn stand(
+    alloc: Global,
+    path: &mut Path,
+    kept: Option<Path>,
+    seen: Seen,
+    needs: bool,
+) -> (Seen, Option<Path>)
     ensures { StandsNow needs path.old path.new kept result.1 seen result.0 }
 {
     if needs {
@@ -37,7 +43,13 @@ fn stand(alloc: Global, path: &mut Path, kept: Option<Path>, seen: Seen, needs: 
 
 impl Where {
     // Whether a label is missing in a `with`, or a variable is assigned twice; the path is then as before.
-    fn lacks(&self, alloc: Global, pool: &Pool, path: &mut Path, body: &[Stmt]) -> Result<bool, AllocError>
+    fn lacks(
+        &self,
+        alloc: Global,
+        pool: &Pool,
+        path: &mut Path,
+        body: &[Stmt],
+    ) -> Result<bool, AllocError>
         requires { past_statements body.now ≤ length pool.now }
         ensures names { OnOk result (path.new.names.keys ≡ path.old.names.keys) }
         ensures reached { OnOk result (path.new.reached ≡ path.old.reached) }
@@ -54,7 +66,15 @@ impl Where {
     }
 
     // Whether a label is added before a statement; the path is then as before.
-    fn needs(&self, alloc: Global, pool: &Pool, path: &mut Path, seen: Seen, next: Next, stmt: &Stmt) -> Result<bool, AllocError>
+    fn needs(
+        &self,
+        alloc: Global,
+        pool: &Pool,
+        path: &mut Path,
+        seen: Seen,
+        next: Next,
+        stmt: &Stmt,
+    ) -> Result<bool, AllocError>
         requires { past_stmt stmt.now ≤ length pool.now }
         ensures names { OnOk result (path.new.names.keys ≡ path.old.names.keys) }
         ensures reached { OnOk result (path.new.reached ≡ path.old.reached) }
@@ -81,7 +101,16 @@ impl Where {
 
     // Past a statement, before which it was decided; what is decided of those inside it goes behind the rest.
     #[cycle(choose)]
-    fn choose_inside(&self, alloc: Global, pool: &Pool, path: &mut Path, wanted: &mut Vec<bool>, seen: Seen, next: Next, stmt: &Stmt) -> Result<Seen, AllocError>
+    fn choose_inside(
+        &self,
+        alloc: Global,
+        pool: &Pool,
+        path: &mut Path,
+        wanted: &mut Vec<bool>,
+        seen: Seen,
+        next: Next,
+        stmt: &Stmt,
+    ) -> Result<Seen, AllocError>
         requires { past_stmt stmt.now ≤ length pool.now }
         ensures kept { OnOk result (Behind path.old.names.keys path.new.names.keys) }
         ensures chooses { IfOk result (λ r. (ms : List Found) → AreMacros self.now.around.known ms → (j : Partner) → IsNext next j → (s : PureSpan) (st : Statement) → stmt_at pool.now stmt.now ≡ then s st → (q : paths.Path) → Alike (path_of path.old) q → seen.due ≡ false → ChoosesOne (effects_of self.now ms) q st j path.old path.new seen r wanted.old.items wanted.new.items) }
@@ -90,13 +119,30 @@ impl Where {
             Stmt::Label(_, _) => Ok(seen),
             Stmt::Simple(_, simple) => self.simple(alloc, pool, path, seen, next, simple),
             Stmt::If(_, _, then, otherwise) => {
-                let (first, ends) = self.choose_branch(alloc, pool, path, wanted, seen.into(false), None, then)?;
-                let (second, all) = self.choose_branch(alloc, pool, path, wanted, first, ends, otherwise)?;
+                let (first, ends) = self.choose_branch(
+                    alloc,
+                    pool,
+                    path,
+                    wanted,
+                    seen.into(false),
+                    None,
+                    then,
+                )?;
+                let (second, all) = self.choose_branch(
+                    alloc, pool, path, wanted, first, ends, otherwise,
+                )?;
                 path.close(all)?;
                 Ok(seen.out(second, true))
             }
             Stmt::Either(_, list) => {
-                let (inner, ends) = self.choose_branches(alloc, pool, path, wanted, seen.into(false), list)?;
+                let (inner, ends) = self.choose_branches(
+                    alloc,
+                    pool,
+                    path,
+                    wanted,
+                    seen.into(false),
+                    list,
+                )?;
                 path.close(ends)?;
                 Ok(seen.out(inner, true))
             }
@@ -105,7 +151,15 @@ impl Where {
                 Ok(seen.out(inner, true))
             }
             Stmt::While(_, _, body) => {
-                let (inner, _) = self.choose_branch(alloc, pool, path, wanted, seen.into(false), None, body)?;
+                let (inner, _) = self.choose_branch(
+                    alloc,
+                    pool,
+                    path,
+                    wanted,
+                    seen.into(false),
+                    None,
+                    body,
+                )?;
                 Ok(seen.out(inner, false))
             }
         }
@@ -113,7 +167,16 @@ impl Where {
 
     // Past a branch, which ends as this tells with those before it; the path is then again that of its beginning.
     #[cycle(choose)]
-    fn choose_branch(&self, alloc: Global, pool: &Pool, path: &mut Path, wanted: &mut Vec<bool>, seen: Seen, ends: Option<Path>, stmts: &[Stmt]) -> Result<(Seen, Option<Path>), AllocError>
+    fn choose_branch(
+        &self,
+        alloc: Global,
+        pool: &Pool,
+        path: &mut Path,
+        wanted: &mut Vec<bool>,
+        seen: Seen,
+        ends: Option<Path>,
+        stmts: &[Stmt],
+    ) -> Result<(Seen, Option<Path>), AllocError>
         requires { past_statements stmts.now ≤ length pool.now }
         ensures names { OnOk result (path.new.names.keys ≡ path.old.names.keys) }
         ensures reached { OnOk result (path.new.reached ≡ path.old.reached) }
@@ -129,7 +192,15 @@ impl Where {
 
     // Past branches.
     #[cycle(choose)]
-    fn choose_branches(&self, alloc: Global, pool: &Pool, path: &mut Path, wanted: &mut Vec<bool>, seen: Seen, list: &[Vec<Stmt>]) -> Result<(Seen, Option<Path>), AllocError>
+    fn choose_branches(
+        &self,
+        alloc: Global,
+        pool: &Pool,
+        path: &mut Path,
+        wanted: &mut Vec<bool>,
+        seen: Seen,
+        list: &[Vec<Stmt>],
+    ) -> Result<(Seen, Option<Path>), AllocError>
         requires { past_branches list.now ≤ length pool.now }
         ensures names { OnOk result (path.new.names.keys ≡ path.old.names.keys) }
         ensures reached { OnOk result (path.new.reached ≡ path.old.reached) }
@@ -138,7 +209,9 @@ impl Where {
         let mut so_far = seen;
         let mut ends = None;
         for i in 0..list.len() {
-            let (next, all) = self.choose_branch(alloc, pool, path, wanted, so_far, ends, &list[i])?;
+            let (next, all) = self.choose_branch(
+                alloc, pool, path, wanted, so_far, ends, &list[i],
+            )?;
             so_far = next;
             ends = all;
         }
@@ -147,7 +220,15 @@ impl Where {
 
     // Past a list of statements. It calls itself as deep as statements are in statements.
     #[cycle(choose)]
-    fn choose_list(&self, alloc: Global, pool: &Pool, path: &mut Path, wanted: &mut Vec<bool>, seen: Seen, stmts: &[Stmt]) -> Result<Seen, AllocError>
+    fn choose_list(
+        &self,
+        alloc: Global,
+        pool: &Pool,
+        path: &mut Path,
+        wanted: &mut Vec<bool>,
+        seen: Seen,
+        stmts: &[Stmt],
+    ) -> Result<Seen, AllocError>
         requires { past_statements stmts.now ≤ length pool.now }
         ensures kept { OnOk result (Behind path.old.names.keys path.new.names.keys) }
         ensures chooses { IfOk result (λ r. (ms : List Found) → AreMacros self.now.around.known ms → (p : Before) → OnPath seen path.old p → ChoosesList (effects_of self.now ms) p (statements_at pool.now stmts.now) path.new seen r wanted.old.items wanted.new.items) }
@@ -177,7 +258,14 @@ impl Where {
     /// # Errors
     ///
     /// Only for want of memory.
-    pub fn choose(&self, alloc: Global, pool: &Pool, wanted: &mut Vec<bool>, due: bool, body: &[Stmt]) -> Result<(), AllocError>
+    pub fn choose(
+        &self,
+        alloc: Global,
+        pool: &Pool,
+        wanted: &mut Vec<bool>,
+        due: bool,
+        body: &[Stmt],
+    ) -> Result<(), AllocError>
         requires { past_statements body.now ≤ length pool.now }
         ensures { OnOk result ((ms : List Found) → AreMacros self.now.around.known ms → (p : Before) → begins_with due p → wanted.new.items ≡ wanted.old.items ++ chosen (effects_of self.now ms) p (statements_at pool.now body.now) []) }
     {

@@ -1,11 +1,11 @@
 //! Labels that are added where they are missing.
 #![tactic(auto)]
 
+pub mod add;
+pub mod bodies;
+pub mod choose;
 pub mod names;
 pub mod place;
 pub mod seen;
-pub mod within;
-pub mod choose;
-pub mod bodies;
 pub mod typed;
-pub mod add;
+pub mod within;

@@ -67,7 +67,12 @@ impl Plan {
     }
 
     // The label that is added before a statement, if one is, goes behind these.
-    fn add_label(&mut self, alloc: Global, stmt: &Stmt, out: &mut Vec<Stmt>) -> Result<(), AllocError>
+    fn add_label(
+        &mut self,
+        alloc: Global,
+        stmt: &Stmt,
+        out: &mut Vec<Stmt>,
+    ) -> Result<(), AllocError>
         ensures { OnOk result (PutsLabel self.old self.new stmt.now out.old.items out.new.items) }
     {
         if let Some(place) = place_of(stmt) {
@@ -106,7 +111,11 @@ impl Plan {
 
     // Branches with the labels that are added in them.
     #[cycle(place)]
-    fn branches(&mut self, alloc: Global, list: Vec<Vec<Stmt>>) -> Result<Vec<Vec<Stmt>>, AllocError>
+    fn branches(
+        &mut self,
+        alloc: Global,
+        list: Vec<Vec<Stmt>>,
+    ) -> Result<Vec<Vec<Stmt>>, AllocError>
         ensures puts { IfOk result (λ r. PutsBranches self.old self.new list.items r.items) }
         ensures numbers { IfOk result (λ r. past_branches r.items ≤ past_branches list.items) }
     {

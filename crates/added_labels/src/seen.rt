@@ -134,7 +134,13 @@ impl Where {
     /// # Errors
     ///
     /// Only for want of memory.
-    pub fn step(&self, alloc: Global, pool: &Pool, next: Next, simple: &Simple) -> Result<Step, AllocError>
+    pub fn step(
+        &self,
+        alloc: Global,
+        pool: &Pool,
+        next: Next,
+        simple: &Simple,
+    ) -> Result<Step, AllocError>
         requires { past_simple simple.now ≤ length pool.now }
         ensures { IfOk result (λ r. (ms : List Found) → AreMacros self.now.around.known ms → (j : Partner) → IsNext next j → Assigns r (effect_with (effects_of self.now ms) (simple_at pool.now simple.now) j)) }
     {

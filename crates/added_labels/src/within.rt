@@ -58,7 +58,15 @@ impl Where {
     /// # Errors
     ///
     /// Only for want of memory.
-    pub fn simple(&self, alloc: Global, pool: &Pool, path: &mut Path, seen: Seen, next: Next, simple: &Simple) -> Result<Seen, AllocError>
+    pub fn simple(
+        &self,
+        alloc: Global,
+        pool: &Pool,
+        path: &mut Path,
+        seen: Seen,
+        next: Next,
+        simple: &Simple,
+    ) -> Result<Seen, AllocError>
         requires { past_simple simple.now ≤ length pool.now }
         ensures kept { OnOk result (Behind path.old.names.keys path.new.names.keys) }
         ensures sees { IfOk result (λ r. (ms : List Found) → AreMacros self.now.around.known ms → (j : Partner) → IsNext next j → SeesOne (effects_of self.now ms) (simple_at pool.now simple.now) j path.old path.new seen r) }
@@ -78,7 +86,15 @@ impl Where {
 
     // Past a statement.
     #[cycle(within)]
-    fn one(&self, alloc: Global, pool: &Pool, path: &mut Path, seen: Seen, next: Next, stmt: &Stmt) -> Result<Seen, AllocError>
+    fn one(
+        &self,
+        alloc: Global,
+        pool: &Pool,
+        path: &mut Path,
+        seen: Seen,
+        next: Next,
+        stmt: &Stmt,
+    ) -> Result<Seen, AllocError>
         requires { past_stmt stmt.now ≤ length pool.now }
         ensures kept { OnOk result (Behind path.old.names.keys path.new.names.keys) }
         ensures sees { IfOk result (λ r. (ms : List Found) → AreMacros self.now.around.known ms → (j : Partner) → IsNext next j → (s : PureSpan) (st : Statement) → stmt_at pool.now stmt.now ≡ then s st → SeesOne (effects_of self.now ms) st j path.old path.new seen r) }
@@ -115,7 +131,15 @@ impl Where {
     ///
     /// Only for want of memory.
     #[cycle(within)]
-    pub fn branch(&self, alloc: Global, pool: &Pool, path: &mut Path, seen: Seen, ends: Option<Path>, stmts: &[Stmt]) -> Result<(Seen, Option<Path>), AllocError>
+    pub fn branch(
+        &self,
+        alloc: Global,
+        pool: &Pool,
+        path: &mut Path,
+        seen: Seen,
+        ends: Option<Path>,
+        stmts: &[Stmt],
+    ) -> Result<(Seen, Option<Path>), AllocError>
         requires { past_statements stmts.now ≤ length pool.now }
         ensures names { OnOk result (path.new.names.keys ≡ path.old.names.keys) }
         ensures reached { OnOk result (path.new.reached ≡ path.old.reached) }
@@ -131,7 +155,14 @@ impl Where {
 
     // Past branches.
     #[cycle(within)]
-    fn branches(&self, alloc: Global, pool: &Pool, path: &mut Path, seen: Seen, list: &[Vec<Stmt>]) -> Result<(Seen, Option<Path>), AllocError>
+    fn branches(
+        &self,
+        alloc: Global,
+        pool: &Pool,
+        path: &mut Path,
+        seen: Seen,
+        list: &[Vec<Stmt>],
+    ) -> Result<(Seen, Option<Path>), AllocError>
         requires { past_branches list.now ≤ length pool.now }
         ensures names { OnOk result (path.new.names.keys ≡ path.old.names.keys) }
         ensures reached { OnOk result (path.new.reached ≡ path.old.reached) }
@@ -153,7 +184,14 @@ impl Where {
     ///
     /// Only for want of memory.
     #[cycle(within)]
-    pub fn list(&self, alloc: Global, pool: &Pool, path: &mut Path, seen: Seen, stmts: &[Stmt]) -> Result<Seen, AllocError>
+    pub fn list(
+        &self,
+        alloc: Global,
+        pool: &Pool,
+        path: &mut Path,
+        seen: Seen,
+        stmts: &[Stmt],
+    ) -> Result<Seen, AllocError>
         requires { past_statements stmts.now ≤ length pool.now }
         ensures kept { OnOk result (Behind path.old.names.keys path.new.names.keys) }
         ensures sees { IfOk result (λ r. (ms : List Found) → AreMacros self.now.around.known ms → SeesList (effects_of self.now ms) (statements_at pool.now stmts.now) path.old path.new seen r) }

@@ -1,5 +1,5 @@
 -- Proves that it is told whether labels are added at all.
-use Rattle.std.proofs.Common.{ap, ◌∙◌}
+use Rattle.std.proofs.Common.{ap}
 use Rattle.pcal_tree.specs.declared.algorithm.Main.{Main}
 use Rattle.pcal_tree.specs.InMemory.{main_at, algorithm_at}
 use Rattle.pcal_tree.specs.Labelled.{is_alone}

@@ -1,12 +1,12 @@
 -- Proves that labels are put where it was decided.
-use Rattle.std.proofs.Common.{Vec, Global, ap, ◌∙◌, subst, sym, arith}
+use Rattle.std.proofs.Common.{Vec, Global, ap, ◌∙◌, arith}
 use Rattle.std.proofs.lemmas.List.{length_push}
 use Rattle.std.proofs.lemmas.Iterator.Adapters.{YieldsList-from_vec}
 use Rattle.std.proofs.lemmas.Iterator.Consumers.{YieldsList-turn, YieldsList-end}
 use Rattle.tla_tree.proofs.PoolNumbers.{past_at}
 use Rattle.pcal_tree.specs.declared.algorithm.Stmt.{Stmt}
-use Rattle.pcal_tree.proofs.StatementHeights.{height, heights, branch_heights, if_height, either_height, while_height}
-use Rattle.added_labels.proofs.PlaceLaws.{in_label, in_simple, in_with, in_if, in_either, in_while, if_numbers, either_numbers, while_numbers, none_put, next_put, all_put, all_numbers, none_in, next_in, all_in, in_numbers}
+use Rattle.pcal_tree.proofs.StatementHeights.{height, heights, either_height}
+use Rattle.added_labels.proofs.PlaceLaws.{in_label, in_simple, in_with, in_if, in_either, in_while, either_numbers, next_put, all_put, next_in, all_in}
 use Rattle.added_labels.proofs.place.Plan.+place.Goals as goal
 
 pub inside-branches-requires : goal.inside-branches-requires

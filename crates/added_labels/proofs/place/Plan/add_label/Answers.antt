@@ -1,5 +1,4 @@
 -- Proves that the label of a statement is put before it.
-use Rattle.std.proofs.Common.{sym}
 use Rattle.added_labels.proofs.PlaceLaws.{no_label, one_label, missing_label, not_some}
 use Rattle.added_labels.proofs.place.Plan.add_label.Goals as goal
 

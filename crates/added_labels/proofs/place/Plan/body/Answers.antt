@@ -1,7 +1,5 @@
 -- Proves that a body has its labels.
-use Rattle.std.proofs.Common.{refl, ◌∙◌, List}
-use Rattle.pcal_tree.specs.declared.algorithm.Stmt.{Stmt}
-use Rattle.pcal_tree.specs.InMemory.{statements_at}
+use Rattle.std.proofs.Common.{refl}
 use Rattle.added_labels.specs.Sight.{effects_of}
 use Rattle.added_labels.proofs.SightLaws.{if_ok_then}
 use Rattle.added_labels.proofs.BodyLaws.{body_is, chosen_here}

@@ -1,12 +1,12 @@
 -- Proves that labels are added one after the other.
-use Rattle.std.proofs.Common.{sym, subst, ◌∙◌, arith}
+use Rattle.std.proofs.Common.{◌∙◌, arith}
 use Rattle.std.proofs.lemmas.List.{length_push}
 use Rattle.std.proofs.lemmas.Iterator.Adapters.{YieldsList-from_vec}
 use Rattle.std.proofs.lemmas.Iterator.Consumers.{YieldsList-turn, YieldsList-end}
 use Rattle.tla_tree.proofs.PoolNumbers.{past_at}
 use Rattle.pcal_tree.specs.InMemory.{macro_at, past_macro}
 use Rattle.added_labels.specs.Placed.{macro_with, past_macro as names_past_macro}
-use Rattle.added_labels.proofs.BodyLaws.{none_with, next_with, all_with, next_numbers, all_numbers}
+use Rattle.added_labels.proofs.BodyLaws.{next_with, all_with, next_numbers, all_numbers}
 use Rattle.added_labels.proofs.place.Plan.macros.Goals as goal
 
 pub one_macro-requires-clause-numbers : goal.one_macro-requires-clause-numbers

@@ -9,7 +9,7 @@ use Rattle.pcal_tree.specs.laws.MacroSummaries.{summary_effect}
 use Rattle.label_steps.specs.declared.known.Known.{Known}
 use Rattle.label_steps.specs.KnownIn.{AreMacros}
 use Rattle.added_labels.specs.Placed.{procedure_with, past_procedure as names_past_procedure}
-use Rattle.added_labels.proofs.BodyLaws.{none_with, next_with, all_with, next_numbers, all_numbers}
+use Rattle.added_labels.proofs.BodyLaws.{next_with, all_with, next_numbers, all_numbers}
 use Rattle.added_labels.proofs.place.Plan.procedures.Goals as goal
 
 pub one_procedure-requires-clause-numbers : goal.one_procedure-requires-clause-numbers
@@ -23,8 +23,8 @@ loop-one-preserved c =
     let y = YieldsList-turn (YieldsList-from_vec {s = c.into_iter-one-iterator.result} c.args.list.items c.into_iter-one-iterator.ensures.into_iter_gives.0 (c.into_iter-one-iterator.ensures.into_iter_gives.1 ∙ c.args.list.ok.0)) c.loop-one.yielded c.loop-one.one-iterator c.loop-one.yielded_by c.next.result c.next.new.self c.in-Some.one c.in-Some.is c.next.ensures.steps in
     let n = length_push c.loop-one.yielded c.in-Some.one in
     record {
-  loud = c.in_ok-one_procedure.ensures.loud;
-  known = c.in_ok-one_procedure.ensures.known ∙ c.loop-one.invariant.known;
+      loud = c.in_ok-one_procedure.ensures.loud;
+      known = c.in_ok-one_procedure.ensures.known ∙ c.loop-one.invariant.known;
       with = λ ms a. next_with (procedure_at c.args.pool.now) (procedure_with (summary_effect ms)) (names_past_procedure (summary_effect ms)) c.args.self.now c.loop-one.self c.one_procedure.new.self c.args.list.items c.loop-one.out.items _ _ c.in-Some.one c.in_ok-one_procedure.field-0 n y (c.loop-one.invariant.with ms a) (c.in_ok-one_procedure.ensures.with ms (subst (λ (k : Known). AreMacros k ms) (sym c.loop-one.invariant.known) a)) c.push.new.self.items c.in_ok-push.ensures.items;
       numbers = next_numbers past_procedure c.args.list.items c.loop-one.out.items _ _ c.in-Some.one c.in_ok-one_procedure.field-0 n y c.loop-one.invariant.numbers c.in_ok-one_procedure.ensures.numbers c.push.new.self.items c.in_ok-push.ensures.items;
     }

@@ -1,5 +1,5 @@
 -- Proves that labels are added one after the other.
-use Rattle.std.proofs.Common.{sym, subst, ◌∙◌, arith}
+use Rattle.std.proofs.Common.{◌∙◌, arith}
 use Rattle.std.proofs.lemmas.List.{length_push}
 use Rattle.std.proofs.lemmas.Iterator.Adapters.{YieldsList-from_vec}
 use Rattle.std.proofs.lemmas.Iterator.Consumers.{YieldsList-turn, YieldsList-end}
@@ -7,7 +7,7 @@ use Rattle.tla_tree.proofs.PoolNumbers.{past_at}
 use Rattle.pcal_tree.specs.InMemory.{process_at, past_process}
 use Rattle.pcal_tree.specs.laws.MacroSummaries.{summary_effect}
 use Rattle.added_labels.specs.Placed.{process_with, past_process as names_past_process}
-use Rattle.added_labels.proofs.BodyLaws.{none_with, next_with, all_with, next_numbers, all_numbers}
+use Rattle.added_labels.proofs.BodyLaws.{next_with, all_with, next_numbers, all_numbers}
 use Rattle.added_labels.proofs.place.Plan.processes.Goals as goal
 
 pub one_process-requires-clause-numbers : goal.one_process-requires-clause-numbers

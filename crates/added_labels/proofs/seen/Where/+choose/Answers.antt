@@ -1,21 +1,19 @@
 -- Proves that it is decided before which statements labels are added.
-use Rattle.std.proofs.Common.{◌≡◌, ◌+◌, ◌||◌, true, false, List, Vec, Global, None, drop, refl, sym, ap, ◌∙◌, subst, arith}
-use Rattle.tla_tree.specs.Tree.{Word}
+use Rattle.std.proofs.Common.{◌+◌, List, Vec, Global, drop, refl, sym, ap, ◌∙◌, subst, arith}
 use Rattle.tla_tree.proofs.PoolNumbers.{past_at}
 use Rattle.pcal_tree.specs.declared.algorithm.Stmt.{Stmt}
 use Rattle.pcal_tree.specs.Algorithm.{Branches, Statements}
-use Rattle.pcal_tree.specs.InMemory.{span_of, past_stmt, past_statements, past_branches, simple_at, stmt_at, statements_at, branches_at}
-use Rattle.pcal_tree.proofs.InMemoryEach.{simple_in_list_at, past_either}
+use Rattle.pcal_tree.specs.InMemory.{past_stmt, past_statements, past_branches, stmt_at, statements_at, branches_at}
+use Rattle.pcal_tree.proofs.InMemoryEach.{past_either}
 use Rattle.pcal_tree.proofs.StatementHeights.{height, heights, branch_heights, either_height}
-use Rattle.label_steps.proofs.WalksLaws.{next_one, next_none, next_branch, next_no_branch, not_label, taken, behind_then, stays_behind}
+use Rattle.label_steps.proofs.WalksLaws.{next_one, next_none, next_branch, next_no_branch, not_label, taken, stays_behind}
 use Rattle.pcal_tree.specs.Paths as paths
 use Rattle.pcal_tree.proofs.EffectLaws.{Alike}
-use Rattle.label_steps.specs.PathsIn.{path_of}
 use Rattle.added_labels.specs.declared.seen.Seen.{Seen}
 use Rattle.added_labels.specs.Chosen.{ChoosesBranch, ChoosesList}
 use Rattle.added_labels.specs.Sight.{effects_of}
-use Rattle.added_labels.proofs.SightLaws.{if_ok_then, quiet, is_label, is_statement, kept_begins, kept_passed, kept_ends, none_kept, path_same}
-use Rattle.added_labels.proofs.ChooseLaws.{ChoiceOfBranches, ChoiceOfList, simple_chosen, if_chosen, either_chosen, with_chosen, while_chosen, mark_chosen, one_chosen, choice_same, on_same, kept_stands, kept_same, branch_chooses, on_path, choice_begins, choice_next, choice_ends, list_chosen, list_chooses}
+use Rattle.added_labels.proofs.SightLaws.{if_ok_then, is_label, is_statement, kept_begins, kept_passed, none_kept, path_same}
+use Rattle.added_labels.proofs.ChooseLaws.{ChoiceOfBranches, ChoiceOfList, simple_chosen, if_chosen, either_chosen, with_chosen, while_chosen, mark_chosen, one_chosen, choice_same, kept_stands, kept_same, branch_chooses, on_path, choice_next, choice_ends, list_chooses}
 use Rattle.added_labels.proofs.seen.Where.+choose.Goals as goal
 
 pub choose_inside-choose_branches-requires : goal.choose_inside-choose_branches-requires
@@ -135,7 +133,7 @@ choose_list-loop-i-preserved t c =
     let is = next_one ts c.args.stmts.now c.loop-i.i c.index-stmts-i.result c.index-stmts-i.is c.loop-i-test.true in
     let k = is_statement c.place_of.result c.is_none.result f (c.place_of.ensures ts) c.is_none.ensures c.if-is_none.false in
     let stood = kept_stands c.in_ok-needs.needs c.args.path.now c.needs.new.path c.stand-first.new.path c.loop-i.kept c.stand-first.result.1 c.loop-i.so_far c.stand-first.result.0
-        (kept_same c.args.path.now c.loop-i.path c.needs.new.path c.loop-i.kept c.loop-i.invariant.kept c.in_ok-needs.ensures.names) c.stand-first.ensures in
+    (kept_same c.args.path.now c.loop-i.path c.needs.new.path c.loop-i.kept c.loop-i.invariant.kept c.in_ok-needs.ensures.names) c.stand-first.ensures in
     record {
       kept = kept_passed c.args.path.now c.stand-first.new.path c.choose_inside.new.path c.stand-first.result.1 stood c.in_ok-so_far.ensures.kept;
       left = λ ms a p o.

@@ -1,17 +1,16 @@
 -- Proves that what is missing inside a `with` is found, and the path behind it.
-use Rattle.std.proofs.Common.{◌≡◌, ◌+◌, ◌||◌, true, false, List, Vec, Global, None, drop, refl, sym, ap, ◌∙◌, subst, arith}
-use Rattle.tla_tree.specs.Tree.{Word}
+use Rattle.std.proofs.Common.{◌+◌, ◌||◌, List, Vec, Global, drop, sym, ap, ◌∙◌, subst, arith}
 use Rattle.tla_tree.proofs.PoolNumbers.{past_at}
 use Rattle.pcal_tree.specs.declared.algorithm.Stmt.{Stmt}
 use Rattle.pcal_tree.specs.Algorithm.{Branches, Statements}
-use Rattle.pcal_tree.specs.InMemory.{span_of, past_stmt, past_statements, past_branches, simple_at, stmt_at, statements_at, branches_at}
-use Rattle.pcal_tree.proofs.InMemoryEach.{simple_in_list_at, past_either}
+use Rattle.pcal_tree.specs.InMemory.{past_stmt, past_statements, past_branches, stmt_at, statements_at, branches_at}
+use Rattle.pcal_tree.proofs.InMemoryEach.{past_either}
 use Rattle.pcal_tree.proofs.StatementHeights.{height, heights, branch_heights, either_height}
-use Rattle.label_steps.proofs.WalksLaws.{next_one, next_none, next_branch, next_no_branch, not_label, taken, behind_then, stays_behind}
+use Rattle.label_steps.proofs.WalksLaws.{next_one, next_none, next_branch, next_no_branch, not_label, taken}
 use Rattle.pcal_tree.specs.OffencesSteps.{holds}
 use Rattle.added_labels.specs.declared.seen.Seen.{Seen}
 use Rattle.added_labels.specs.Sight.{effects_of, SeesBranch, SeesList}
-use Rattle.added_labels.proofs.SightLaws.{branch_sees, none_left, one_left, all_left, BranchesLeft, ListLeft, list_begins, list_ends, if_ok_then, quiet, simple_stands, if_stands, either_stands, with_stands, while_stands, label_left, label_held, one_more, one_held, kept_begins, kept_passed, kept_ends, none_kept, is_label, is_statement}
+use Rattle.added_labels.proofs.SightLaws.{branch_sees, one_left, all_left, BranchesLeft, ListLeft, list_ends, if_ok_then, quiet, simple_stands, if_stands, either_stands, with_stands, while_stands, label_left, label_held, one_more, one_held, kept_begins, kept_passed, none_kept, is_label, is_statement}
 use Rattle.added_labels.proofs.seen.Where.+within.Goals as goal
 
 pub one-branches-requires : goal.one-branches-requires

@@ -2,7 +2,7 @@
 use Rattle.label_steps.proofs.WalksLaws.{not_label}
 use Rattle.added_labels.specs.Sight.{effects_of}
 use Rattle.added_labels.proofs.SightLaws.{quiet, if_ok_then}
-use Rattle.added_labels.proofs.ChooseLaws.{needs_if_labelled, needs_if_due, needs_simple, needs_if, needs_either, needs_with, needs_while}
+use Rattle.added_labels.proofs.ChooseLaws.{needs_simple, needs_if, needs_either, needs_with, needs_while}
 use Rattle.added_labels.proofs.seen.Where.needs.Goals as goal
 
 pub returns-in-Label-clause-needs : goal.returns-in-Label-clause-needs
