@@ -115,10 +115,10 @@ module _ (S : Statement → Found) where
 abbrev pub FoundIn : (Statement → Found) → List Visit → Found
 FoundIn S vs = record { names = flat_map (names_met S) vs; pairs = flat_map (pairs_met S) vs }
 
-abbrev Turns : List Word → List Word → List Pair
+abbrev pub Turns : List Word → List Word → List Pair
 Turns xs ys = flat_map (λ y. map (λ x. in_turn x y) xs) ys
 
-turns_alike : (xs us ys : List Word) → Same xs us → Same (Turns xs ys) (Turns us ys)
+pub turns_alike : (xs us ys : List Word) → Same xs us → Same (Turns xs ys) (Turns us ys)
 turns_alike xs us ys s f =
     any_flat f (λ y. map (λ x. in_turn x y) xs) ys
     ∙ any_same (λ y. list_any f (map (λ x. in_turn x y) xs)) (λ y. list_any f (map (λ x. in_turn x y) us))

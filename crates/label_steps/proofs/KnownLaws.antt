@@ -10,13 +10,15 @@ use Rattle.pcal_tree.specs.Algorithm.{Name}
 use Rattle.pcal_tree.specs.Paths.{Effect}
 use Rattle.pcal_tree.specs.laws.MacroSummaries as found
 use Rattle.pcal_tree.specs.laws.MacroSummaries.{argument, resolved, is_broken, effect_by, summary_effect}
+use Rattle.pcal_tree.specs.Run.{arguments}
 use Rattle.pcal_tree.proofs.SetLaws.{any_flat}
+use Rattle.pcal_tree.proofs.TargetLaws.{arguments_anywhere}
 use Rattle.algorithm_limits.specs.Numbers.{Numbers, number_of, with_number}
 use Rattle.algorithm_limits.proofs.Tables.{number_of_with}
 use Rattle.label_steps.specs.declared.known.Known.{Known}
 use Rattle.label_steps.specs.declared.put.Summary.{Summary}
 use Rattle.label_steps.specs.declared.sides.Step.{Step}
-use Rattle.label_steps.specs.KnownIn.{Assigns, IsSummary, find_summary, effect_found, IsFound, AreMacros}
+use Rattle.label_steps.specs.KnownIn.{Assigns, IsSummary, find_summary, effect_found, IsFound, AreMacros, IsKnown}
 use Rattle.label_steps.specs.PutIn.{pair_of, variable_put}
 
 -- ---- calls
@@ -34,41 +36,31 @@ assigns_found : (ms : List found.Summary) (m : Word) (ts : Trees) (s : Step) (o 
 assigns_found ms m ts s o e a = subst (λ (f : Effect). Assigns s f) (ap (λ (p : Option found.Summary). effect_found p ts) (sym e) ∙ found_call ms m ts) a
 
 -- a name of no macro
-pub no_call : (k : Known) (ms : List found.Summary) (m : Word) (ts : Trees) (s : Step) → AreMacros k ms → number_of k.numbers m ≡ 0 → s.names.items ≡ [] → s.twice ≡ false → Assigns s (summary_effect ms m ts)
-no_call k ms m ts s a e n t =
-    assigns_found ms m ts s None (subst (λ (i : ℕ). IsFound k.summaries.items i (find_summary ms m)) e (a m)) (record { names = λ f. ap (list_any f) n; twice = t })
-
-pub past_call : (k : Known) (ms : List found.Summary) (m : Word) (ts : Trees) (s : Step) → AreMacros k ms → length k.summaries.items < number_of k.numbers m → Assigns s (summary_effect ms m ts)
-past_call k ms m ts s a less = by (number_of k.numbers m) less (a m)
-  where
-    by : (n : ℕ) → length k.summaries.items < n → IsFound k.summaries.items n (find_summary ms m) → Assigns s (summary_effect ms m ts)
-    by zero l f = absurd (omega (arith, l))
-    by (suc i) l f = let h = slice_get_within k.summaries.items i f.1 f.3 in absurd (omega (arith, l, h))
+pub no_call : (ms : List found.Summary) (m : Word) (ts : Trees) (s : Step) → find_summary ms m ≡ None → s.names.items ≡ [] → s.twice ≡ false → Assigns s (summary_effect ms m ts)
+no_call ms m ts s e n t = assigns_found ms m ts s None e (record { names = λ f. ap (list_any f) n; twice = t })
 
 -- by the macro's summary
-step_assigns : (r : Step) (s : Summary) (d : found.Summary) (ts : Trees) → r.names.items ≡ flat_map (variable_put s.params.items ts) s.names.items
-    → r.twice ≡ list_any (is_broken (argument s.params.items ts)) (map pair_of s.pairs.items) → IsSummary s d → Assigns r (effect_by (argument d.params ts) d.found)
-step_assigns r s d ts n t h = record {
+step_assigns : (xs : List Word) (r : Step) (s : Summary) (d : found.Summary) (ts : Trees) → r.names.items ≡ flat_map (variable_put s.params.items ts) s.names.keys
+    → r.twice ≡ list_any (is_broken (argument s.params.items ts)) (map pair_of s.pairs.keys) → IsSummary xs s d → Assigns r (effect_by (argument d.params ts) d.found)
+step_assigns xs r s d ts n t h = record {
   names = λ f.
-      ap (list_any f) n ∙ any_flat f (variable_put s.params.items ts) s.names.items ∙ h.names (λ x. list_any f (variable_put s.params.items ts x))
+      ap (list_any f) n ∙ any_flat f (variable_put s.params.items ts) s.names.keys ∙ h.names (λ x. list_any f (variable_put s.params.items ts x))
       ∙ sym (any_flat f (variable_put s.params.items ts) d.found.names)
       ∙ ap (λ (ps : List Name). list_any f (flat_map (variable_put ps ts) d.found.names)) h.params;
   twice =
-      t ∙ h.pairs (is_broken (argument s.params.items ts)) ∙ ap (λ (ps : List Name). list_any (is_broken (argument ps ts)) d.found.pairs) h.params;
+      t ∙ ap (λ (ps : List Name). list_any (is_broken (argument ps ts)) (map pair_of s.pairs.keys)) h.params
+      ∙ h.pairs (arguments d.params ts) (record { anywhere = arguments_anywhere d.params ts; params = λ x e. h.inside x e ts });
 }
 
-pub found_assigns : (k : Known) (ms : List found.Summary) (m : Word) (ts : Trees) (r : Step) (s : Summary) → AreMacros k ms → (i : ℕ) → number_of k.numbers m ≡ suc i → s ≡ get_or k.summaries.items i s
-    → r.names.items ≡ flat_map (variable_put s.params.items ts) s.names.items → r.twice ≡ list_any (is_broken (argument s.params.items ts)) (map pair_of s.pairs.items) → Assigns r (summary_effect ms m ts)
-found_assigns k ms m ts r s a i e is n t =
-    let f = subst (λ (j : ℕ). IsFound k.summaries.items j (find_summary ms m)) e (a m) in
-    let same : f.1 ≡ s = sym (get_or_from_slice_get k.summaries.items i f.1 s f.3) ∙ sym is in
-    assigns_found ms m ts r (Some f.0) f.2 (step_assigns r s f.0 ts n t (subst (λ (q : Summary). IsSummary q f.0) same f.4))
+pub one_call : (xs : List Word) (ms : List found.Summary) (m : Word) (ts : Trees) (r : Step) (s : Summary) (d : found.Summary) → find_summary ms m ≡ Some d → IsSummary xs s d
+    → r.names.items ≡ flat_map (variable_put s.params.items ts) s.names.keys → r.twice ≡ list_any (is_broken (argument s.params.items ts)) (map pair_of s.pairs.keys) → Assigns r (summary_effect ms m ts)
+one_call xs ms m ts r s d e is n t = assigns_found ms m ts r (Some d) e (step_assigns xs r s d ts n t is)
 
 -- ---- one more macro
 
-found_more : (ss : List Summary) (s : Summary) (n : ℕ) (o : Option found.Summary) → IsFound ss n o → IsFound (ss ++ s ∷ []) n o
-found_more ss s zero o f = f
-found_more ss s (suc i) o f =
+found_more : (xs : List Word) (ss : List Summary) (s : Summary) (n : ℕ) (o : Option found.Summary) → IsFound xs ss n o → IsFound xs (ss ++ s ∷ []) n o
+found_more xs ss s zero o f = f
+found_more xs ss s (suc i) o f =
     let less = slice_get_within ss i f.1 f.3 in
     let more = length-append ss (s ∷ []) in (
       f.0,
@@ -78,21 +70,41 @@ found_more ss s (suc i) o f =
       f.4,
     )
 
-found_last : (ss : List Summary) (s : Summary) (d : found.Summary) → IsSummary s d → IsFound (ss ++ s ∷ []) (suc (length ss)) (Some d)
-found_last ss s d h =
+found_last : (xs : List Word) (ss : List Summary) (s : Summary) (d : found.Summary) → IsSummary xs s d → IsFound xs (ss ++ s ∷ []) (suc (length ss)) (Some d)
+found_last xs ss s d h =
     let more = length-append ss (s ∷ []) in
     (d, s, refl, slice_get_read (ss ++ s ∷ []) (length (ss ++ s ∷ [])) (length ss) s refl (omega (arith, more)) (sym (get_or-append_seam ss s [] s)), h)
 
-pub knows_more : (k j : Known) (ms : List found.Summary) (d : found.Summary) (s : Summary) (n : ℕ) → AreMacros k ms → IsSummary s d → j.summaries.items ≡ k.summaries.items ++ s ∷ []
+pub knows_more : (k j : Known) (ms : List found.Summary) (d : found.Summary) (s : Summary) (n : ℕ) → AreMacros k ms → IsSummary k.params.keys s d → j.params.keys ≡ k.params.keys → j.summaries.items ≡ k.summaries.items ++ s ∷ []
     → n ≡ length k.summaries.items + 1 → j.numbers ≡ with_number k.numbers d.name n → AreMacros j (d ∷ ms)
-knows_more k j ms d s n h is all last table m =
-    subst (λ (es : Numbers). IsFound j.summaries.items (number_of es m) (find_summary (d ∷ ms) m)) (sym table)
-    (subst (λ (ss : List Summary). IsFound ss (number_of (with_number k.numbers d.name n) m) (find_summary (d ∷ ms) m)) (sym all)
-    (subst (λ (i : ℕ). IsFound (k.summaries.items ++ s ∷ []) i (find_summary (d ∷ ms) m)) (sym (number_of_with k.numbers d.name n m)) (by (bytes_eq d.name m))))
+knows_more k j ms d s n h is same all last table m =
+    subst (λ (xs : List Word). IsFound xs j.summaries.items (number_of j.numbers m) (find_summary (d ∷ ms) m)) (sym same)
+    (subst (λ (es : Numbers). IsFound k.params.keys j.summaries.items (number_of es m) (find_summary (d ∷ ms) m)) (sym table)
+    (subst (λ (ss : List Summary). IsFound k.params.keys ss (number_of (with_number k.numbers d.name n) m) (find_summary (d ∷ ms) m)) (sym all)
+    (subst (λ (i : ℕ). IsFound k.params.keys (k.summaries.items ++ s ∷ []) i (find_summary (d ∷ ms) m)) (sym (number_of_with k.numbers d.name n m)) (by (bytes_eq d.name m)))))
   where
-    by : (b : Bool) → IsFound (k.summaries.items ++ s ∷ []) (cond b n (number_of k.numbers m)) (cond b (Some d) (find_summary ms m))
-    by true = subst (λ (i : ℕ). IsFound (k.summaries.items ++ s ∷ []) i (Some d)) (let e : suc (length k.summaries.items) ≡ n = omega (arith, last) in e) (found_last k.summaries.items s d is)
-    by false = found_more k.summaries.items s (number_of k.numbers m) (find_summary ms m) (h m)
+    by : (b : Bool) → IsFound k.params.keys (k.summaries.items ++ s ∷ []) (cond b n (number_of k.numbers m)) (cond b (Some d) (find_summary ms m))
+    by true = subst (λ (i : ℕ). IsFound k.params.keys (k.summaries.items ++ s ∷ []) i (Some d)) (let e : suc (length k.summaries.items) ≡ n = omega (arith, last) in e) (found_last k.params.keys k.summaries.items s d is)
+    by false = found_more k.params.keys k.summaries.items s (number_of k.numbers m) (find_summary ms m) (h m)
 
 pub knows_none : (k : Known) → k.numbers ≡ [] → AreMacros k []
-knows_none k e m = subst (λ (es : Numbers). IsFound k.summaries.items (number_of es m) None) (sym e) refl
+knows_none k e m = subst (λ (es : Numbers). IsFound k.params.keys k.summaries.items (number_of es m) None) (sym e) refl
+
+-- ---- what is known of one
+
+pub none_known : (k : Known) (ms : List found.Summary) (m : Word) → AreMacros k ms → number_of k.numbers m ≡ 0 → IsKnown k.params.keys None (find_summary ms m)
+none_known k ms m a e = subst (λ (i : ℕ). IsFound k.params.keys k.summaries.items i (find_summary ms m)) e (a m)
+
+pub none_past : (k : Known) (ms : List found.Summary) (m : Word) → AreMacros k ms → length k.summaries.items < number_of k.numbers m → IsKnown k.params.keys None (find_summary ms m)
+none_past k ms m a less = by (number_of k.numbers m) less (a m)
+  where
+    by : (n : ℕ) → length k.summaries.items < n → IsFound k.params.keys k.summaries.items n (find_summary ms m) → IsKnown k.params.keys None (find_summary ms m)
+    by zero l f = absurd (omega (arith, l))
+    by (suc i) l f = let h = slice_get_within k.summaries.items i f.1 f.3 in absurd (omega (arith, l, h))
+
+pub one_known : (k : Known) (ms : List found.Summary) (m : Word) (s : Summary) → AreMacros k ms → (i : ℕ) → number_of k.numbers m ≡ suc i → s ≡ get_or k.summaries.items i s
+    → (d : found.Summary) × (find_summary ms m ≡ Some d) × IsSummary k.params.keys s d
+one_known k ms m s a i e is =
+    let f = subst (λ (j : ℕ). IsFound k.params.keys k.summaries.items j (find_summary ms m)) e (a m) in
+    let same : f.1 ≡ s = sym (get_or_from_slice_get k.summaries.items i f.1 s f.3) ∙ sym is in
+    (f.0, f.2, subst (λ (q : Summary). IsSummary k.params.keys q f.0) same f.4)

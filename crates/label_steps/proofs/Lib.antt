@@ -7,3 +7,9 @@ pub mod PathLaws
 pub mod SideLaws
 pub mod PutLaws
 pub mod KnownLaws
+pub mod AroundLaws
+pub mod AddsLaws
+pub mod WalksLaws
+pub mod TwiceLaws
+pub mod LearnLaws
+pub mod AgreeLaws

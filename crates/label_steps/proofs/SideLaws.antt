@@ -95,15 +95,19 @@ sides_none s n t r = record { names = λ f. ap (list_any f) n; twice = t; ranks 
 pub sides_first : (ts : List Tree) (s : Sides) (ms : List Assignment) → AreSides s no_assignments → AreSides s (assignments_at ts (drop (length ms - 0) ms))
 sides_first ts s ms a = subst (λ (ns : List Assignment). AreSides s (assignments_at ts ns)) (sym (drop_all (length ms - 0) ms (omega arith))) a
 
-pub sides_more : (ts : List Tree) (old new : Sides) (ms : List Assignment) (i : ℕ) (m : Assignment) → m ≡ get_or ms (length ms - 1 - i) m → i < length ms
-    → ((t : Tree) (ns : Assignments) → AreSides old ns → AreSides new (assignment (at ts m.left) t ns)) → AreSides old (assignments_at ts (drop (length ms - i) ms)) → AreSides new (assignments_at ts (drop (length ms - (i + 1)) ms))
-sides_more ts old new ms i m e l h a =
+pub next_side : (ts : List Tree) (ms : List Assignment) (i : ℕ) (m : Assignment) → m ≡ get_or ms (length ms - 1 - i) m → i < length ms
+    → assignment (at ts m.left) (at ts m.right) (assignments_at ts (drop (length ms - i) ms)) ≡ assignments_at ts (drop (length ms - (i + 1)) ms)
+next_side ts ms i m e l =
     let here : (length ms - 1 - i) + 1 ≡ length ms - i = omega (arith, l) in
     let more : length ms - 1 - i ≡ length ms - (i + 1) = omega (arith, l) in
     let less : length ms - 1 - i < length ms = omega (arith, l) in
-    subst (λ (ns : List Assignment). AreSides new (assignments_at ts ns))
+    ap (λ (ns : List Assignment). assignments_at ts ns)
     (ap (λ (ns : List Assignment). m ∷ ns) (ap (λ (n : ℕ). drop n ms) (sym here)) ∙ ap (λ (z : Assignment). z ∷ drop ((length ms - 1 - i) + 1) ms) e ∙ sym (drop_more ms (length ms - 1 - i) m less) ∙ ap (λ (n : ℕ). drop n ms) more)
-    (h (at ts m.right) (assignments_at ts (drop (length ms - i) ms)) a)
+
+pub sides_more : (ts : List Tree) (old new : Sides) (ms : List Assignment) (i : ℕ) (m : Assignment) → m ≡ get_or ms (length ms - 1 - i) m → i < length ms
+    → ((t : Tree) (ns : Assignments) → AreSides old ns → AreSides new (assignment (at ts m.left) t ns)) → AreSides old (assignments_at ts (drop (length ms - i) ms)) → AreSides new (assignments_at ts (drop (length ms - (i + 1)) ms))
+sides_more ts old new ms i m e l h a =
+    subst (λ (ns : Assignments). AreSides new ns) (next_side ts ms i m e l) (h (at ts m.right) (assignments_at ts (drop (length ms - i) ms)) a)
 
 pub sides_all : (ts : List Tree) (s : Sides) (ms : List Assignment) (i : ℕ) → length ms ≤ i → AreSides s (assignments_at ts (drop (length ms - i) ms)) → AreSides s (assignments_at ts ms)
 sides_all ts s ms i l a =

@@ -8,3 +8,7 @@ pub mod PathsIn
 pub mod SidesIn
 pub mod PutIn
 pub mod KnownIn
+pub mod AroundIn
+pub mod GatheredIn
+pub mod WalksIn
+pub mod MacrosIn

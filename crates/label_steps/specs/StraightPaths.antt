@@ -2,10 +2,11 @@
 -- behind a label of its own.
 use Rattle.std.specs.Prelude.{List, [], ◌∷◌, ◌++◌, Some, None, option_map}
 use Rattle.std.specs.List.{flat_map}
+use Rattle.tla_token.specs.declared.place.Place.{Place}
 use Rattle.tla_token.specs.declared.rule.Refusal.{Refusal}
 use Rattle.tla_tree.specs.Tree.{Word, Trees}
 use Rattle.pcal_tree.specs.Algorithm.{Statement, branch, either, with, while, goto, call, return, Statements, done, then, mark, Branches, no_branches, or, Main, alone, processes, Algorithm}
-use Rattle.pcal_tree.specs.Run.{partner_of}
+use Rattle.pcal_tree.specs.Run.{Partner, partner_of}
 use Rattle.pcal_tree.specs.Paths.{Effect, Effects, Path, joined}
 use Rattle.pcal_tree.specs.OffencesSteps.{inside, Visit, procedure_effects, outer_effects}
 use Rattle.label_steps.specs.AssignedTwice.{twice_at}
@@ -54,6 +55,10 @@ abbrev mutual
 
 abbrev pub straight_twice : Effects → Path → Statements → List Refusal
 straight_twice E p b = flat_map (twice_at E) (straight_visits E p b)
+
+-- of a statement with those in it, at a place and with what comes directly behind it
+abbrev pub straight_met : Effects → Path → Place → Statement → Partner → List Refusal
+straight_met E p at st j = flat_map (twice_at E) (record { before = inside p; place = at; statement = st; partner = j } ∷ straight_inside E p st)
 
 abbrev pub straight_in_main : (Word → Trees → Effect) → Main → List Refusal
 straight_in_main C (alone b) = straight_twice (outer_effects C) (Some []) b

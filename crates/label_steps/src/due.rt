@@ -14,6 +14,7 @@ ghost use Rattle.label_steps.specs.MissingLabels.{due_in, due_in_some, due_in_bo
 ghost use Rattle.label_steps.specs.Walking.{is_labelled, rule_due, due_next, IsBehind, Passes};
 ghost use Rattle.label_steps.specs.declared.due.Before.TheVariants as before;
 
+use crate::truths::either;
 use algorithm_limits::order::{least, or_offence};
 use pcal_tree::algorithm::{Algorithm, Macro, Main, Procedure, Process, Simple, Stmt};
 use tla_token::{Place, Refusal, Rule};
@@ -69,8 +70,8 @@ fn pairs(simple: &Simple) -> bool
     matches!(simple, Simple::Goto(_) | Simple::Return)
 }
 
-// Whether a statement with none in it is a jump.
-fn jumps(simple: &Simple) -> bool
+/// Whether a statement with none in it is a jump.
+pub fn jumps(simple: &Simple) -> bool
     ensures { (ts : List Tree) → result ≡ holds_one (simple_at ts simple.now) }
 {
     matches!(
@@ -102,13 +103,6 @@ fn behind_branch(holds: bool) -> Before
     }
 }
 
-// Whether one of the two holds.
-fn one_of(a: bool, b: bool) -> bool
-    ensures { result ≡ (a || b) }
-{
-    a || b
-}
-
 impl Walk {
     // The first label that is missing, with that before a statement at this place; true where it may be a call's partner.
     fn due(self, pairs: bool, place: Place) -> Option<Refusal>
@@ -137,7 +131,7 @@ impl Walk {
     {
         Walk {
             first: inner.first,
-            holds: one_of(self.holds, inner.holds),
+            holds: either(self.holds, inner.holds),
             before: behind,
         }
     }

@@ -1,11 +1,21 @@
 //! Labels that are missing in an algorithm, and variables that are assigned twice in a step: where an algorithm is refused by them.
 #![tactic(auto)]
 
+pub mod around;
 pub mod due;
+pub mod gathered;
 pub mod known;
+pub mod labels;
 pub mod laws;
+pub mod macros;
 pub mod path;
 pub mod put;
 pub mod sides;
+pub mod steps;
+pub mod truths;
+pub mod twice;
+pub mod walk;
 
 pub use due::due_refusal;
+pub use labels::label_refusal;
+pub use steps::steps_refusal;

@@ -1,27 +1,15 @@
 //! What a path has assigned since its last label.
 
-ghost use Rattle.std.specs.Prelude.{◌≡◌, ◌||◌, ◌&&◌, ◌≤◌, [], true, length, take, IfOk, OnOk};
+ghost use Rattle.std.specs.Prelude.{◌≡◌, ◌||◌, ◌&&◌, ◌≤◌, ◌++◌, [], true, None, length, take, cond, option_map, IfOk, OnOk};
 ghost use Rattle.pcal_tree.proofs.EffectLaws.{Alike};
 ghost use Rattle.pcal_tree.specs.Paths.{joined, has_assigned};
 ghost use Rattle.label_steps.specs.PathsIn.{Behind, Grows, path_of, ends_of};
 
+use crate::sides::Step;
+use crate::truths::{both, either};
 use indexmap::IndexSet;
 use std::alloc::{AllocError, Global};
 use tla_tree::Name;
-
-// Whether one of the two holds.
-fn either(a: bool, b: bool) -> bool
-    ensures { result ≡ (a || b) }
-{
-    a || b
-}
-
-// Whether both hold.
-fn both(a: bool, b: bool) -> bool
-    ensures { result ≡ (a && b) }
-{
-    a && b
-}
 
 // These names are there too, behind those that are.
 #[tactic(auto, using(crate::proofs::PathLaws::grows_none, crate::proofs::PathLaws::grows_one, crate::proofs::PathLaws::grows_more, crate::proofs::PathLaws::grows_all))]
@@ -78,6 +66,29 @@ impl Path {
         ensures reached { OnOk result (self.new.reached ≡ self.old.reached) }
     {
         add_names(&mut self.names, names)
+    }
+
+    /// Whether a statement that assigns so assigns what some path to it, or the statement itself, has assigned.
+    pub fn meets(&self, step: &Step) -> bool
+        ensures { result ≡ (step.now.twice || has_assigned (path_of self.now) step.now.names.items) }
+    {
+        either(step.twice, self.has_one(&step.names))
+    }
+
+    /// Past a statement with none in it that assigns so; true where it is a jump.
+    ///
+    /// # Errors
+    ///
+    /// Only for want of memory.
+    pub fn pass(&mut self, step: &Step, jumps: bool) -> Result<(), AllocError>
+        ensures kept { OnOk result (Behind self.old.names.keys self.new.names.keys) }
+        ensures path { OnOk result (Alike (path_of self.new) (cond jumps None (option_map (λ xs. step.now.names.items ++ xs) (path_of self.old)))) }
+    {
+        if jumps {
+            self.reached = false;
+            return Ok(());
+        }
+        self.add(&step.names)
     }
 
     /// The end of a branch, which began where so many names were there: what the branch assigned is put to that of the branches

@@ -11,12 +11,14 @@ ghost use Rattle.pcal_tree.specs.laws.MacroSummaries.{argument, resolved, resolv
 ghost use Rattle.label_steps.specs.PutIn.{side_of, pair_of, variable_put};
 
 use crate::sides::{Step, is_whole, root};
+use crate::truths::{both, either};
+use indexmap::IndexSet;
 use std::alloc::{AllocError, Global};
 use tla_pool::Pool;
 use tla_tree::{Name, NodeId, PlacedName};
 
 /// A left side of a macro: the name with which it begins, and whether it is the whole of it.
-#[derive(Drop)]
+#[derive(Drop, PartialEq, Eq, Hash)]
 pub struct Side {
     /// A parameter, or another name.
     pub name: Name,
@@ -24,8 +26,24 @@ pub struct Side {
     pub whole: bool,
 }
 
+impl Side {
+    /// The same once more.
+    ///
+    /// # Errors
+    ///
+    /// Only for want of memory.
+    pub fn copied(&self) -> Result<Side, AllocError>
+        ensures { IfOk result (λ s. side_of s ≡ side_of self.now) }
+    {
+        Ok(Side {
+            name: self.name.copied()?,
+            whole: self.whole,
+        })
+    }
+}
+
 /// Names of a macro that must not be one variable.
-#[derive(Drop)]
+#[derive(Drop, PartialEq, Eq, Hash)]
 pub enum Pair {
     /// The second is assigned after the first.
     InTurn(Name, Name),
@@ -39,31 +57,17 @@ pub struct Summary {
     /// Its parameters.
     pub params: Vec<PlacedName>,
     /// The names that it assigns.
-    pub names: Vec<Name>,
-    /// Those that must not be one variable.
-    pub pairs: Vec<Pair>,
+    pub names: IndexSet<Name>,
+    /// Those that must not be one variable, where they may be.
+    pub pairs: IndexSet<Pair>,
 }
 
-// Whether the two are the same name.
+/// Whether the two are the same name.
 #[tactic(auto, using(algorithm_limits::proofs::Tables::same_test))]
-fn same(a: &Name, b: &Name) -> bool
+pub fn same(a: &Name, b: &Name) -> bool
     ensures { result ≡ bytes_eq a.now b.now }
 {
     b == a
-}
-
-// Whether one of the two holds.
-fn either(a: bool, b: bool) -> bool
-    ensures { result ≡ (a || b) }
-{
-    a || b
-}
-
-// Whether both hold.
-fn both(a: bool, b: bool) -> bool
-    ensures { result ≡ (a && b) }
-{
-    a && b
 }
 
 // The argument that stands for a name, if one does.
@@ -83,8 +87,12 @@ fn argument(params: &[PlacedName], args: &[NodeId], name: &Name) -> Option<NodeI
     None
 }
 
-// The variable that a name is where the macro is called, if it is one.
-fn variable(
+/// The variable that a name is where the macro is called, if it is one.
+///
+/// # Errors
+///
+/// Only for want of memory.
+pub fn variable(
     pool: &Pool,
     params: &[PlacedName],
     args: &[NodeId],
@@ -99,8 +107,8 @@ fn variable(
     }
 }
 
-// Whether a left side is the whole of a variable where the macro is called.
-fn stays_whole(pool: &Pool, params: &[PlacedName], args: &[NodeId], side: &Side) -> bool
+/// Whether a left side is the whole of a variable where the macro is called.
+pub fn stays_whole(pool: &Pool, params: &[PlacedName], args: &[NodeId], side: &Side) -> bool
     requires { past_numbers args.now ≤ length pool.now }
     ensures { result ≡ resolved_whole (argument params.now (trees_at pool.now args.now)) (side_of side.now) }
 {
@@ -219,11 +227,11 @@ impl Summary {
     /// Only for want of memory.
     pub fn step(&self, alloc: Global, pool: &Pool, args: &[NodeId]) -> Result<Step, AllocError>
         requires { past_numbers args.now ≤ length pool.now }
-        ensures names { IfOk result (λ r. r.names.items ≡ flat_map (variable_put self.now.params.items (trees_at pool.now args.now)) self.now.names.items) }
-        ensures twice { IfOk result (λ r. r.twice ≡ list_any (is_broken (argument self.now.params.items (trees_at pool.now args.now))) (map pair_of self.now.pairs.items)) }
+        ensures names { IfOk result (λ r. r.names.items ≡ flat_map (variable_put self.now.params.items (trees_at pool.now args.now)) self.now.names.keys) }
+        ensures twice { IfOk result (λ r. r.twice ≡ list_any (is_broken (argument self.now.params.items (trees_at pool.now args.now))) (map pair_of self.now.pairs.keys)) }
     {
-        let names = variables(alloc, pool, &self.params, args, &self.names)?;
-        let twice = breaks_one(pool, &self.params, args, &self.pairs)?;
+        let names = variables(alloc, pool, &self.params, args, self.names.as_slice())?;
+        let twice = breaks_one(pool, &self.params, args, self.pairs.as_slice())?;
         Ok(Step { names, twice })
     }
 }

@@ -10,6 +10,7 @@ ghost use Rattle.pcal_tree.specs.Paths.{root, root_of_first, roots, is_whole, cl
 ghost use Rattle.pcal_tree.proofs.SetLaws.{Same};
 ghost use Rattle.label_steps.specs.SidesIn.{rank_with, rank_clashes, Passed, AreSides};
 
+use crate::truths::either;
 use algorithm_limits::table::Table;
 use pcal_tree::algorithm::Assignment;
 use std::alloc::{AllocError, Global};
@@ -94,27 +95,18 @@ fn rank_with(whole: bool, rank: usize) -> usize
     if whole { 2 } else { rank.max(1) }
 }
 
-// Whether one of the two holds.
-fn one_of(a: bool, b: bool) -> bool
-    ensures { result ≡ (a || b) }
-{
-    a || b
-}
-
 impl Sides {
     // One more left side, of this variable.
     fn add(&mut self, name: Name, whole: bool) -> Result<(), AllocError>
         ensures { OnOk result (Passed self.old self.new name whole) }
     {
         let rank = self.ranks.get(&name);
-        self.step.twice = one_of(clashes(whole, rank), self.step.twice);
+        self.step.twice = either(clashes(whole, rank), self.step.twice);
         self.ranks.set(name.copied()?, rank_with(whole, rank))?;
         self.step.names.push(name)?;
         Ok(())
     }
-}
 
-impl Sides {
     // One more left side.
     #[tactic(auto, using(crate::proofs::SideLaws::side_added, crate::proofs::SideLaws::side_passed))]
     fn side(&mut self, pool: &Pool, left: NodeId) -> Result<(), AllocError>

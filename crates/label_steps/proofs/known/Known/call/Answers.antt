@@ -1,25 +1,16 @@
 -- Proves what a call of a macro assigns.
-use Rattle.std.proofs.Common.{◌≡◌, suc, ◌-◌, List, length, get_or, ◌∙◌, sym, ap, arith}
+use Rattle.std.proofs.Common.{subst}
 use Rattle.tla_tree.specs.Pool.{trees_at}
-use Rattle.algorithm_limits.specs.Numbers.{number_of}
-use Rattle.label_steps.specs.declared.put.Summary.{Summary}
-use Rattle.label_steps.proofs.KnownLaws.{no_call, past_call, found_assigns}
+use Rattle.label_steps.specs.KnownIn.{IsKnown, find_summary}
+use Rattle.label_steps.proofs.KnownLaws.{no_call, one_call}
 use Rattle.label_steps.proofs.known.Known.call.Goals as goal
 
-pub returns-then-number-eq0 : goal.returns-then-number-eq0
-returns-then-number-eq0 c = λ ms a.
-    no_call c.args.self.now ms c.args.name.now (trees_at c.args.pool.now c.args.args.now) c.nothing.result a (sym c.get-number.ensures ∙ c.if-number-eq0.true) c.nothing.ensures.names c.nothing.ensures.twice
+pub returns-in-None : goal.returns-in-None
+returns-in-None c = λ ms a.
+    no_call ms c.args.name.now (trees_at c.args.pool.now c.args.args.now) c.nothing.result (subst (λ o. IsKnown c.args.self.now.params.keys o (find_summary ms c.args.name.now)) c.in-None.is (c.find.ensures ms a))
+    c.nothing.ensures.names c.nothing.ensures.twice
 
-pub returns-then-number-summaries : goal.returns-then-number-summaries
-returns-then-number-summaries c = λ ms a.
-    let all = ap (λ (ss : List Summary). length ss) c.as_slice-summaries.ensures.value in
-    past_call c.args.self.now ms c.args.name.now (trees_at c.args.pool.now c.args.args.now) c.nothing-then-number-summaries.result a (omega (arith, c.if-number-summaries.true, all, c.get-number.ensures))
-
-pub returns : goal.returns
-returns c = λ ms a.
-    let k = c.args.self.now in
-    let m = c.args.name.now in
-    let place = c.get-number.result - 1 in
-    let e : number_of k.numbers m ≡ suc place = omega (arith, c.if-number-eq0.false, c.get-number.ensures) in
-    found_assigns k ms m (trees_at c.args.pool.now c.args.args.now) c.in_ok-step.step c.index-summaries-place.result a place e
-    (c.index-summaries-place.is ∙ ap (λ (ss : List Summary). get_or ss place c.index-summaries-place.result) c.as_slice-summaries.ensures.value) c.in_ok-step.ensures.names c.in_ok-step.ensures.twice
+pub returns-in_ok-step-in-Some : goal.returns-in_ok-step-in-Some
+returns-in_ok-step-in-Some c = λ ms a.
+    let f = subst (λ o. IsKnown c.args.self.now.params.keys o (find_summary ms c.args.name.now)) c.in-Some.is (c.find.ensures ms a) in
+    one_call c.args.self.now.params.keys ms c.args.name.now (trees_at c.args.pool.now c.args.args.now) c.in_ok-step-in-Some.step c.in-Some.summary.now f.0 f.1 f.2 c.in_ok-step-in-Some.ensures.names c.in_ok-step-in-Some.ensures.twice

@@ -1,0 +1,141 @@
+//! Labels added to an algorithm: first to its macros, and then, where it is known what these assign, to what has steps.
+
+ghost use Rattle.std.specs.Prelude.{◌≡◌, ◌≤◌, ◌&&◌, ◌||◌, true, false, None, List, [], length, map, reverse, IfOk};
+ghost use Rattle.std.specs.List.{flat_map};
+ghost use Rattle.tla_tree.specs.Tree.{Tree};
+ghost use Rattle.pcal_tree.specs.Algorithm as tree;
+ghost use Rattle.pcal_tree.specs.InMemory.{macro_at, main_at, algorithm_at, past_algorithm};
+ghost use Rattle.pcal_tree.specs.Labelled.{labelled, is_alone, typed_labels};
+ghost use Rattle.pcal_tree.specs.laws.MacroSummaries.{summaries};
+ghost use Rattle.pcal_tree.specs.Tests.{is_empty};
+ghost use Rattle.label_steps.specs.MissingLabels.{due_in};
+ghost use Rattle.label_steps.specs.KnownIn.{AreMacros};
+ghost use Rattle.added_labels.specs.WithLabels.{Begun};
+
+use crate::names::Names;
+use crate::place::Plan;
+use crate::seen::Where;
+use crate::typed::typed_names;
+use algorithm_limits::labels::{MOST_LABELS, labels};
+use algorithm_limits::table::Table;
+use indexmap::IndexSet;
+use label_steps::around::Around;
+use label_steps::known::Known;
+use label_steps::macros::known_macros;
+use pcal_tree::algorithm::{Algorithm, Main};
+use std::alloc::{AllocError, Global};
+use std::mem::replace;
+use tla_pool::Pool;
+
+// Whether labels are added at all: where they are forced, and to a uniprocess algorithm without any.
+fn are_added(algorithm: &Algorithm, forced: bool) -> bool
+    ensures { (ts : List Tree) → result ≡ (forced || (is_alone (main_at ts algorithm.now.main) && is_empty (typed_labels (algorithm_at ts algorithm.now)))) }
+{
+    if forced {
+        return true;
+    }
+    match &algorithm.main {
+        Main::Alone(_) => labels(algorithm).left == MOST_LABELS,
+        Main::Processes(_) => false,
+    }
+}
+
+/// Adds labels to the macros of an algorithm. The plan is for the rest of it.
+///
+/// # Errors
+///
+/// Only for want of memory.
+pub fn with_macros(
+    alloc: Global,
+    pool: &Pool,
+    algorithm: Algorithm,
+) -> Result<(Plan, Algorithm), AllocError>
+    requires { past_algorithm algorithm ≤ length pool.now }
+    ensures begun { IfOk result (λ r. Begun pool.now r.0 r.1 (algorithm_at pool.now algorithm)) }
+    ensures numbers { IfOk result (λ r. past_algorithm r.1 ≤ past_algorithm algorithm) }
+{
+    let typed = typed_names(alloc, &algorithm)?;
+    let mut plan = Plan {
+        wanted: Vec::new(alloc),
+        passed: 0,
+        names: Names { typed, from: 1 },
+    };
+    let known = Known {
+        params: IndexSet::new(alloc),
+        numbers: Table::new(alloc),
+        summaries: Vec::new(alloc),
+    };
+    let around = Around {
+        known,
+        name: None,
+        own: Vec::new(alloc),
+    };
+    let place = Where {
+        around,
+        silent: true,
+    };
+    let mut changed = algorithm;
+    let macros = replace(&mut changed.macros, Vec::new(alloc));
+    changed.macros = plan.macros(alloc, pool, &place, macros)?;
+    Ok((plan, changed))
+}
+
+/// Adds labels to the procedures of an algorithm and to what runs, where these are known to be its macros, which have theirs.
+///
+/// # Errors
+///
+/// Only for want of memory.
+pub fn with_routines(
+    alloc: Global,
+    pool: &Pool,
+    plan: Plan,
+    known: Known,
+    algorithm: Algorithm,
+) -> Result<Algorithm, AllocError>
+    requires { past_algorithm algorithm ≤ length pool.now }
+    ensures macros { IfOk result (λ r. r.macros ≡ algorithm.macros) }
+    ensures with { IfOk result (λ r. (a : tree.Algorithm) → Begun pool.now plan algorithm a → AreMacros known (summaries (reverse (map (macro_at pool.now) algorithm.macros.items))) → algorithm_at pool.now r ≡ labelled true a) }
+    ensures numbers { IfOk result (λ r. past_algorithm r ≤ past_algorithm algorithm) }
+{
+    let mut plan = plan;
+    let mut place = Where {
+        around: Around {
+            known,
+            name: None,
+            own: Vec::new(alloc),
+        },
+        silent: false,
+    };
+    let mut changed = algorithm;
+    let procedures = replace(&mut changed.procedures, Vec::new(alloc));
+    changed.procedures = plan.procedures(alloc, pool, &mut place, procedures)?;
+    place.around.name = None;
+    place.around.own = Vec::new(alloc);
+    let main = replace(&mut changed.main, Main::Alone(Vec::new(alloc)));
+    changed.main = plan.main(alloc, pool, &place, main)?;
+    Ok(changed)
+}
+
+/// Adds labels to an algorithm, everywhere where they are forced, or where it is a uniprocess algorithm without any. What is
+/// given is right where no label is missing in its macros, as can be only inside a `with` there.
+///
+/// # Errors
+///
+/// Only for want of memory.
+pub fn with_labels(
+    alloc: Global,
+    pool: &Pool,
+    algorithm: Algorithm,
+    forced: bool,
+) -> Result<Algorithm, AllocError>
+    requires { past_algorithm algorithm ≤ length pool.now }
+    ensures with { IfOk result (λ r. flat_map (λ d. due_in false None d.body) (algorithm_at pool.now r).macros ≡ [] → algorithm_at pool.now r ≡ labelled forced (algorithm_at pool.now algorithm)) }
+    ensures numbers { IfOk result (λ r. past_algorithm r ≤ past_algorithm algorithm) }
+{
+    if !are_added(&algorithm, forced) {
+        return Ok(algorithm);
+    }
+    let (plan, begun) = with_macros(alloc, pool, algorithm)?;
+    let known = known_macros(alloc, pool, &begun.macros)?;
+    with_routines(alloc, pool, plan, known, begun)
+}
