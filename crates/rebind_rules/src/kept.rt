@@ -23,24 +23,31 @@ pub struct Keeps {
     pub kept: IndexMap<Name, Kept>,
 }
 
-/// What is kept of macros, and of the initial values of procedures' variables.
+/// The name of a process's identifier, and what is kept of macros and of the initial values of procedures' variables.
 #[derive(Drop)]
 pub struct Calls {
     pub alloc: Global,
+    pub process: Name,
     pub macros: Keeps,
     pub procedures: Keeps,
 }
 
-impl Keeps {
-    /// Nothing is kept.
-    pub fn new(alloc: Global) -> Keeps
-        ensures { result.kept.entries ≡ [] }
+impl Kept {
+    /// Nothing was found.
+    pub fn new(alloc: Global) -> Kept
+        ensures params { result.params.items ≡ [] }
+        ensures bound { result.found.bound ≡ [] }
+        ensures first { result.found.first ≡ None }
+        ensures free { result.found.free.keys ≡ [] }
     {
-        Keeps {
-            kept: IndexMap::new(alloc),
+        Kept {
+            params: Vec::new(alloc),
+            found: Walk::new(alloc),
         }
     }
+}
 
+impl Keeps {
     /// What is kept by a name.
     pub fn get(&self, name: &Name) -> Option<&Kept>
         ensures some { IfSome result (λ d. lookup (pointwise ◌==◌ name.now) self.now.kept.entries ≡ Some d.now) }
@@ -59,5 +66,25 @@ impl Keeps {
     {
         self.kept.insert(name, kept)?;
         Ok(())
+    }
+}
+
+impl Calls {
+    /// Nothing is kept.
+    pub fn new(alloc: Global, process: Name) -> Calls
+        ensures process { result.process ≡ process }
+        ensures macros { result.macros.kept.entries ≡ [] }
+        ensures procedures { result.procedures.kept.entries ≡ [] }
+    {
+        Calls {
+            alloc,
+            process,
+            macros: Keeps {
+                kept: IndexMap::new(alloc),
+            },
+            procedures: Keeps {
+                kept: IndexMap::new(alloc),
+            },
+        }
     }
 }

@@ -12,39 +12,37 @@ ghost use Rattle.rebind_rules.specs.Telling.{told, Adds};
 ghost use Rattle.rebind_rules.specs.Keeping.{KnowsCalls};
 ghost use Rattle.rebind_rules.specs.Processes.{body_scope, Singles};
 
-use crate::found::body_found;
-use crate::kept::{Calls, Kept};
+use crate::kept::Calls;
 use crate::pieces::each_brings;
 use crate::sight::Sight;
 use crate::walk::Walk;
 use pcal_tree::algorithm::{Main, Process};
-use std::alloc::{AllocError, Global};
+use std::alloc::AllocError;
 use tla_pool::Pool;
 use tla_token::Place;
 use tla_tree::{NodeId, PlacedName};
 
 impl Walk {
-    // The body of a single process, in which `self` is its identifier.
+    // What was found in the body of a single process, in which `self` is its identifier.
     fn single(
         &mut self,
         near: &Sight,
-        alloc: Global,
+        calls: &Calls,
         pool: &Pool,
         identity: NodeId,
-        found: Walk,
+        found: &Walk,
     ) -> Result<(), AllocError>
         requires { identity < length pool.now }
-        ensures { OnOk result (Adds near.now any_name self.old self.new (λ ms r. told ms found (stands_for near.now.process (bound_by (at pool.now identity) r) ∷ r))) }
+        ensures { OnOk result (Adds near.now any_name self.old self.new (λ ms r. told ms found.now (stands_for calls.now.process (bound_by (at pool.now identity) r) ∷ r))) }
     {
         let identities = [identity];
-        let args = each_brings(alloc, pool, &identities)?;
-        let mut params = Vec::new(alloc);
-        params.push(PlacedName {
-            name: near.process.copied()?,
-            place: Place { line: 1, col: 1 },
-        })?;
-        let kept = Kept { params, found };
-        self.put(near, &kept, &args)?;
+        let args = each_brings(calls.alloc, pool, &identities)?;
+        let place = Place { line: 1, col: 1 };
+        let params = [PlacedName {
+            name: calls.process.copied()?,
+            place,
+        }];
+        self.put(near, &params, found, &args)?;
         Ok(())
     }
 
@@ -63,8 +61,9 @@ impl Walk {
         if process.several {
             self.body(near, calls, pool, &process.body)?;
         } else {
-            let found = body_found(own, calls, pool, &process.body)?;
-            self.single(near, calls.alloc, pool, process.identity, found)?;
+            let mut found = Walk::new(calls.alloc);
+            found.body(own, calls, pool, &process.body)?;
+            self.single(near, calls, pool, process.identity, &found)?;
         }
         Ok(())
     }

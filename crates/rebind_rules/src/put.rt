@@ -10,7 +10,7 @@ ghost use Rattle.rebind_rules.specs.Gathering.{list_of, lists_of, each_pieces};
 ghost use Rattle.rebind_rules.specs.Keeping.{argument_of, Knows};
 
 use crate::binding::Binding;
-use crate::kept::{Keeps, Kept};
+use crate::kept::Keeps;
 use crate::pieces::Piece;
 use crate::sight::Sight;
 use crate::walk::Walk;
@@ -137,16 +137,22 @@ impl Walk {
         Ok(())
     }
 
-    /// All that is kept of a text, where arguments that bring these are put in.
+    /// What was found in a text, where arguments that bring these are put in.
     ///
     /// # Errors
     ///
     /// Only for want of memory.
-    pub fn put(&mut self, sight: &Sight, kept: &Kept, args: &[Vec<Piece>]) -> Result<(), AllocError>
-        ensures { OnOk result ((ts : Trees) → lists_of args.now ≡ each_pieces ts → Adds sight.now any_name self.old self.new (λ ms r. told ms kept.now.found (putting_in kept.now.params.items ts r r))) }
+    pub fn put(
+        &mut self,
+        sight: &Sight,
+        params: &[PlacedName],
+        found: &Walk,
+        args: &[Vec<Piece>],
+    ) -> Result<(), AllocError>
+        ensures { OnOk result ((ts : Trees) → lists_of args.now ≡ each_pieces ts → Adds sight.now any_name self.old self.new (λ ms r. told ms found.now (putting_in params.now ts r r))) }
     {
-        self.first = least(self.first, kept.found.first);
-        self.put_all(sight, &kept.params, args, kept.found.free.as_slice())?;
+        self.first = least(self.first, found.first);
+        self.put_all(sight, params, args, found.free.as_slice())?;
         Ok(())
     }
 
@@ -165,7 +171,7 @@ impl Walk {
         ensures { OnOk result ((C : List Word → PureCalls) (ts : Trees) → Knows sight.now keeps.now C → lists_of args.now ≡ each_pieces ts → Adds sight.now any_name self.old self.new (λ ms r. C ms r name.now ts)) }
     {
         match keeps.get(name) {
-            Some(kept) => self.put(sight, kept, args)?,
+            Some(kept) => self.put(sight, &kept.params, &kept.found, args)?,
             None => {}
         }
         Ok(())

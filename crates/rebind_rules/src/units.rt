@@ -20,20 +20,13 @@ use std::alloc::AllocError;
 use tla_pool::Pool;
 
 impl Walk {
-    // The name of a declaration.
-    fn declares(&mut self, sight: &Sight, declaration: &Declaration) -> Result<(), AllocError>
-        ensures { OnOk result (Adds sight.now any_name self.old self.new (λ ms r. rebound ms r declaration.now.name)) }
-    {
-        self.name(sight, &declaration.name)?;
-        Ok(())
-    }
-
     // The names of declarations.
     fn declared(&mut self, sight: &Sight, list: &[Declaration]) -> Result<(), AllocError>
         ensures { OnOk result (Adds sight.now any_name self.old self.new (λ ms r. rebound_all ms r (declared_names list.now))) }
     {
         for i in 0..list.len() {
-            self.declares(sight, &list[i])?;
+            let one = &list[i];
+            self.name(sight, &one.name)?;
         }
         Ok(())
     }

@@ -11,5 +11,6 @@ pub returns : goal.returns
 returns c =
     let m = c.in_ok-modules.modules in
     IfOk-weaker c.first_found.result _ _ (λ r h.
-    h m (subst (λ (ns : List Name). AreModules m (words ns)) c.deref.ensures.value c.in_ok-modules.ensures) (subst (λ (ds : List Macro). AreSights m ds c.in_ok-places.places) c.deref-2.ensures.value c.in_ok-places.ensures))
+    h m (subst (λ (ns : List Name). AreModules m (words ns)) c.deref.ensures.value c.in_ok-modules.ensures)
+    (subst (λ (ds : List Macro). AreSights m ds c.stand.new.self) c.deref-2.ensures.value (c.in_ok-stand.ensures m c.new-sights.ensures c.in_ok-process.ensures)) c.in_ok-process.ensures)
     c.first_found.ensures

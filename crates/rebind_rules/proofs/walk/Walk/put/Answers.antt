@@ -11,8 +11,7 @@ use Rattle.rebind_rules.proofs.walk.Walk.put.Goals as goal
 pub returns : goal.returns
 returns c = λ ts e.
     let g = c.args.sight.now in
-    let d = c.args.kept.now in
+    let w = c.args.found.now in
     let mid : Walk = record { bound = c.args.self.now.bound; first = c.least-self.result; free = c.args.self.now.free } in
-    kept_adds g any_name c.args.self.now mid c.put_all.new.self d.found.first (λ ms r. held_where ms (putting_in d.params.items ts r r) d.found.free.keys) refl refl c.least-self.ensures
-    (subst (λ (ps : List Name). Adds g any_name mid c.put_all.new.self (λ ms r. held_where ms (putting_in ps ts r r) d.found.free.keys)) c.deref.ensures.value
-    (subst (λ (bs : List Binding). Adds g any_name mid c.put_all.new.self (λ ms r. held_where ms (putting_in c.deref.result.now ts r r) bs)) c.as_slice.ensures.keys (c.in_ok-put_all.ensures ts e)))
+    kept_adds g any_name c.args.self.now mid c.put_all.new.self w.first (λ ms r. held_where ms (putting_in c.args.params.now ts r r) w.free.keys) refl refl c.least-self.ensures
+    (subst (λ (bs : List Binding). Adds g any_name mid c.put_all.new.self (λ ms r. held_where ms (putting_in c.args.params.now ts r r) bs)) c.as_slice.ensures.keys (c.in_ok-put_all.ensures ts e))

@@ -26,7 +26,7 @@ returns-in_ok-expr-in-Assert c = λ C ps h.
 pub returns-in_ok-standing-in-Goto : goal.returns-in_ok-standing-in-Goto
 returns-in_ok-standing-in-Goto c = λ C ps h.
     subst (λ (x : Simple). Adds c.args.sight.now any_name c.args.self.now c.standing.new.self (λ ms r. one_rebinds ms ps (C ms) (simple_at c.args.pool.now x) r)) (sym c.in-Goto.is)
-    (jump_adds c.args.sight.now c.args.self.now c.standing.new.self (c.in_ok-standing-in-Goto.ensures any_name))
+    (jump_adds c.args.sight.now c.args.self.now c.standing.new.self c.args.calls.now.process h.process (c.in_ok-standing-in-Goto.ensures any_name))
 
 pub returns-in_ok-exprs-in-Macro : goal.returns-in_ok-exprs-in-Macro
 returns-in_ok-exprs-in-Macro c = λ C ps h.
@@ -45,7 +45,7 @@ returns-in_ok-exprs-in-Call c = λ C ps h.
     let P : List Word → Calls = λ ms s x ts. call_rebinds ms ps x s in
     subst (λ (x : Simple). Adds g any_name c.args.self.now c.exprs-in-Call.new.self (λ ms r. one_rebinds ms ps (C ms) (simple_at c.args.pool.now x) r)) (sym c.in-Call.is)
     (adds_then g any_name c.args.self.now c.standing-in-Call.new.self c.exprs-in-Call.new.self (λ ms r. jump_rebinds ms r) (λ ms r. call_rebinds ms ps c.in-Call.name.word r ++ each_rebinds ms ts r)
-    (jump_adds g c.args.self.now c.standing-in-Call.new.self (c.in_ok-standing-in-Call.ensures any_name))
+    (jump_adds g c.args.self.now c.standing-in-Call.new.self c.args.calls.now.process h.process (c.in_ok-standing-in-Call.ensures any_name))
     (adds_then g any_name c.standing-in-Call.new.self c.called-in-Call.new.self c.exprs-in-Call.new.self (λ ms r. call_rebinds ms ps c.in-Call.name.word r) (λ ms r. each_rebinds ms ts r)
     (subst (λ (n : Name). Adds g any_name c.standing-in-Call.new.self c.called-in-Call.new.self (λ ms r. call_rebinds ms ps n.word r)) c.name.view_is (c.in_ok-called-in-Call.ensures P no_trees h.procedures refl))
     (subst (λ (es : List ℕ). Adds g any_name c.called-in-Call.new.self c.exprs-in-Call.new.self (λ ms r. each_rebinds ms (trees_at c.args.pool.now es) r)) c.deref-in-Call.ensures.value c.in_ok-exprs-in-Call.ensures)))
