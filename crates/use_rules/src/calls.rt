@@ -172,8 +172,8 @@ impl Found {
     {
         let wrong = kept.params.len() != es.len();
         self.refuse(or_offence(None, wrong, Rule::Arity, place));
-        self.refuse(kept.first);
-        self.all_called(pool, &kept.params, es, kept.free.as_slice())
+        self.refuse(kept.found.first);
+        self.all_called(pool, &kept.params, es, kept.found.free.as_slice())
     }
 
     /// A macro call, at a place.

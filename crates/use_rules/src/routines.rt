@@ -13,7 +13,7 @@ ghost use Rattle.pcal_tree.specs.OffencesNames.{Calls, in_start, in_declared, in
 ghost use Rattle.pcal_tree.specs.Variables.{declared};
 ghost use Rattle.algorithm_limits.specs.DepthsIn.{Hides};
 ghost use Rattle.outside_sight.specs.SightIn.{Binds};
-ghost use Rattle.use_rules.specs.Finding.{told, Tells};
+ghost use Rattle.use_rules.specs.Finding.{IsNew, told, Tells};
 ghost use Rattle.use_rules.specs.Calling.{Means};
 ghost use Rattle.use_rules.specs.Seeing.{within_use, Sees};
 ghost use Rattle.use_rules.specs.Routines.{declared_in, routine_offences};
@@ -83,18 +83,74 @@ fn use_within(sight: &Sight, own: &Bound, name: &Name) -> Use
     }
 }
 
-// The first offence of what was found, where these are variables besides.
-fn tell(found: &Found, sight: &Sight, own: &Bound) -> Option<Refusal>
-    ensures { (s : names.Sight) (xs : List Word) → Sees sight.now s → Binds own.now xs → result ≡ told found.now (names.seeing_variables xs s) }
+// The first offence of what was found, where names that are bound now are variables.
+fn tell(found: &Found, sight: &Sight) -> Option<Refusal>
+    ensures { (s : names.Sight) (xs : List Word) → Sees sight.now s → Binds found.now.bound xs → result ≡ told found.now (names.seeing_variables xs s) }
 {
     let uses = found.free.as_slice();
     let mut first = found.first;
     for i in 0..uses.len() {
         let one = &uses[i];
-        let known = use_within(sight, own, &one.name);
+        let known = use_within(sight, &found.bound, &one.name);
         first = least(first, offence_as(known, one.kind, one.place()));
     }
     first
+}
+
+impl Found {
+    // The first offence of a routine, where nothing was found yet.
+    fn routine(
+        &mut self,
+        pool: &Pool,
+        callees: &Callees,
+        sight: &Sight,
+        params: &[Declaration],
+        variables: &[Declaration],
+        body: &[Stmt],
+    ) -> Result<Option<Refusal>, AllocError>
+        requires params { past_declarations params.now ≤ length pool.now }
+        requires variables { past_declarations variables.now ≤ length pool.now }
+        requires body { past_statements body.now ≤ length pool.now }
+        ensures { IfOk result (λ r. (C : Calls) (ps : List PureProcedure) (s : names.Sight) → IsNew self.old → Means callees.now C ps → Sees sight.now s → r ≡ first (routine_offences C ps (declarations_at pool.now params.now ++ declarations_at pool.now variables.now) (statements_at pool.now body.now) s)) }
+    {
+        self.declared(pool, params)?;
+        self.declared(pool, variables)?;
+        self.body(pool, callees, body)?;
+        add_declared(&mut self.bound, params)?;
+        add_declared(&mut self.bound, variables)?;
+        Ok(tell(self, sight))
+    }
+
+    // The first offence of an expression, where these names are bound and nothing was found yet.
+    fn whole(
+        &mut self,
+        pool: &Pool,
+        sight: &Sight,
+        params: &[PlacedName],
+        e: NodeId,
+    ) -> Result<Option<Refusal>, AllocError>
+        requires { e < length pool.now }
+        ensures { IfOk result (λ r. (s : names.Sight) → IsNew self.old → Sees sight.now s → r ≡ first (in_whole (at pool.now e) (names.seeing_plain (words params.now) s))) }
+    {
+        self.bound.add_all(params)?;
+        self.expr(pool, false, e)?;
+        self.bound.truncate(0);
+        Ok(tell(self, sight))
+    }
+
+    // The first offence of first values, where nothing was found yet.
+    fn globals(
+        &mut self,
+        pool: &Pool,
+        sight: &Sight,
+        list: &[Declaration],
+    ) -> Result<Option<Refusal>, AllocError>
+        requires { past_declarations list.now ≤ length pool.now }
+        ensures { IfOk result (λ r. (s : names.Sight) → IsNew self.old → Sees sight.now s → r ≡ first (in_declared (declarations_at pool.now list.now) s)) }
+    {
+        self.declared(pool, list)?;
+        Ok(tell(self, sight))
+    }
 }
 
 // The first offence of a routine.
@@ -112,14 +168,8 @@ fn routine(
     requires body { past_statements body.now ≤ length pool.now }
     ensures { IfOk result (λ r. (C : Calls) (ps : List PureProcedure) (s : names.Sight) → Means callees.now C ps → Sees sight.now s → r ≡ first (routine_offences C ps (declarations_at pool.now params.now ++ declarations_at pool.now variables.now) (statements_at pool.now body.now) s)) }
 {
-    let mut own = Bound::new(alloc);
-    add_declared(&mut own, params)?;
-    add_declared(&mut own, variables)?;
     let mut found = Found::new(alloc);
-    found.declared(pool, params)?;
-    found.declared(pool, variables)?;
-    found.body(pool, callees, body)?;
-    Ok(tell(&found, sight, &own))
+    found.routine(pool, callees, sight, params, variables, body)
 }
 
 // The first offence of an expression, where these names are bound.
@@ -134,10 +184,7 @@ fn whole(
     ensures { IfOk result (λ r. (s : names.Sight) → Sees sight.now s → r ≡ first (in_whole (at pool.now e) (names.seeing_plain (words params.now) s))) }
 {
     let mut found = Found::new(alloc);
-    found.bound.add_all(params)?;
-    found.expr(pool, false, e)?;
-    let own = Bound::new(alloc);
-    Ok(tell(&found, sight, &own))
+    found.whole(pool, sight, params, e)
 }
 
 /// The first offence of the first values of globals.
@@ -155,9 +202,7 @@ pub fn of_globals(
     ensures { IfOk result (λ r. (s : names.Sight) → Sees sight.now s → r ≡ first (in_declared (declarations_at pool.now list.now) s)) }
 {
     let mut found = Found::new(alloc);
-    found.declared(pool, list)?;
-    let own = Bound::new(alloc);
-    Ok(tell(&found, sight, &own))
+    found.globals(pool, sight, list)
 }
 
 /// The first offence of definitions, each of which sees those before it; they are known then.

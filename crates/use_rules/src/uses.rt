@@ -1,20 +1,64 @@
 //! Names used as they may not be, in an algorithm.
 
-ghost use Rattle.std.specs.Prelude.{◌≡◌, ◌≤◌, length, IfOk};
-ghost use Rattle.pcal_tree.specs.InMemory.{algorithm_at, past_algorithm};
+ghost use Rattle.std.specs.Prelude.{◌≡◌, ◌≤◌, [], length, IfOk};
+ghost use Rattle.tla_tree.specs.Tree.{words};
+ghost use Rattle.tla_value.specs.Outside as pure;
+ghost use Rattle.outside_sight.specs.ModulesIn.{AreModules};
+ghost use Rattle.pcal_tree.specs.InMemory.{declarations_at, algorithm_at, past_algorithm};
+ghost use Rattle.pcal_tree.specs.NameUses.{seeing_variables};
 ghost use Rattle.pcal_tree.specs.Offences.{first};
-ghost use Rattle.pcal_tree.specs.OffencesNames.{use_offences_of};
+ghost use Rattle.pcal_tree.specs.OffencesNames.{sight_outside, use_offences_of};
+ghost use Rattle.pcal_tree.specs.Variables.{declared};
 ghost use Rattle.module_outside.specs.WholeAt.{outside_at};
+ghost use Rattle.use_rules.specs.Seeing.{Sees};
 
-use crate::macros::all_callees;
+use crate::macros::Callees;
 use crate::routines::{of_definitions, of_globals, of_main, of_procedures};
-use crate::sight::seen_outside;
+use crate::sight::{Sight, modules_among};
 use algorithm_limits::order::least;
 use module_outside::outside::Outside;
 use pcal_tree::algorithm::Algorithm;
 use std::alloc::{AllocError, Global};
 use tla_pool::Pool;
 use tla_token::Refusal;
+
+impl Sight {
+    // The first offence, where globals are known and no macro and procedure is yet.
+    fn first_with(
+        &mut self,
+        callees: &mut Callees,
+        alloc: Global,
+        pool: &Pool,
+        algorithm: &Algorithm,
+    ) -> Result<Option<Refusal>, AllocError>
+        requires { past_algorithm algorithm.now ≤ length pool.now }
+        ensures { IfOk result (λ r. (o : pure.Outside) → callees.old.macros.entries ≡ [] → callees.old.procedures ≡ [] → Sees self.old (seeing_variables (declared (declarations_at pool.now algorithm.now.globals.items)) (sight_outside o)) → r ≡ first (use_offences_of (algorithm_at pool.now algorithm.now) o)) }
+    {
+        callees.fill(alloc, pool, &algorithm.macros, &algorithm.procedures)?;
+        let definitions = of_definitions(alloc, pool, self, &algorithm.definitions)?;
+        let globals = of_globals(alloc, pool, self, &algorithm.globals)?;
+        let procedures = of_procedures(alloc, pool, callees, self, &algorithm.procedures)?;
+        let main = of_main(alloc, pool, callees, self, &algorithm.main)?;
+        Ok(least(globals, least(definitions, least(procedures, main))))
+    }
+
+    // The same where nothing is known yet.
+    fn first_offence(
+        &mut self,
+        alloc: Global,
+        pool: &Pool,
+        algorithm: &Algorithm,
+        outside: &Outside,
+    ) -> Result<Option<Refusal>, AllocError>
+        requires { past_algorithm algorithm.now ≤ length pool.now }
+        ensures { IfOk result (λ r. self.old.uses.entries ≡ [] → AreModules self.old.modules (words outside.now.extended.items) → r ≡ first (use_offences_of (algorithm_at pool.now algorithm.now) (outside_at pool.now outside.now))) }
+    {
+        self.set_outside(outside)?;
+        self.set_variables(&algorithm.globals)?;
+        let mut callees = Callees::new(alloc);
+        self.first_with(&mut callees, alloc, pool, algorithm)
+    }
+}
 
 /// The first name of an algorithm that is used as it may not be: that is nothing where it stands, has a wrong number of arguments,
 /// is assigned and no variable, needs a module, is of a unit that was not read, or is an infinite set where none may be.
@@ -31,12 +75,7 @@ pub fn use_refusal(
     requires { past_algorithm algorithm.now ≤ length pool.now }
     ensures { IfOk result (λ r. r ≡ first (use_offences_of (algorithm_at pool.now algorithm.now) (outside_at pool.now outside.now))) }
 {
-    let callees = all_callees(alloc, pool, &algorithm.macros, &algorithm.procedures)?;
-    let mut sight = seen_outside(alloc, outside)?;
-    sight.set_variables(&algorithm.globals)?;
-    let definitions = of_definitions(alloc, pool, &mut sight, &algorithm.definitions)?;
-    let globals = of_globals(alloc, pool, &sight, &algorithm.globals)?;
-    let procedures = of_procedures(alloc, pool, &callees, &sight, &algorithm.procedures)?;
-    let main = of_main(alloc, pool, &callees, &sight, &algorithm.main)?;
-    Ok(least(globals, least(definitions, least(procedures, main))))
+    let modules = modules_among(alloc, &outside.extended)?;
+    let mut sight = Sight::new(alloc, modules);
+    sight.first_offence(alloc, pool, algorithm, outside)
 }

@@ -1,16 +1,6 @@
 -- Proves that the first offence of a routine is told.
-use Rattle.std.proofs.Common.{◌++◌}
-use Rattle.pcal_tree.specs.InMemory.{declarations_at, statements_at}
-use Rattle.pcal_tree.specs.Variables.{declared}
-use Rattle.use_rules.proofs.RoutineLaws.{own_binds, routine_told}
+use Rattle.std.proofs.lemmas.Result.{IfOk-weaker}
 use Rattle.use_rules.proofs.routines.routine.Goals as goal
 
 pub returns : goal.returns
-returns c = λ C ps s m h.
-    let ts = c.args.pool.now in
-    let ds = c.args.params.now in
-    let es = c.args.variables.now in
-    routine_told C ps s ts c.new-found.result c.declared.new.self c.declared-2.new.self c.body.new.self ds es (statements_at ts c.args.body.now) c.tell.result
-    c.new-found.ensures.first c.new-found.ensures.free c.new-found.ensures.bound c.in_ok-declared.ensures c.in_ok-declared-2.ensures (c.in_ok-body.ensures C ps m)
-    (c.tell.ensures s (declared (declarations_at ts ds ++ declarations_at ts es)) h
-    (own_binds ts c.new-own.result c.add_declared.new.names c.add_declared-2.new.names ds es c.new-own.ensures c.in_ok-add_declared.ensures c.in_ok-add_declared-2.ensures))
+returns c = IfOk-weaker c.routine.result _ _ (λ r h C ps s. h C ps s c.new-found.ensures) c.routine.ensures
