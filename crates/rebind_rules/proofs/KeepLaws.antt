@@ -18,17 +18,17 @@ use Rattle.rebind_rules.specs.declared.sight.Sight.{Sight}
 use Rattle.rebind_rules.specs.declared.walk.Walk.{Walk}
 use Rattle.rebind_rules.specs.declared.kept.Kept.{Kept}
 use Rattle.rebind_rules.specs.declared.kept.Keeps.{Keeps}
-use Rattle.rebind_rules.specs.Telling.{sure, held_where, told, Around, Lets, Adds}
+use Rattle.rebind_rules.specs.Telling.{sure, held_where, told, Around, Lets, IsNew, Adds}
 use Rattle.algorithm_limits.specs.DepthsIn.{Hides}
 use Rattle.rebind_rules.proofs.TellLaws.{adds_as, adds_then, adds_within, naming_alone}
 use Rattle.rebind_rules.specs.Keeping.{Within, kept_by, kept_tells, Tells, Means}
 
 -- ---- what is found in a text that is gone through alone
 
-pub found_tells : (g : Sight) (K : Word → Bool) (w v : Walk) (f : List Word → Standings → List Refusal) → w.bound ≡ [] → w.first ≡ None → w.free.keys ≡ [] → Adds g K w v f → Tells g K v f
-found_tells g K w v f b o k a ms s m l =
-    a.tells ms s s (record { modules = m; lets = l; around = subst (λ (xs : List Word). Around xs s s) (sym b) (around_none s) })
-    ∙ (λ i. first ((sure (o i) ++ held_where ms s (k i)) ++ f ms s))
+pub found_tells : (g : Sight) (K : Word → Bool) (w v : Walk) (f : List Word → Standings → List Refusal) → IsNew w → Adds g K w v f → Tells g K v f
+found_tells g K w v f n a ms s m l =
+    a.tells ms s s (record { modules = m; lets = l; around = subst (λ (xs : List Word). Around xs s s) (sym n.bound) (around_none s) })
+    ∙ (λ i. first ((sure (n.first i) ++ held_where ms s (n.free i)) ++ f ms s))
 
 -- ---- one more is kept
 

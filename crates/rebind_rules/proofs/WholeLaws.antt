@@ -124,7 +124,7 @@ module _ (s : Sights) (ts : List Tree) (a : declared_algorithm.Algorithm) (k : k
 
 held_none : (ms : List Word) (bs : List Binding) → held_where ms [] bs ≡ []
 held_none ms [] = refl
-held_none ms (held.Bound x l c ∷ bs) = held_none ms bs
+held_none ms (held.Bound x ∷ bs) = held_none ms bs
 held_none ms (held.Standing x ∷ bs) = held_none ms bs
 held_none ms (held.Beneath x y ∷ bs) = held_none ms bs
 

@@ -16,7 +16,7 @@ use Rattle.rebind_rules.specs.declared.sight.Sight.{Sight}
 use Rattle.rebind_rules.specs.declared.walk.Walk.{Walk}
 
 abbrev pub binding_of : Binding → pure.Binding
-binding_of (held.Bound x l c) = pure.bound (record { word = x; place = record { line = l; col = c } })
+binding_of (held.Bound x) = pure.bound x
 binding_of (held.Standing x) = pure.standing x
 binding_of (held.Beneath x y) = pure.beneath x y
 

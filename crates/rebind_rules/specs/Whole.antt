@@ -34,6 +34,12 @@ pub record AreAlone (m : Modules) (s : Sights) : Type 0 where
   pub own : s.own.stands ≡ []
   pub far : s.far.stands ≡ []
 
+-- nothing is kept
+pub record AreNone (k : Calls) : Type 0 where
+  pub process : k.process ≡ codes "self"
+  pub macros : k.macros.kept.entries ≡ []
+  pub procedures : k.procedures.kept.entries ≡ []
+
 -- nothing is kept of macros yet, and of procedures what calls of them offend
 pub record Begins (s : Sights) (ts : List Tree) (a : declared_algorithm.Algorithm) (k : Calls) : Type 0 where
   pub modules : Modules

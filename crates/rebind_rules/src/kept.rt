@@ -3,6 +3,7 @@
 ghost use Rattle.std.specs.Prelude.{◌≡◌, ◌==◌, [], Some, OnOk, IfSome, IfNone, None};
 ghost use Rattle.std.specs.Map.{lookup};
 ghost use Rattle.std.specs.Cmp.Lexicographic.{pointwise};
+ghost use Rattle.rebind_rules.specs.Telling.{IsNew};
 ghost use Rattle.indexmap.specs.IndexMap.{insert_entry};
 
 use crate::walk::Walk;
@@ -36,9 +37,7 @@ impl Kept {
     /// Nothing was found.
     pub fn new(alloc: Global) -> Kept
         ensures params { result.params.items ≡ [] }
-        ensures bound { result.found.bound ≡ [] }
-        ensures first { result.found.first ≡ None }
-        ensures free { result.found.free.keys ≡ [] }
+        ensures found { IsNew result.found }
     {
         Kept {
             params: Vec::new(alloc),

@@ -5,7 +5,7 @@ ghost use Rattle.std.specs.List.{flat_map};
 ghost use Rattle.tla_tree.specs.Tree.{Word, Trees};
 ghost use Rattle.pcal_tree.specs.OffencesRebind.{Standings, naming, brought, rebound_all, any_name, piece_names, Calls as PureCalls, putting_in};
 ghost use Rattle.pcal_tree.specs.laws.MacroBindings.{offences_where};
-ghost use Rattle.rebind_rules.specs.Telling.{binding_of, held_where, told, Adds};
+ghost use Rattle.rebind_rules.specs.Telling.{binding_of, told, Adds};
 ghost use Rattle.rebind_rules.specs.Gathering.{list_of, lists_of, each_pieces};
 ghost use Rattle.rebind_rules.specs.Keeping.{argument_of, Knows};
 
@@ -16,7 +16,6 @@ use crate::sight::Sight;
 use crate::walk::Walk;
 use algorithm_limits::order::least;
 use std::alloc::AllocError;
-use tla_token::Place;
 use tla_tree::{Name, PlacedName};
 
 // What the argument brings that is put in for a name.
@@ -98,17 +97,7 @@ impl Walk {
         ensures { OnOk result ((ts : Trees) → lists_of args.now ≡ each_pieces ts → Adds sight.now any_name self.old self.new (λ ms r. offences_where ms (putting_in params.now ts r r) (binding_of binding.now))) }
     {
         match binding {
-            Binding::Bound(name, line, col) => {
-                let place = Place {
-                    line: *line,
-                    col: *col,
-                };
-                let placed = PlacedName {
-                    name: name.copied()?,
-                    place,
-                };
-                self.name(sight, &placed)?;
-            }
+            Binding::Bound(name) => self.name(sight, name)?,
             Binding::Standing(name) => match argument(params, args, name) {
                 Some(list) => self.pieces(sight, list)?,
                 None => self.standing(sight, name)?,
@@ -117,22 +106,6 @@ impl Walk {
                 Some(list) => self.pieces_under(sight, list, under)?,
                 None => self.beneath(sight, name, under)?,
             },
-        }
-        Ok(())
-    }
-
-    // All of these.
-    fn put_all(
-        &mut self,
-        sight: &Sight,
-        params: &[PlacedName],
-        args: &[Vec<Piece>],
-        list: &[Binding],
-    ) -> Result<(), AllocError>
-        ensures { OnOk result ((ts : Trees) → lists_of args.now ≡ each_pieces ts → Adds sight.now any_name self.old self.new (λ ms r. held_where ms (putting_in params.now ts r r) list.now)) }
-    {
-        for binding in list {
-            self.put_one(sight, params, args, binding)?;
         }
         Ok(())
     }
@@ -152,7 +125,10 @@ impl Walk {
         ensures { OnOk result ((ts : Trees) → lists_of args.now ≡ each_pieces ts → Adds sight.now any_name self.old self.new (λ ms r. told ms found.now (putting_in params.now ts r r))) }
     {
         self.first = least(self.first, found.first);
-        self.put_all(sight, params, args, found.free.as_slice())?;
+        let list = found.free.as_slice();
+        for binding in list {
+            self.put_one(sight, params, args, binding)?;
+        }
         Ok(())
     }
 

@@ -10,7 +10,7 @@ ghost use Rattle.pcal_tree.specs.OffencesRebind.{any_name, rebind_offences_of};
 ghost use Rattle.module_outside.specs.WholeAt.{outside_at};
 ghost use Rattle.rebind_rules.specs.Telling.{Adds, IsNew};
 ghost use Rattle.rebind_rules.specs.Macros.{macro_names};
-ghost use Rattle.rebind_rules.specs.Whole.{AreAlone, AreSights, Begins, insides};
+ghost use Rattle.rebind_rules.specs.Whole.{AreNone, AreAlone, AreSights, Begins, insides};
 
 use crate::kept::Calls;
 use crate::outside::bind_units;
@@ -113,7 +113,7 @@ impl Walk {
         Ok(())
     }
 
-    // Globals and the names of units outside are bound, and all is gone through.
+    // The first offence, where nothing was found yet and of macros nothing is kept.
     fn whole(
         &mut self,
         sights: &Sights,
@@ -121,35 +121,53 @@ impl Walk {
         pool: &Pool,
         algorithm: &Algorithm,
         outside: &Outside,
-    ) -> Result<(), AllocError>
+    ) -> Result<Option<Refusal>, AllocError>
         requires { past_algorithm algorithm.now ≤ length pool.now }
-        ensures { OnOk result (IsNew self.old → (m : Modules) → AreModules m (words outside.now.extended.items) → AreSights m algorithm.now.macros.items sights.now → Begins sights.now pool.now algorithm.now calls.old → self.new.first ≡ first (rebind_offences_of (algorithm_at pool.now algorithm.now) (outside_at pool.now outside.now))) }
+        ensures { IfOk result (λ f. IsNew self.old → (m : Modules) → AreModules m (words outside.now.extended.items) → AreSights m algorithm.now.macros.items sights.now → Begins sights.now pool.now algorithm.now calls.old → f ≡ first (rebind_offences_of (algorithm_at pool.now algorithm.now) (outside_at pool.now outside.now))) }
     {
         self.bound.add_declared(&algorithm.globals)?;
         bind_units(&mut self.bound, outside)?;
         self.definitions(&sights.near, pool, &algorithm.definitions)?;
         self.inside(sights, calls, pool, algorithm)?;
-        Ok(())
+        Ok(self.first)
     }
 }
 
-// The first offence that is found, looked at so.
-fn first_found(
-    sights: &Sights,
-    process: Name,
-    alloc: Global,
-    pool: &Pool,
-    algorithm: &Algorithm,
-    outside: &Outside,
-) -> Result<Option<Refusal>, AllocError>
-    requires { past_algorithm algorithm.now ≤ length pool.now }
-    ensures { IfOk result (λ r. (m : Modules) → AreModules m (words outside.now.extended.items) → AreSights m algorithm.now.macros.items sights.now → process ≡ codes "self" → r ≡ first (rebind_offences_of (algorithm_at pool.now algorithm.now) (outside_at pool.now outside.now))) }
-{
-    let mut calls = Calls::new(alloc, process);
-    calls.procedures.procedures(alloc, &sights.own, pool, &algorithm.procedures)?;
-    let mut walk = Walk::new(alloc);
-    walk.whole(sights, &mut calls, pool, algorithm, outside)?;
-    Ok(walk.first)
+impl Calls {
+    // The first offence, where nothing is kept yet.
+    fn first_offence(
+        &mut self,
+        sights: &Sights,
+        pool: &Pool,
+        algorithm: &Algorithm,
+        outside: &Outside,
+    ) -> Result<Option<Refusal>, AllocError>
+        requires { past_algorithm algorithm.now ≤ length pool.now }
+        ensures { IfOk result (λ f. AreNone self.old → (m : Modules) → AreModules m (words outside.now.extended.items) → AreSights m algorithm.now.macros.items sights.now → f ≡ first (rebind_offences_of (algorithm_at pool.now algorithm.now) (outside_at pool.now outside.now))) }
+    {
+        self.procedures.procedures(self.alloc, &sights.own, pool, &algorithm.procedures)?;
+        let mut walk = Walk::new(self.alloc);
+        walk.whole(sights, self, pool, algorithm, outside)
+    }
+}
+
+impl Sights {
+    // The first offence, where no text is put in anywhere yet.
+    fn first_offence(
+        &mut self,
+        alloc: Global,
+        pool: &Pool,
+        algorithm: &Algorithm,
+        outside: &Outside,
+    ) -> Result<Option<Refusal>, AllocError>
+        requires { past_algorithm algorithm.now ≤ length pool.now }
+        ensures { IfOk result (λ f. (m : Modules) → AreModules m (words outside.now.extended.items) → AreAlone m self.old → f ≡ first (rebind_offences_of (algorithm_at pool.now algorithm.now) (outside_at pool.now outside.now))) }
+    {
+        let process = process_name(alloc)?;
+        self.stand(&process, &algorithm.macros)?;
+        let mut calls = Calls::new(alloc, process);
+        calls.first_offence(self, pool, algorithm, outside)
+    }
 }
 
 /// The first name of an algorithm that is bound or declared where it is in scope already, also where macro calls, identifiers of
@@ -168,8 +186,6 @@ pub fn rebind_refusal(
     ensures { IfOk result (λ r. r ≡ first (rebind_offences_of (algorithm_at pool.now algorithm.now) (outside_at pool.now outside.now))) }
 {
     let modules = modules_among(alloc, &outside.extended)?;
-    let process = process_name(alloc)?;
     let mut sights = Sights::new(alloc, modules);
-    sights.stand(&process, &algorithm.macros)?;
-    first_found(&sights, process, alloc, pool, algorithm, outside)
+    sights.first_offence(alloc, pool, algorithm, outside)
 }

@@ -21,7 +21,7 @@ returns c =
       kept = d;
       params = c.new-kept.ensures.params;
       tells = λ K.
-          found_tells g K c.new-kept.result.found c.starts.new.self (λ ms s. starts_rebind ms K (declarations_at ts c.args.procedure.now.variables.items) s) c.new-kept.ensures.bound c.new-kept.ensures.first c.new-kept.ensures.free
+          found_tells g K c.new-kept.result.found c.starts.new.self (λ ms s. starts_rebind ms K (declarations_at ts c.args.procedure.now.variables.items) s) c.new-kept.ensures.found
           (subst (λ (ds : List Declaration). Adds g K c.new-kept.result.found c.starts.new.self (λ ms r. starts_rebind ms K (declarations_at ts ds) r)) (c.deref.ensures.value ∙ ap (λ (p : Procedure). p.variables.items) c.procedure.view_is) (c.in_ok-starts.ensures K));
       puts =
           subst (λ (p : Procedure). c.add.new.self.kept.entries ≡ insert_entry equal c.args.self.now.kept.entries p.name.word d) c.procedure.view_is

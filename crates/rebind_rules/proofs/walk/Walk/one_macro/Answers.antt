@@ -14,8 +14,8 @@ returns c = record {
   kept = c.fill.new.self;
   params = c.in_ok-fill.ensures.params c.new-kept.ensures.params;
   tells = λ C ps h.
-      found_tells c.args.far.now any_name c.new-kept.result.found c.fill.new.self.found (λ ms s. body_rebinds ms ps (C ms) (statements_at c.args.pool.now c.args.one.now.body.items) s) c.new-kept.ensures.bound c.new-kept.ensures.first
-      c.new-kept.ensures.free (c.in_ok-fill.ensures.found C ps h);
+      found_tells c.args.far.now any_name c.new-kept.result.found c.fill.new.self.found (λ ms s. body_rebinds ms ps (C ms) (statements_at c.args.pool.now c.args.one.now.body.items) s) c.new-kept.ensures.found
+      (c.in_ok-fill.ensures.found C ps h);
   text = c.in_ok-text.ensures;
   puts =
       subst (λ (d : Macro). c.add.new.self.kept.entries ≡ insert_entry equal c.args.calls.now.macros.kept.entries d.name.word c.fill.new.self) c.one.view_is

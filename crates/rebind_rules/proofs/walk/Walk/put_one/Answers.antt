@@ -1,7 +1,6 @@
 -- Proves that what is kept is looked at where arguments are put in.
 use Rattle.std.proofs.Common.{Some, None, sym, subst}
-use Rattle.tla_tree.specs.Tree.{Word, Name}
-use Rattle.pcal_tree.specs.OffencesRebind.{any_name, rebound, putting_in}
+use Rattle.pcal_tree.specs.OffencesRebind.{any_name, putting_in}
 use Rattle.pcal_tree.specs.laws.MacroBindings.{offences_where}
 use Rattle.rebind_rules.specs.declared.binding.Binding.{Binding}
 use Rattle.rebind_rules.specs.Gathering.{list_of, lists_of}
@@ -12,10 +11,8 @@ use Rattle.rebind_rules.proofs.walk.Walk.put_one.Goals as goal
 
 pub returns-in_ok-name-in-Bound : goal.returns-in_ok-name-in-Bound
 returns-in_ok-name-in-Bound c = λ ts e.
-    let n : Name = record { word = c.in-Bound.name; place = record { line = c.in-Bound.line; col = c.in-Bound.col } } in
     subst (λ (b : Binding). Adds c.args.sight.now any_name c.args.self.now c.name.new.self (λ ms r. offences_where ms (putting_in c.args.params.now ts r r) (binding_of b))) (sym c.in-Bound.is)
-    (adds_as c.args.sight.now any_name c.args.self.now c.name.new.self _ _ (λ ms r. bound_put ms c.args.params.now ts r n)
-    (subst (λ (w : Word). Adds c.args.sight.now any_name c.args.self.now c.name.new.self (λ ms r. rebound ms r (record { word = w; place = n.place }))) c.in_ok-copied-in-Bound.ensures (c.in_ok-name-in-Bound.ensures any_name)))
+    (adds_as c.args.sight.now any_name c.args.self.now c.name.new.self _ _ (λ ms r. bound_put ms c.args.params.now ts r c.in-Bound.name) (c.in_ok-name-in-Bound.ensures any_name))
 
 pub returns-in_ok-pieces-in-Some : goal.returns-in_ok-pieces-in-Some
 returns-in_ok-pieces-in-Some c = λ ts e.
