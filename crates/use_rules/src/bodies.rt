@@ -41,23 +41,22 @@ impl Found {
         ensures { OnOk result ((C : Calls) (ps : List Procedure) → Means callees.now C ps → Tells self.old self.new (in_one C ps place (simple_at pool.now simple.now))) }
     {
         match simple {
-            Simple::Assign(list) => self.assignments(pool, list)?,
-            Simple::Await(e) => self.expr(pool, false, *e)?,
-            Simple::Print(e) => self.expr(pool, false, *e)?,
-            Simple::Assert(e) => self.expr(pool, false, *e)?,
-            Simple::Skip => {}
-            Simple::Goto(_) => {}
+            Simple::Assign(list) => self.assignments(pool, list),
+            Simple::Await(e) => self.expr(pool, false, *e),
+            Simple::Print(e) => self.expr(pool, false, *e),
+            Simple::Assert(e) => self.expr(pool, false, *e),
+            Simple::Skip => Ok(()),
+            Simple::Goto(_) => Ok(()),
             Simple::Macro(name, es) => {
                 self.call_macro(pool, callees, place, name, es)?;
-                self.exprs(pool, es, 0)?;
+                self.exprs(pool, es, 0)
             }
             Simple::Call(name, es) => {
                 self.call_procedure(callees, place, name, es.len());
-                self.exprs(pool, es, 0)?;
+                self.exprs(pool, es, 0)
             }
-            Simple::Return => {}
+            Simple::Return => Ok(()),
         }
-        Ok(())
     }
 
     // What a `with` names: its expression, and then it is bound.
@@ -96,26 +95,26 @@ impl Found {
         ensures { OnOk result ((C : Calls) (ps : List Procedure) → Means callees.now C ps → TellsStmt C ps pool.now stmt.now self.old self.new) }
     {
         match stmt {
-            Stmt::Label(_, _) => {}
-            Stmt::Simple(span, simple) => self.simple(pool, callees, span.first, simple)?,
+            Stmt::Label(_, _) => Ok(()),
+            Stmt::Simple(span, simple) => self.simple(pool, callees, span.first, simple),
             Stmt::If(_, e, then, otherwise) => {
                 self.expr(pool, false, *e)?;
                 self.body(pool, callees, then)?;
-                self.body(pool, callees, otherwise)?;
+                self.body(pool, callees, otherwise)
             }
-            Stmt::Either(_, list) => self.branches(pool, callees, list)?,
+            Stmt::Either(_, list) => self.branches(pool, callees, list),
             Stmt::With(_, binds, body) => {
                 let around = self.bound.len();
                 self.binds(pool, binds)?;
                 self.body(pool, callees, body)?;
                 self.bound.truncate(around);
+                Ok(())
             }
             Stmt::While(_, e, body) => {
                 self.expr(pool, false, *e)?;
-                self.body(pool, callees, body)?;
+                self.body(pool, callees, body)
             }
         }
-        Ok(())
     }
 
     // Branches.

@@ -52,6 +52,15 @@ impl Found {
         }
     }
 
+    /// Nothing was found, and no name is bound, in place of what was.
+    pub fn restart(&mut self)
+        ensures { IsNew self.new }
+    {
+        self.first = None;
+        self.free.truncate(0);
+        self.bound.truncate(0);
+    }
+
     /// An offence, whatever is known around, if there is one.
     pub fn refuse(&mut self, refusal: Option<Refusal>)
         ensures { (rs : List PureRefusal) → refusal ≡ first rs → Tells self.old self.new (λ r. rs) }

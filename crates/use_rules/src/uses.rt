@@ -12,8 +12,8 @@ ghost use Rattle.pcal_tree.specs.Variables.{declared};
 ghost use Rattle.module_outside.specs.WholeAt.{outside_at};
 ghost use Rattle.use_rules.specs.Seeing.{Sees};
 
+use crate::found::Found;
 use crate::macros::Callees;
-use crate::routines::{of_definitions, of_globals, of_main, of_procedures};
 use crate::sight::{Sight, modules_among};
 use algorithm_limits::order::least;
 use module_outside::outside::Outside;
@@ -23,10 +23,11 @@ use tla_pool::Pool;
 use tla_token::Refusal;
 
 impl Sight {
-    // The first offence, where globals are known and no macro and procedure is yet.
+    // The first offence, where globals are known and no macro and procedure is yet; what is found at one place is let go at the next.
     fn first_with(
         &mut self,
         callees: &mut Callees,
+        found: &mut Found,
         alloc: Global,
         pool: &Pool,
         algorithm: &Algorithm,
@@ -35,10 +36,10 @@ impl Sight {
         ensures { IfOk result (λ r. (o : pure.Outside) → callees.old.macros.entries ≡ [] → callees.old.procedures ≡ [] → Sees self.old (seeing_variables (declared (declarations_at pool.now algorithm.now.globals.items)) (sight_outside o)) → r ≡ first (use_offences_of (algorithm_at pool.now algorithm.now) o)) }
     {
         callees.fill(alloc, pool, &algorithm.macros, &algorithm.procedures)?;
-        let definitions = of_definitions(alloc, pool, self, &algorithm.definitions)?;
-        let globals = of_globals(alloc, pool, self, &algorithm.globals)?;
-        let procedures = of_procedures(alloc, pool, callees, self, &algorithm.procedures)?;
-        let main = of_main(alloc, pool, callees, self, &algorithm.main)?;
+        let definitions = found.of_definitions(pool, self, &algorithm.definitions)?;
+        let globals = found.of_globals(pool, self, &algorithm.globals)?;
+        let procedures = found.of_procedures(pool, callees, self, &algorithm.procedures)?;
+        let main = found.of_main(pool, callees, self, &algorithm.main)?;
         Ok(least(globals, least(definitions, least(procedures, main))))
     }
 
@@ -56,7 +57,8 @@ impl Sight {
         self.set_outside(outside)?;
         self.set_variables(&algorithm.globals)?;
         let mut callees = Callees::new(alloc);
-        self.first_with(&mut callees, alloc, pool, algorithm)
+        let mut found = Found::new(alloc);
+        self.first_with(&mut callees, &mut found, alloc, pool, algorithm)
     }
 }
 

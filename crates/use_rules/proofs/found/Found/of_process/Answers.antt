@@ -7,7 +7,7 @@ use Rattle.pcal_tree.specs.OffencesNames.{in_whole}
 use Rattle.algorithm_answer.specs.Joined.{joined}
 use Rattle.algorithm_answer.proofs.Joins.{first_append}
 use Rattle.use_rules.specs.Routines.{routine_offences}
-use Rattle.use_rules.proofs.routines.of_process.Goals as goal
+use Rattle.use_rules.proofs.found.Found.of_process.Goals as goal
 
 pub returns : goal.returns
 returns c = λ C ps s m h.

@@ -4,7 +4,7 @@ use Rattle.tla_tree.proofs.PoolNumbers.{past_at}
 use Rattle.pcal_tree.specs.InMemory.{process_at, past_process}
 use Rattle.pcal_tree.specs.OffencesNames.{in_process}
 use Rattle.use_rules.proofs.RoutineLaws.{each_next, each_done}
-use Rattle.use_rules.proofs.routines.of_processes.Goals as goal
+use Rattle.use_rules.proofs.found.Found.of_processes.Goals as goal
 
 pub loop-one-preserved : goal.loop-one-preserved
 loop-one-preserved c = λ C ps s m h.

@@ -7,7 +7,7 @@ use Rattle.pcal_tree.specs.InMemory.{past_definition}
 use Rattle.pcal_tree.specs.NameUses as names
 use Rattle.use_rules.proofs.RoutineLaws.{defining_start, defining_step, defining_told, known_inside, inside_latest}
 use Rattle.use_rules.proofs.SeenLaws.{sees_is, latest_all}
-use Rattle.use_rules.proofs.routines.of_definitions.Goals as goal
+use Rattle.use_rules.proofs.found.Found.of_definitions.Goals as goal
 
 pub loop-i-init : goal.loop-i-init
 loop-i-init c = defining_start c.args.pool.now c.args.list.now c.args.sight.now

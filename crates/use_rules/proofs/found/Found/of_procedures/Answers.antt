@@ -6,7 +6,7 @@ use Rattle.pcal_tree.specs.Offences.{first}
 use Rattle.pcal_tree.specs.OffencesNames.{in_procedure}
 use Rattle.use_rules.specs.Routines.{routine_offences}
 use Rattle.use_rules.proofs.RoutineLaws.{each_next, each_done}
-use Rattle.use_rules.proofs.routines.of_procedures.Goals as goal
+use Rattle.use_rules.proofs.found.Found.of_procedures.Goals as goal
 
 pub loop-one-preserved : goal.loop-one-preserved
 loop-one-preserved c = λ C ps s m h.
