@@ -1,12 +1,13 @@
 //! Names that statements bind, and names for which other text may be put in.
 
-ghost use Rattle.std.specs.Prelude.{◌≡◌, ◌≤◌, ◌∷◌, [], List, Bool, length, map, OnOk};
+ghost use Rattle.std.specs.Prelude.{◌≡◌, ◌≤◌, ◌++◌, List, Bool, length, map, OnOk};
 ghost use Rattle.tla_tree.specs.Tree.{Word};
 ghost use Rattle.tla_tree.specs.Nesting.{greatest};
+ghost use Rattle.tla_tree.specs.Pool.{trees_at};
 ghost use Rattle.pcal_tree.specs.Algorithm.{Procedure as PureProcedure};
 ghost use Rattle.pcal_tree.specs.BoundNames.{names_of_binds};
-ghost use Rattle.pcal_tree.specs.InMemory.{assignments_at, binds_at, simple_at, statements_at, branches_at, past_assignment, past_bind, past_simple, past_stmt, past_statements, past_branches, start_at, declarations_at, past_declaration};
-ghost use Rattle.pcal_tree.specs.OffencesRebind.{any_name, rebound, rebound_all, Calls as PureCalls, start_rebinds, starts_rebind, jump_rebinds, assignments_rebind, one_rebinds, body_rebinds, branches_rebind};
+ghost use Rattle.pcal_tree.specs.InMemory.{assignments_at, binds_at, simple_at, statements_at, branches_at, past_assignment, past_bind, past_simple, past_stmt, past_statements, past_branches, start_at, declarations_at, past_declaration, past_numbers};
+ghost use Rattle.pcal_tree.specs.OffencesRebind.{any_name, rebound, rebound_all, Calls as PureCalls, start_rebinds, starts_rebind, jump_rebinds, assignments_rebind, each_rebinds, one_rebinds, body_rebinds, branches_rebind};
 ghost use Rattle.rebind_rules.specs.Telling.{Adds};
 ghost use Rattle.rebind_rules.specs.Keeping.{KnowsCalls};
 ghost use Rattle.rebind_rules.specs.Bodies.{bind_name, bind_number, AddsBinds, AddsStmt};
@@ -18,7 +19,7 @@ use crate::walk::Walk;
 use pcal_tree::algorithm::{Assignment, Bind, Declaration, Simple, Start, Stmt};
 use std::alloc::AllocError;
 use tla_pool::Pool;
-use tla_tree::{NodeId, PlacedName};
+use tla_tree::{Name, NodeId, PlacedName};
 
 // The name that one of a `with` binds.
 fn named(bind: &Bind) -> &PlacedName
@@ -120,6 +121,23 @@ impl Walk {
         Ok(())
     }
 
+    // A macro call.
+    fn macro_call(
+        &mut self,
+        sight: &Sight,
+        calls: &Calls,
+        pool: &Pool,
+        name: &Name,
+        es: &[NodeId],
+    ) -> Result<(), AllocError>
+        requires { past_numbers es.now ≤ length pool.now }
+        ensures { OnOk result ((C : List Word → PureCalls) (ps : List PureProcedure) → KnowsCalls sight.now calls.now C ps → Adds sight.now any_name self.old self.new (λ ms r. C ms r name.now (trees_at pool.now es.now) ++ each_rebinds ms (trees_at pool.now es.now) r)) }
+    {
+        let args = each_brings(calls.alloc, pool, es)?;
+        self.called(sight, &calls.macros, name, &args)?;
+        self.exprs(sight, pool, es)
+    }
+
     // A statement with none in it.
     fn simple(
         &mut self,
@@ -132,25 +150,20 @@ impl Walk {
         ensures { OnOk result ((C : List Word → PureCalls) (ps : List PureProcedure) → KnowsCalls sight.now calls.now C ps → Adds sight.now any_name self.old self.new (λ ms r. one_rebinds ms ps (C ms) (simple_at pool.now simple.now) r)) }
     {
         match simple {
-            Simple::Assign(list) => self.assignments(sight, pool, list)?,
-            Simple::Await(e) => self.expr(sight, pool, *e)?,
-            Simple::Print(e) => self.expr(sight, pool, *e)?,
-            Simple::Assert(e) => self.expr(sight, pool, *e)?,
-            Simple::Skip => {}
-            Simple::Goto(_) => self.standing(sight, &calls.process)?,
-            Simple::Macro(name, es) => {
-                let args = each_brings(calls.alloc, pool, es)?;
-                self.called(sight, &calls.macros, name, &args)?;
-                self.exprs(sight, pool, es)?;
-            }
+            Simple::Assign(list) => self.assignments(sight, pool, list),
+            Simple::Await(e) => self.expr(sight, pool, *e),
+            Simple::Print(e) => self.expr(sight, pool, *e),
+            Simple::Assert(e) => self.expr(sight, pool, *e),
+            Simple::Skip => Ok(()),
+            Simple::Goto(_) => self.standing(sight, &calls.process),
+            Simple::Macro(name, es) => self.macro_call(sight, calls, pool, name, es),
             Simple::Call(name, es) => {
                 self.standing(sight, &calls.process)?;
                 self.called(sight, &calls.procedures, &name.name, &[])?;
-                self.exprs(sight, pool, es)?;
+                self.exprs(sight, pool, es)
             }
-            Simple::Return => {}
+            Simple::Return => Ok(()),
         }
-        Ok(())
     }
 
     // A statement.
@@ -166,27 +179,27 @@ impl Walk {
         ensures { OnOk result ((C : List Word → PureCalls) (ps : List PureProcedure) → KnowsCalls sight.now calls.now C ps → AddsStmt sight.now C ps pool.now stmt.now self.old self.new) }
     {
         match stmt {
-            Stmt::Label(_, _) => {}
-            Stmt::Simple(_, simple) => self.simple(sight, calls, pool, simple)?,
+            Stmt::Label(_, _) => Ok(()),
+            Stmt::Simple(_, simple) => self.simple(sight, calls, pool, simple),
             Stmt::If(_, e, then, otherwise) => {
                 self.expr(sight, pool, *e)?;
                 self.body(sight, calls, pool, then)?;
-                self.body(sight, calls, pool, otherwise)?;
+                self.body(sight, calls, pool, otherwise)
             }
-            Stmt::Either(_, list) => self.branches(sight, calls, pool, list)?,
+            Stmt::Either(_, list) => self.branches(sight, calls, pool, list),
             Stmt::With(_, binds, body) => {
                 self.bind_names(sight, binds)?;
                 let around = self.bound.len();
                 self.binds(sight, pool, binds)?;
                 self.body(sight, calls, pool, body)?;
                 self.bound.truncate(around);
+                Ok(())
             }
             Stmt::While(_, e, body) => {
                 self.expr(sight, pool, *e)?;
-                self.body(sight, calls, pool, body)?;
+                self.body(sight, calls, pool, body)
             }
         }
-        Ok(())
     }
 
     // Branches.

@@ -60,10 +60,10 @@ impl Keeps {
     /// # Errors
     ///
     /// Only for want of memory.
-    pub fn add(&mut self, name: Name, kept: Kept) -> Result<(), AllocError>
-        ensures { OnOk result (self.new.kept.entries ≡ insert_entry (pointwise ◌==◌) self.old.kept.entries name kept) }
+    pub fn add(&mut self, name: &Name, kept: Kept) -> Result<(), AllocError>
+        ensures { OnOk result (self.new.kept.entries ≡ insert_entry (pointwise ◌==◌) self.old.kept.entries name.now kept) }
     {
-        self.kept.insert(name, kept)?;
+        self.kept.insert(name.copied()?, kept)?;
         Ok(())
     }
 }

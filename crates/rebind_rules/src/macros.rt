@@ -29,25 +29,6 @@ fn add_copies(list: &mut Vec<PlacedName>, names: &[PlacedName]) -> Result<(), Al
     Ok(())
 }
 
-impl Kept {
-    // What is kept of a macro, where nothing is yet.
-    fn fill(
-        &mut self,
-        sight: &Sight,
-        calls: &Calls,
-        pool: &Pool,
-        one: &Macro,
-    ) -> Result<(), AllocError>
-        requires { past_macro one.now ≤ length pool.now }
-        ensures params { OnOk result (self.old.params.items ≡ [] → self.new.params.items ≡ one.now.params.items) }
-        ensures found { OnOk result ((C : List Word → PureCalls) (ps : List PureProcedure) → KnowsCalls sight.now calls.now C ps → Adds sight.now any_name self.old.found self.new.found (λ ms r. body_rebinds ms ps (C ms) (statements_at pool.now one.now.body.items) r)) }
-    {
-        add_copies(&mut self.params, &one.params)?;
-        self.found.body(sight, calls, pool, &one.body)?;
-        Ok(())
-    }
-}
-
 impl Walk {
     // A macro's own text, with its parameters in scope.
     fn text(&mut self, sight: &Sight, kept: &Kept) -> Result<(), AllocError>
@@ -58,6 +39,27 @@ impl Walk {
         self.bound.add_all(&kept.params)?;
         self.put(sight, &kept.params, &kept.found, &[])?;
         self.bound.truncate(around);
+        Ok(())
+    }
+
+    // What is kept of a macro, where nothing is yet, and its own text.
+    fn gone_through(
+        &mut self,
+        near: &Sight,
+        far: &Sight,
+        calls: &Calls,
+        pool: &Pool,
+        one: &Macro,
+        kept: &mut Kept,
+    ) -> Result<(), AllocError>
+        requires { past_macro one.now ≤ length pool.now }
+        ensures params { OnOk result (kept.old.params.items ≡ [] → kept.new.params.items ≡ one.now.params.items) }
+        ensures found { OnOk result ((C : List Word → PureCalls) (ps : List PureProcedure) → KnowsCalls far.now calls.now C ps → Adds far.now any_name kept.old.found kept.new.found (λ ms r. body_rebinds ms ps (C ms) (statements_at pool.now one.now.body.items) r)) }
+        ensures text { OnOk result (Adds near.now any_name self.old self.new (λ ms r. rebound_all ms r kept.new.params.items ++ told ms kept.new.found (naming (words kept.new.params.items) r))) }
+    {
+        add_copies(&mut kept.params, &one.params)?;
+        kept.found.body(far, calls, pool, &one.body)?;
+        self.text(near, kept)?;
         Ok(())
     }
 
@@ -73,12 +75,9 @@ impl Walk {
         requires { past_macro one.now ≤ length pool.now }
         ensures { OnOk result (MacroKept near.now far.now pool.now one.now self.old self.new calls.old calls.new) }
     {
-        let name = one.name.name.copied()?;
         let mut kept = Kept::new(calls.alloc);
-        kept.fill(far, calls, pool, one)?;
-        self.text(near, &kept)?;
-        calls.macros.add(name, kept)?;
-        Ok(())
+        self.gone_through(near, far, calls, pool, one, &mut kept)?;
+        calls.macros.add(&one.name.name, kept)
     }
 
     /// Macros: what is kept of each for those after it, and their own texts.
@@ -116,11 +115,9 @@ impl Keeps {
         requires { past_procedure procedure.now ≤ length pool.now }
         ensures { OnOk result (ProcedureKept sight.now pool.now procedure.now self.old self.new) }
     {
-        let name = procedure.name.name.copied()?;
         let mut kept = Kept::new(alloc);
         kept.found.starts(sight, pool, &procedure.variables)?;
-        self.add(name, kept)?;
-        Ok(())
+        self.add(&procedure.name.name, kept)
     }
 
     /// What is kept of procedures: of the initial values of their variables, in which text is put in for `self` alone.
