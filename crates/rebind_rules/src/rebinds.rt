@@ -34,6 +34,14 @@ pub struct Sights {
     pub far: Sight,
 }
 
+/// Where names are looked at, what is kept, and what was found.
+#[derive(Drop)]
+pub struct Whole {
+    pub sights: Sights,
+    pub calls: Calls,
+    pub walk: Walk,
+}
+
 // The standard modules among these.
 fn modules_among(alloc: Global, extended: &[PlacedName]) -> Result<Modules, AllocError>
     ensures { IfOk result (λ m. AreModules m (words extended.now)) }
@@ -112,61 +120,32 @@ impl Walk {
         self.main(&sights.near, &sights.own, calls, pool, &algorithm.main)?;
         Ok(())
     }
-
-    // The first offence, where nothing was found yet and of macros nothing is kept.
-    fn whole(
-        &mut self,
-        sights: &Sights,
-        calls: &mut Calls,
-        pool: &Pool,
-        algorithm: &Algorithm,
-        outside: &Outside,
-    ) -> Result<Option<Refusal>, AllocError>
-        requires { past_algorithm algorithm.now ≤ length pool.now }
-        ensures { IfOk result (λ f. IsNew self.old → (m : Modules) → AreModules m (words outside.now.extended.items) → AreSights m algorithm.now.macros.items sights.now → Begins sights.now pool.now algorithm.now calls.old → f ≡ first (rebind_offences_of (algorithm_at pool.now algorithm.now) (outside_at pool.now outside.now))) }
-    {
-        self.bound.add_declared(&algorithm.globals)?;
-        bind_units(&mut self.bound, outside)?;
-        self.definitions(&sights.near, pool, &algorithm.definitions)?;
-        self.inside(sights, calls, pool, algorithm)?;
-        Ok(self.first)
-    }
 }
 
-impl Calls {
-    // The first offence, where nothing is kept yet.
+impl Whole {
+    // The first offence, where nothing was found and nothing is kept yet.
     fn first_offence(
         &mut self,
-        sights: &Sights,
         pool: &Pool,
         algorithm: &Algorithm,
         outside: &Outside,
     ) -> Result<Option<Refusal>, AllocError>
         requires { past_algorithm algorithm.now ≤ length pool.now }
-        ensures { IfOk result (λ f. AreNone self.old → (m : Modules) → AreModules m (words outside.now.extended.items) → AreSights m algorithm.now.macros.items sights.now → f ≡ first (rebind_offences_of (algorithm_at pool.now algorithm.now) (outside_at pool.now outside.now))) }
+        ensures { IfOk result (λ f. (m : Modules) → AreModules m (words outside.now.extended.items) → AreAlone m self.old.sights → AreNone self.old.calls → IsNew self.old.walk → f ≡ first (rebind_offences_of (algorithm_at pool.now algorithm.now) (outside_at pool.now outside.now))) }
     {
-        self.procedures.procedures(self.alloc, &sights.own, pool, &algorithm.procedures)?;
-        let mut walk = Walk::new(self.alloc);
-        walk.whole(sights, self, pool, algorithm, outside)
-    }
-}
-
-impl Sights {
-    // The first offence, where no text is put in anywhere yet.
-    fn first_offence(
-        &mut self,
-        alloc: Global,
-        pool: &Pool,
-        algorithm: &Algorithm,
-        outside: &Outside,
-    ) -> Result<Option<Refusal>, AllocError>
-        requires { past_algorithm algorithm.now ≤ length pool.now }
-        ensures { IfOk result (λ f. (m : Modules) → AreModules m (words outside.now.extended.items) → AreAlone m self.old → f ≡ first (rebind_offences_of (algorithm_at pool.now algorithm.now) (outside_at pool.now outside.now))) }
-    {
-        let process = process_name(alloc)?;
-        self.stand(&process, &algorithm.macros)?;
-        let mut calls = Calls::new(alloc, process);
-        calls.first_offence(self, pool, algorithm, outside)
+        let alloc = self.calls.alloc;
+        self.sights.stand(&self.calls.process, &algorithm.macros)?;
+        self.calls.procedures.procedures(
+            alloc,
+            &self.sights.own,
+            pool,
+            &algorithm.procedures,
+        )?;
+        self.walk.bound.add_declared(&algorithm.globals)?;
+        bind_units(&mut self.walk.bound, outside)?;
+        self.walk.definitions(&self.sights.near, pool, &algorithm.definitions)?;
+        self.walk.inside(&self.sights, &mut self.calls, pool, algorithm)?;
+        Ok(self.walk.first)
     }
 }
 
@@ -186,6 +165,11 @@ pub fn rebind_refusal(
     ensures { IfOk result (λ r. r ≡ first (rebind_offences_of (algorithm_at pool.now algorithm.now) (outside_at pool.now outside.now))) }
 {
     let modules = modules_among(alloc, &outside.extended)?;
-    let mut sights = Sights::new(alloc, modules);
-    sights.first_offence(alloc, pool, algorithm, outside)
+    let process = process_name(alloc)?;
+    let mut whole = Whole {
+        sights: Sights::new(alloc, modules),
+        calls: Calls::new(alloc, process),
+        walk: Walk::new(alloc),
+    };
+    whole.first_offence(pool, algorithm, outside)
 }

@@ -1,5 +1,5 @@
 -- Proves that the first offence is found.
-use Rattle.std.proofs.Common.{List, subst}
+use Rattle.std.proofs.Common.{List, ◌∙◌, subst}
 use Rattle.std.proofs.lemmas.Result.{IfOk-weaker}
 use Rattle.tla_tree.specs.Tree.{Name, words}
 use Rattle.outside_sight.specs.ModulesIn.{AreModules}
@@ -8,4 +8,6 @@ use Rattle.rebind_rules.proofs.rebinds.rebind_refusal.Goals as goal
 pub returns : goal.returns
 returns c =
     let m = c.in_ok-modules.modules in
-    IfOk-weaker c.first_offence.result _ _ (λ r h. h m (subst (λ (ns : List Name). AreModules m (words ns)) c.deref.ensures.value c.in_ok-modules.ensures) c.new-sights.ensures) c.first_offence.ensures
+    IfOk-weaker c.first_offence.result _ _ (λ r h.
+    h m (subst (λ (ns : List Name). AreModules m (words ns)) c.deref.ensures.value c.in_ok-modules.ensures) c.new.ensures
+    (record { process = c.new-2.ensures.process ∙ c.in_ok-process.ensures; macros = c.new-2.ensures.macros; procedures = c.new-2.ensures.procedures }) c.new-3.ensures) c.first_offence.ensures
