@@ -123,6 +123,21 @@ impl Walk {
 }
 
 impl Whole {
+    // Nothing was found, and nothing is kept.
+    fn new(alloc: Global, modules: Modules, process: Name) -> Whole
+        ensures sights { AreAlone modules result.sights }
+        ensures process { result.calls.process ≡ process }
+        ensures macros { result.calls.macros.kept.entries ≡ [] }
+        ensures procedures { result.calls.procedures.kept.entries ≡ [] }
+        ensures walk { IsNew result.walk }
+    {
+        Whole {
+            sights: Sights::new(alloc, modules),
+            calls: Calls::new(alloc, process),
+            walk: Walk::new(alloc),
+        }
+    }
+
     // The first offence, where nothing was found and nothing is kept yet.
     fn first_offence(
         &mut self,
@@ -166,10 +181,6 @@ pub fn rebind_refusal(
 {
     let modules = modules_among(alloc, &outside.extended)?;
     let process = process_name(alloc)?;
-    let mut whole = Whole {
-        sights: Sights::new(alloc, modules),
-        calls: Calls::new(alloc, process),
-        walk: Walk::new(alloc),
-    };
+    let mut whole = Whole::new(alloc, modules, process);
     whole.first_offence(pool, algorithm, outside)
 }

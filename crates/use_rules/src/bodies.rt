@@ -1,13 +1,13 @@
 //! What is found in statements.
 
-ghost use Rattle.std.specs.Prelude.{◌≤◌, List, length, map, OnOk};
+ghost use Rattle.std.specs.Prelude.{◌≡◌, ◌≤◌, List, length, map, OnOk};
 ghost use Rattle.tla_tree.specs.Nesting.{greatest};
-ghost use Rattle.pcal_tree.specs.Algorithm.{Procedure, no_binds};
-ghost use Rattle.pcal_tree.specs.InMemory.{assignments_at, bind_at, binds_at, simple_at, statements_at, branches_at, past_assignment, past_bind, past_simple, past_stmt, past_statements, past_branches};
+ghost use Rattle.pcal_tree.specs.Algorithm.{Procedure};
+ghost use Rattle.pcal_tree.specs.InMemory.{assignments_at, binds_at, simple_at, statements_at, branches_at, past_assignment, past_bind, past_simple, past_stmt, past_statements, past_branches};
 ghost use Rattle.pcal_tree.specs.OffencesNames.{Calls, in_assignments, in_one, in_body, in_branches};
 ghost use Rattle.use_rules.specs.Finding.{Tells};
 ghost use Rattle.use_rules.specs.Calling.{Means};
-ghost use Rattle.use_rules.specs.Walking.{TellsBinds, TellsStmt};
+ghost use Rattle.use_rules.specs.Walking.{bind_name, bind_number, TellsBinds, TellsStmt};
 
 use crate::found::Found;
 use crate::macros::Callees;
@@ -15,6 +15,27 @@ use pcal_tree::algorithm::{Assignment, Bind, Simple, Stmt};
 use std::alloc::AllocError;
 use tla_pool::Pool;
 use tla_token::Place;
+use tla_tree::{NodeId, PlacedName};
+
+// The name that one of a `with` binds.
+fn named(bind: &Bind) -> &PlacedName
+    ensures { result.now ≡ bind_name bind.now }
+{
+    match bind {
+        Bind::Among(name, _) => name,
+        Bind::Is(name, _) => name,
+    }
+}
+
+// Its expression.
+fn expression(bind: &Bind) -> NodeId
+    ensures { result ≡ bind_number bind.now }
+{
+    match bind {
+        Bind::Among(_, e) => *e,
+        Bind::Is(_, e) => *e,
+    }
+}
 
 impl Found {
     // Left and right sides.
@@ -59,31 +80,15 @@ impl Found {
         }
     }
 
-    // What a `with` names: its expression, and then it is bound.
-    fn bind(&mut self, pool: &Pool, bind: &Bind) -> Result<(), AllocError>
-        requires { past_bind bind.now ≤ length pool.now }
-        ensures { OnOk result (TellsBinds (bind_at pool.now bind.now no_binds) self.old self.new) }
-    {
-        match bind {
-            Bind::Among(name, e) => {
-                self.expr(pool, false, *e)?;
-                self.bound.add(&name.name)?;
-            }
-            Bind::Is(name, e) => {
-                self.expr(pool, false, *e)?;
-                self.bound.add(&name.name)?;
-            }
-        }
-        Ok(())
-    }
-
-    // All that a `with` names, each seen by those after it.
+    // All that a `with` names, each seen by those after it: its expression, and then it is bound.
     fn binds(&mut self, pool: &Pool, list: &[Bind]) -> Result<(), AllocError>
         requires { greatest (map past_bind list.now) ≤ length pool.now }
         ensures { OnOk result (TellsBinds (binds_at pool.now list.now) self.old self.new) }
     {
         for bind in list {
-            self.bind(pool, bind)?;
+            self.expr(pool, false, expression(bind))?;
+            let name = named(bind);
+            self.bound.add(&name.name)?;
         }
         Ok(())
     }

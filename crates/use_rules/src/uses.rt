@@ -14,6 +14,7 @@ use crate::macros::Callees;
 use crate::sight::{Sight, modules_among};
 use algorithm_limits::order::least;
 use module_outside::outside::Outside;
+use outside_sight::modules::Modules;
 use pcal_tree::algorithm::Algorithm;
 use std::alloc::{AllocError, Global};
 use tla_pool::Pool;
@@ -28,6 +29,18 @@ pub struct Known {
 }
 
 impl Known {
+    // Nothing is known but the standard modules that are extended.
+    fn new(alloc: Global, modules: Modules) -> Known
+        ensures none { AreNone result }
+        ensures modules { result.sight.modules ≡ modules }
+    {
+        Known {
+            sight: Sight::new(alloc, modules),
+            callees: Callees::new(alloc),
+            found: Found::new(alloc),
+        }
+    }
+
     // The first offence, where nothing is known yet.
     fn first_offence(
         &mut self,
@@ -69,10 +82,6 @@ pub fn use_refusal(
     ensures { IfOk result (λ r. r ≡ first (use_offences_of (algorithm_at pool.now algorithm.now) (outside_at pool.now outside.now))) }
 {
     let modules = modules_among(alloc, &outside.extended)?;
-    let mut known = Known {
-        sight: Sight::new(alloc, modules),
-        callees: Callees::new(alloc),
-        found: Found::new(alloc),
-    };
+    let mut known = Known::new(alloc, modules);
     known.first_offence(alloc, pool, algorithm, outside)
 }

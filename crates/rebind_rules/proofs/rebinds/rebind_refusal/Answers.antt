@@ -9,5 +9,5 @@ pub returns : goal.returns
 returns c =
     let m = c.in_ok-modules.modules in
     IfOk-weaker c.first_offence.result _ _ (λ r h.
-    h m (subst (λ (ns : List Name). AreModules m (words ns)) c.deref.ensures.value c.in_ok-modules.ensures) c.new.ensures
-    (record { process = c.new-2.ensures.process ∙ c.in_ok-process.ensures; macros = c.new-2.ensures.macros; procedures = c.new-2.ensures.procedures }) c.new-3.ensures) c.first_offence.ensures
+    h m (subst (λ (ns : List Name). AreModules m (words ns)) c.deref.ensures.value c.in_ok-modules.ensures) c.new-whole.ensures.sights
+    (record { process = c.new-whole.ensures.process ∙ c.in_ok-process.ensures; macros = c.new-whole.ensures.macros; procedures = c.new-whole.ensures.procedures }) c.new-whole.ensures.walk) c.first_offence.ensures

@@ -11,6 +11,6 @@ returns c =
     let m = c.in_ok-modules.modules in
     let o = c.args.outside.now in
     IfOk-weaker c.first_offence.result _ _ (λ r h.
-    h (record { uses = c.new.ensures.uses; macros = c.new-2.ensures.macros; procedures = c.new-2.ensures.procedures })
-    (subst (λ (z : Modules). AreModules z (words o.extended.items)) (sym c.new.ensures.modules) (subst (λ (ns : List Name). AreModules m (words ns)) c.deref.ensures.value c.in_ok-modules.ensures)))
+    h c.new-known.ensures.none
+    (subst (λ (z : Modules). AreModules z (words o.extended.items)) (sym c.new-known.ensures.modules) (subst (λ (ns : List Name). AreModules m (words ns)) c.deref.ensures.value c.in_ok-modules.ensures)))
     c.first_offence.ensures
