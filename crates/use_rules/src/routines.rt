@@ -208,22 +208,6 @@ impl Found {
         Ok(found)
     }
 
-    // The first offence of a process.
-    fn of_process(
-        &mut self,
-        pool: &Pool,
-        callees: &Callees,
-        sight: &Sight,
-        one: &Process,
-    ) -> Result<Option<Refusal>, AllocError>
-        requires { past_process one.now ≤ length pool.now }
-        ensures { IfOk result (λ r. (C : Calls) (ps : List PureProcedure) (s : names.Sight) → Means callees.now C ps → Sees sight.now s → r ≡ first (in_process C ps s (process_at pool.now one.now))) }
-    {
-        let head = self.whole(pool, sight, &[], one.identity)?;
-        let rest = self.routine(pool, callees, sight, &[], &one.variables, &one.body)?;
-        Ok(least(head, rest))
-    }
-
     // The first offence of processes.
     fn of_processes(
         &mut self,
@@ -237,8 +221,9 @@ impl Found {
     {
         let mut found = None;
         for one in list {
-            let offence = self.of_process(pool, callees, sight, one)?;
-            found = least(found, offence);
+            let head = self.whole(pool, sight, &[], one.identity)?;
+            let rest = self.routine(pool, callees, sight, &[], &one.variables, &one.body)?;
+            found = least(found, least(head, rest));
         }
         Ok(found)
     }
