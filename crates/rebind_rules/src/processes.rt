@@ -66,26 +66,6 @@ impl Walk {
         self.single(near, own, calls, pool, process, &mut found)
     }
 
-    // A process.
-    fn process(
-        &mut self,
-        near: &Sight,
-        own: &Sight,
-        calls: &Calls,
-        pool: &Pool,
-        process: &Process,
-    ) -> Result<(), AllocError>
-        requires { past_process process.now ≤ length pool.now }
-        ensures { OnOk result ((C : List Word → PureCalls) (ps : List PureProcedure) → Singles near.now own.now → KnowsCalls near.now calls.now C ps → KnowsCalls own.now calls.now C ps → Adds near.now any_name self.old self.new (λ ms r. process_rebinds ms ps (C ms) r (process_at pool.now process.now))) }
-    {
-        self.expr(near, pool, process.identity)?;
-        let around = self.bound.len();
-        self.locals(near, pool, &[], &process.variables)?;
-        self.process_body(near, own, calls, pool, process)?;
-        self.bound.truncate(around);
-        Ok(())
-    }
-
     // Processes.
     fn processes(
         &mut self,
@@ -99,7 +79,12 @@ impl Walk {
         ensures { OnOk result ((C : List Word → PureCalls) (ps : List PureProcedure) → Singles near.now own.now → KnowsCalls near.now calls.now C ps → KnowsCalls own.now calls.now C ps → Adds near.now any_name self.old self.new (λ ms r. flat_map (process_rebinds ms ps (C ms) r) (map (process_at pool.now) list.now))) }
     {
         for i in 0..list.len() {
-            self.process(near, own, calls, pool, &list[i])?;
+            let process = &list[i];
+            self.expr(near, pool, process.identity)?;
+            let around = self.bound.len();
+            self.locals(near, pool, &[], &process.variables)?;
+            self.process_body(near, own, calls, pool, process)?;
+            self.bound.truncate(around);
         }
         Ok(())
     }

@@ -56,25 +56,6 @@ impl Walk {
         Ok(())
     }
 
-    // A definition.
-    fn definition(
-        &mut self,
-        sight: &Sight,
-        pool: &Pool,
-        definition: &Definition,
-    ) -> Result<(), AllocError>
-        requires { definition.now.body < length pool.now }
-        ensures { OnOk result (AddsNaming sight.now any_name self.old self.new (definition.now.name.word ∷ []) (λ ms r. rebound_all ms r definition.now.params.items ++ whole_rebinds ms (at pool.now definition.now.body) (naming (words definition.now.params.items) r))) }
-    {
-        self.names(sight, &definition.params)?;
-        let around = self.bound.len();
-        self.bound.add_all(&definition.params)?;
-        self.expr(sight, pool, definition.body)?;
-        self.bound.truncate(around);
-        self.bound.add(&definition.name.name)?;
-        Ok(())
-    }
-
     /// Definitions, each seen by those after it.
     ///
     /// # Errors
@@ -90,26 +71,14 @@ impl Walk {
         ensures { OnOk result (AddsNaming sight.now any_name self.old self.new (map (λ d. d.name.word) (definitions_at pool.now list.now)) (λ ms r. definitions_rebind ms (definitions_at pool.now list.now) r)) }
     {
         for i in 0..list.len() {
-            self.definition(sight, pool, &list[i])?;
+            let definition = &list[i];
+            self.names(sight, &definition.params)?;
+            let around = self.bound.len();
+            self.bound.add_all(&definition.params)?;
+            self.expr(sight, pool, definition.body)?;
+            self.bound.truncate(around);
+            self.bound.add(&definition.name.name)?;
         }
-        Ok(())
-    }
-
-    // A procedure.
-    fn procedure(
-        &mut self,
-        sight: &Sight,
-        calls: &Calls,
-        pool: &Pool,
-        procedure: &Procedure,
-    ) -> Result<(), AllocError>
-        requires { past_procedure procedure.now ≤ length pool.now }
-        ensures { OnOk result ((C : List Word → PureCalls) (ps : List PureProcedure) → KnowsCalls sight.now calls.now C ps → Adds sight.now any_name self.old self.new (λ ms r. procedure_rebinds ms ps (C ms) r (procedure_at pool.now procedure.now))) }
-    {
-        let around = self.bound.len();
-        self.locals(sight, pool, &procedure.params, &procedure.variables)?;
-        self.body(sight, calls, pool, &procedure.body)?;
-        self.bound.truncate(around);
         Ok(())
     }
 
@@ -129,7 +98,11 @@ impl Walk {
         ensures { OnOk result ((C : List Word → PureCalls) (ps : List PureProcedure) → KnowsCalls sight.now calls.now C ps → Adds sight.now any_name self.old self.new (λ ms r. flat_map (procedure_rebinds ms ps (C ms) r) (map (procedure_at pool.now) list.now))) }
     {
         for i in 0..list.len() {
-            self.procedure(sight, calls, pool, &list[i])?;
+            let procedure = &list[i];
+            let around = self.bound.len();
+            self.locals(sight, pool, &procedure.params, &procedure.variables)?;
+            self.body(sight, calls, pool, &procedure.body)?;
+            self.bound.truncate(around);
         }
         Ok(())
     }
