@@ -54,11 +54,10 @@ impl Walk {
         ensures { OnOk result ((K : Word → Bool) → Adds sight.now K self.old self.new (λ ms r. start_rebinds ms K (start_at pool.now declaration.now.start) r)) }
     {
         match &declaration.start {
-            Start::Unset => {}
-            Start::Equals(e) => self.expr(sight, pool, *e)?,
-            Start::Among(e) => self.expr(sight, pool, *e)?,
+            Start::Unset => Ok(()),
+            Start::Equals(e) => self.expr(sight, pool, *e),
+            Start::Among(e) => self.expr(sight, pool, *e),
         }
-        Ok(())
     }
 
     /// First values.

@@ -106,9 +106,8 @@ impl Walk {
         ensures { OnOk result ((C : List Word → PureCalls) (ps : List PureProcedure) → Singles near.now own.now → KnowsCalls near.now calls.now C ps → KnowsCalls own.now calls.now C ps → Adds near.now any_name self.old self.new (λ ms r. main_rebinds ms ps (C ms) r (main_at pool.now main.now))) }
     {
         match main {
-            Main::Alone(body) => self.body(near, calls, pool, body)?,
-            Main::Processes(list) => self.processes(near, own, calls, pool, list)?,
+            Main::Alone(body) => self.body(near, calls, pool, body),
+            Main::Processes(list) => self.processes(near, own, calls, pool, list),
         }
-        Ok(())
     }
 }

@@ -41,10 +41,9 @@ impl Walk {
         ensures { OnOk result (Adds sight.now any_name self.old self.new (λ ms r. rebound_all ms r (flat_map (piece_names r) (list_of (piece.now ∷ []))))) }
     {
         match piece {
-            Piece::Binds(name) => self.name(sight, name)?,
-            Piece::Frees(name) => self.standing(sight, name)?,
+            Piece::Binds(name) => self.name(sight, name),
+            Piece::Frees(name) => self.standing(sight, name),
         }
-        Ok(())
     }
 
     // All that it brings.
@@ -97,17 +96,16 @@ impl Walk {
         ensures { OnOk result ((ts : Trees) → lists_of args.now ≡ each_pieces ts → Adds sight.now any_name self.old self.new (λ ms r. offences_where ms (putting_in params.now ts r r) (binding_of binding.now))) }
     {
         match binding {
-            Binding::Bound(name) => self.name(sight, name)?,
+            Binding::Bound(name) => self.name(sight, name),
             Binding::Standing(name) => match argument(params, args, name) {
-                Some(list) => self.pieces(sight, list)?,
-                None => self.standing(sight, name)?,
+                Some(list) => self.pieces(sight, list),
+                None => self.standing(sight, name),
             },
             Binding::Beneath(name, under) => match argument(params, args, name) {
-                Some(list) => self.pieces_under(sight, list, under)?,
-                None => self.beneath(sight, name, under)?,
+                Some(list) => self.pieces_under(sight, list, under),
+                None => self.beneath(sight, name, under),
             },
         }
-        Ok(())
     }
 
     /// What was found in a text, where arguments that bring these are put in.
@@ -147,9 +145,8 @@ impl Walk {
         ensures { OnOk result ((C : List Word → PureCalls) (ts : Trees) → Knows sight.now keeps.now C → lists_of args.now ≡ each_pieces ts → Adds sight.now any_name self.old self.new (λ ms r. C ms r name.now ts)) }
     {
         match keeps.get(name) {
-            Some(kept) => self.put(sight, &kept.params, &kept.found, args)?,
-            None => {}
+            Some(kept) => self.put(sight, &kept.params, &kept.found, args),
+            None => Ok(()),
         }
-        Ok(())
     }
 }
