@@ -97,8 +97,7 @@ impl Sights {
         ensures { OnOk result ((m : Modules) → AreAlone m self.old → process.now ≡ codes "self" → AreSights m macros.now self.new) }
     {
         self.own.stands.add(process)?;
-        add_params(&mut self.far.stands, process, macros)?;
-        Ok(())
+        add_params(&mut self.far.stands, process, macros)
     }
 }
 
@@ -117,8 +116,7 @@ impl Walk {
         self.starts(&sights.near, pool, &algorithm.globals)?;
         self.macros(&sights.near, &sights.far, calls, pool, &algorithm.macros)?;
         self.procedures(&sights.near, calls, pool, &algorithm.procedures)?;
-        self.main(&sights.near, &sights.own, calls, pool, &algorithm.main)?;
-        Ok(())
+        self.main(&sights.near, &sights.own, calls, pool, &algorithm.main)
     }
 }
 

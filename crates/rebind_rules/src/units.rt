@@ -52,8 +52,7 @@ impl Walk {
         self.bound.add_declared(params)?;
         self.bound.add_declared(variables)?;
         self.starts(sight, pool, params)?;
-        self.starts(sight, pool, variables)?;
-        Ok(())
+        self.starts(sight, pool, variables)
     }
 
     /// Definitions, each seen by those after it.

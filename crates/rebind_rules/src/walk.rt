@@ -64,8 +64,7 @@ impl Walk {
     {
         let bound = self.bound.has(&name.name);
         self.offence(sight.rebinds(bound, &name.name), name.place);
-        self.keep(Binding::Bound(name.copied()?))?;
-        Ok(())
+        self.keep(Binding::Bound(name.copied()?))
     }
 
     // A name under each of those that are bound.

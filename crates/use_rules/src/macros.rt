@@ -80,8 +80,7 @@ impl MacroUses {
         ensures { OnOk result ((C : Calls) (ps : List PureProcedure) → self.old.params.items ≡ [] → IsNew self.old.found → Means callees.now C ps → Keeps C ps pool.now one.now self.new) }
     {
         add_copies(&mut self.params, &one.params)?;
-        self.found.body(pool, callees, &one.body)?;
-        Ok(())
+        self.found.body(pool, callees, &one.body)
     }
 }
 

@@ -177,7 +177,6 @@ impl Sight {
     {
         self.set_read(&outside.definitions)?;
         self.set_placed(&outside.constants, Use::Takes(0))?;
-        self.set_passed(&outside.opaque)?;
-        Ok(())
+        self.set_passed(&outside.opaque)
     }
 }
