@@ -148,16 +148,15 @@ impl Whole {
     {
         let alloc = self.calls.alloc;
         self.sights.stand(&self.calls.process, &algorithm.macros)?;
-        self.calls.procedures.procedures(
-            alloc,
-            &self.sights.own,
-            pool,
-            &algorithm.procedures,
-        )?;
+        self.calls
+            .procedures
+            .procedures(alloc, &self.sights.own, pool, &algorithm.procedures)?;
         self.walk.bound.add_declared(&algorithm.globals)?;
         bind_units(&mut self.walk.bound, outside)?;
-        self.walk.definitions(&self.sights.near, pool, &algorithm.definitions)?;
-        self.walk.inside(&self.sights, &mut self.calls, pool, algorithm)?;
+        self.walk
+            .definitions(&self.sights.near, pool, &algorithm.definitions)?;
+        self.walk
+            .inside(&self.sights, &mut self.calls, pool, algorithm)?;
         Ok(self.walk.first)
     }
 }

@@ -201,8 +201,14 @@ impl Found {
     {
         let mut found = None;
         for one in list {
-            let offence =
-                self.routine(pool, callees, sight, &one.params, &one.variables, &one.body)?;
+            let offence = self.routine(
+                pool,
+                callees,
+                sight,
+                &one.params,
+                &one.variables,
+                &one.body,
+            )?;
             found = least(found, offence);
         }
         Ok(found)

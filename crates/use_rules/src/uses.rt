@@ -54,13 +54,17 @@ impl Known {
     {
         self.sight.set_outside(outside)?;
         self.sight.set_variables(&algorithm.globals)?;
-        self.callees.fill(alloc, pool, &algorithm.macros, &algorithm.procedures)?;
+        self.callees
+            .fill(alloc, pool, &algorithm.macros, &algorithm.procedures)?;
         let found = &mut self.found;
-        let definitions =
-            found.of_definitions(pool, &mut self.sight, &algorithm.definitions)?;
+        let definitions = found.of_definitions(pool, &mut self.sight, &algorithm.definitions)?;
         let globals = found.of_globals(pool, &self.sight, &algorithm.globals)?;
-        let procedures =
-            found.of_procedures(pool, &self.callees, &self.sight, &algorithm.procedures)?;
+        let procedures = found.of_procedures(
+            pool,
+            &self.callees,
+            &self.sight,
+            &algorithm.procedures,
+        )?;
         let main = found.of_main(pool, &self.callees, &self.sight, &algorithm.main)?;
         Ok(least(globals, least(definitions, least(procedures, main))))
     }

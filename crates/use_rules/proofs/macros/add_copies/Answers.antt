@@ -1,5 +1,5 @@
 -- Proves that the names are the same.
-use Rattle.std.proofs.Common.{List, ◌++◌, ◌∷◌, [], ap, ◌∙◌}
+use Rattle.std.proofs.Common.{◌++◌, ◌∷◌, [], ap, ◌∙◌}
 use Rattle.tla_tree.specs.Tree.{Name}
 use Rattle.use_rules.proofs.KeepLaws.{names_more, names_all}
 use Rattle.use_rules.proofs.macros.add_copies.Goals as goal

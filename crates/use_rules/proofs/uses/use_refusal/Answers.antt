@@ -1,5 +1,5 @@
 -- Proves that the first offence of all is found.
-use Rattle.std.proofs.Common.{◌≡◌, List, sym, ◌∙◌, subst}
+use Rattle.std.proofs.Common.{List, sym, subst}
 use Rattle.std.proofs.lemmas.Result.{IfOk-weaker}
 use Rattle.tla_tree.specs.Tree.{Name, words}
 use Rattle.outside_sight.specs.declared.modules.Modules.{Modules}

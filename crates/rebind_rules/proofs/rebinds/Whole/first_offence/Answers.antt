@@ -33,9 +33,9 @@ returns c = λ m e z n w.
     let globals = declared (algorithm_at ts a).globals in
     let g = subst (λ (ds : List Macro). AreSights m ds s) c.deref.ensures.value (c.in_ok-stand.ensures m z n.process) in
     let kept =
-        subst
-        (λ (ps : List Procedure). (P : List Word) → c.args.self.now.calls.procedures.kept.entries ≡ [] → ((x : Word) → is_among s.own.stands x ≡ self_alone x)
-        → Means s.own P c.procedures.new.self (λ ms z x us. call_rebinds ms (map (procedure_at ts) ps) x z)) c.deref-2.ensures.value c.in_ok-procedures.ensures
+    subst
+    (λ (ps : List Procedure). (P : List Word) → c.args.self.now.calls.procedures.kept.entries ≡ [] → ((x : Word) → is_among s.own.stands x ≡ self_alone x)
+    → Means s.own P c.procedures.new.self (λ ms z x us. call_rebinds ms (map (procedure_at ts) ps) x z)) c.deref-2.ensures.value c.in_ok-procedures.ensures
     in
     let mid : Walk = record { bound = c.bind_units.new.bound; first = old.first; free = old.free } in
     refusal_told ts a o mid c.definitions.new.self c.inside.new.self s m e g w.first w.free

@@ -14,7 +14,7 @@ loop-bind-init c = λ k g. g
 pub loop-bind-preserved : goal.loop-bind-preserved
 loop-bind-preserved c = λ k g.
     c.loop-bind.invariant k
-    (list_then c.args.sight.now any_name (λ (b : Bind) ms r. rebound ms r (bind_name b)) c.loop-bind.self c.name.new.self k c.args.list.now c.loop-bind.bind-index c.bind-item.result c.bind-item.is c.loop-bind-test.true 
+    (list_then c.args.sight.now any_name (λ (b : Bind) ms r. rebound ms r (bind_name b)) c.loop-bind.self c.name.new.self k c.args.list.now c.loop-bind.bind-index c.bind-item.result c.bind-item.is c.loop-bind-test.true
     (subst (λ (n : Name). Adds c.args.sight.now any_name c.loop-bind.self c.name.new.self (λ ms r. rebound ms r n)) c.named.ensures (c.in_ok-name.ensures any_name)) g)
 
 pub returns : goal.returns

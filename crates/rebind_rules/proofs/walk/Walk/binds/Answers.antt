@@ -1,5 +1,5 @@
 -- Proves that all that a `with` names is looked at.
-use Rattle.std.proofs.Common.{ℕ, List, [], ◌∷◌, ◌∙◌, refl, subst, arith}
+use Rattle.std.proofs.Common.{ℕ, [], ◌∷◌, ◌∙◌, refl, subst, arith}
 use Rattle.tla_tree.specs.Tree.{Name}
 use Rattle.tla_tree.specs.Pool.{at}
 use Rattle.tla_tree.proofs.PoolNumbers.{past_at}

@@ -12,7 +12,7 @@ pub returns-in-Some : goal.returns-in-Some
 returns-in-Some c =
     on_ok_weaker c.put.result
     (λ a C ts h e.
-    called_adds c.args.sight.now c.args.keeps.now C c.args.self.now c.put.new.self (Some c.in-Some.kept.now) c.args.name.now ts h c.in-Some.ensures.some 
+    called_adds c.args.sight.now c.args.keeps.now C c.args.self.now c.put.new.self (Some c.in-Some.kept.now) c.args.name.now ts h c.in-Some.ensures.some
     (subst (λ (ps : List Name). Adds c.args.sight.now any_name c.args.self.now c.put.new.self (λ ms r. told ms c.in-Some.kept.now.found (putting_in ps ts r r))) c.deref.ensures.value (a ts e))) c.put.ensures
 
 pub returns-in-None : goal.returns-in-None

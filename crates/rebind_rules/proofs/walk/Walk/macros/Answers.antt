@@ -1,14 +1,10 @@
 -- Proves that macros are gone through.
-use Rattle.std.proofs.Common.{◌≡◌, List, map, reverse, refl, subst, arith}
+use Rattle.std.proofs.Common.{List, map, reverse, subst, arith}
 use Rattle.std.proofs.lemmas.List.{take_all}
-use Rattle.indexmap.specs.IndexMap.{insert_entry}
-use Rattle.tla_tree.specs.Tree.{Word}
 use Rattle.tla_tree.proofs.PoolNumbers.{past_at}
-use Rattle.algorithm_limits.proofs.Tables.{equal}
 use Rattle.pcal_tree.specs.declared.algorithm.Macro.{Macro}
 use Rattle.pcal_tree.specs.Algorithm as tree
 use Rattle.pcal_tree.specs.InMemory.{macro_at, past_macro}
-use Rattle.rebind_rules.specs.declared.kept.Calls.{Calls}
 use Rattle.rebind_rules.specs.Macros.{macro_names, MacrosAt}
 use Rattle.rebind_rules.proofs.MacroLaws.{macro_step, one_within, macros_taken}
 use Rattle.rebind_rules.proofs.walk.Walk.macros.Goals as goal

@@ -1,5 +1,5 @@
 -- Proves that what was found in a text is looked at where arguments are put in.
-use Rattle.std.proofs.Common.{◌≡◌, List, Option, refl, subst}
+use Rattle.std.proofs.Common.{List, Option, refl, subst}
 use Rattle.tla_token.specs.declared.rule.Refusal.{Refusal}
 use Rattle.algorithm_answer.specs.Joined.{joined}
 use Rattle.pcal_tree.specs.OffencesRebind.{any_name, putting_in}
