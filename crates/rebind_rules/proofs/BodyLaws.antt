@@ -1,5 +1,5 @@
 -- What statements offend, one after another.
-use Rattle.std.proofs.Common.{◌≡◌, ℕ, ◌+◌, ◌<◌, ◌≤◌, Bool, List, [], ◌∷◌, ◌++◌, length, take, drop, map, get_or, Vec, Global, refl, sym, ap, ◌∙◌, subst, append-nil, append_assoc}
+use Rattle.std.proofs.Common.{◌≡◌, ℕ, ◌+◌, ◌<◌, ◌≤◌, Bool, List, [], ◌∷◌, ◌++◌, length, take, drop, map, get_or, Vec, Global, codes, arith, refl, sym, ap, ◌∙◌, subst, append-nil, append_assoc}
 use Rattle.std.specs.List.{flat_map}
 use Rattle.std.proofs.lemmas.List.{drop_more, drop_all}
 use Rattle.tla_token.specs.declared.rule.Refusal.{Refusal}
@@ -16,7 +16,7 @@ use Rattle.pcal_tree.specs.declared.algorithm.Stmt.TheVariants.{Label, Simple, I
 use Rattle.pcal_tree.specs.declared.algorithm.Declaration.{Declaration}
 use Rattle.pcal_tree.specs.Algorithm.{branch, either, with, while, Statements, then, mark, Procedure}
 use Rattle.pcal_tree.specs.BoundNames.{names_of_binds}
-use Rattle.pcal_tree.specs.InMemory.{span_of, simple_at, assignments_at, binds_at, Before, stmt_at, statements_at, branches_at, start_at, declarations_at}
+use Rattle.pcal_tree.specs.InMemory.{span_of, simple_at, assignments_at, binds_at, past_bind, Before, stmt_at, statements_at, branches_at, start_at, declarations_at}
 use Rattle.pcal_tree.specs.Offences.{first}
 use Rattle.pcal_tree.specs.OffencesRebind.{Standings, naming, rebound_all, brought, jump_rebinds, any_name, Calls, start_rebinds, starts_rebind, whole_rebinds, tree_rebinds, assignments_rebind, binds_rebind, one_rebinds, body_rebinds, branches_rebind}
 use Rattle.pcal_tree.proofs.InMemoryEach.{label_at, simple_in_list_at, if_at, either_at, with_at, while_at}
@@ -57,6 +57,10 @@ bind_first : (ts : List Tree) (ms : List Word) (b : Bind) (bs : List Bind) (r : 
 bind_first ts ms (bind.Among x e) bs r = refl
 bind_first ts ms (bind.Is x e) bs r = refl
 
+pub past_number : (b : Bind) → bind_number b < past_bind b
+past_number (bind.Among x e) = omega arith
+past_number (bind.Is x e) = omega arith
+
 pub bind_adds : (g : Sight) (K : Word → Bool) (j k l : Walk) (x : Word) (f : List Word → Standings → List Refusal) → Adds g K j k f → l.first ≡ k.first → l.free ≡ k.free → Hides k.bound l.bound (x ∷ []) → AddsNaming g K j l (x ∷ []) f
 bind_adds g K j k l x f a same free h = record {
   hides = subst (λ (b : List Word). Hides b l.bound (x ∷ [])) a.bound h;
@@ -71,7 +75,7 @@ bind_then g ts j k l b bs a h = record {
       let x = (bind_name b).word in
       let inner = naming (x ∷ []) r in
       first_then (told ms k s) (told ms j s) (whole_rebinds ms (at ts (bind_number b)) r) (binds_rebind ms (binds_at ts bs) inner) (told ms l s) (a.tells ms s r q)
-      (h.tells ms s inner (record { modules = q.modules; process = q.process; lets = q.lets; around = around_hides j.bound k.bound (x ∷ []) s r a.hides q.around }))
+      (h.tells ms s inner (record { modules = q.modules; lets = q.lets; around = around_hides j.bound k.bound (x ∷ []) s r a.hides q.around }))
       ∙ ap (λ (rs : List Refusal). first (told ms j s ++ rs)) (sym (bind_first ts ms b bs r));
 }
   where
@@ -144,5 +148,5 @@ module _ (g : Sight) (C : List Word → Calls) (ps : List Procedure) (ts : List 
 
 -- ---- jumps and calls
 
-pub jump_adds : (g : Sight) (j k : Walk) → Adds g any_name j k (λ ms r. rebound_all ms r (brought r g.process)) → Adds g any_name j k (λ ms r. jump_rebinds ms r)
-jump_adds g j k a = record { bound = a.bound; tells = λ ms s r q. a.tells ms s r q ∙ ap (λ (w : Word). first (told ms j s ++ rebound_all ms r (brought r w))) q.process }
+pub jump_adds : (g : Sight) (j k : Walk) (x : Word) → x ≡ codes "self" → Adds g any_name j k (λ ms r. rebound_all ms r (brought r x)) → Adds g any_name j k (λ ms r. jump_rebinds ms r)
+jump_adds g j k x e a = adds_as g any_name j k _ _ (λ ms r. ap (λ (w : Word). rebound_all ms r (brought r w)) e) a

@@ -1,5 +1,5 @@
 -- What is kept of macros and procedures, as more is kept.
-use Rattle.std.proofs.Common.{◌≡◌, ℕ, ◌+◌, ◌<◌, length, take, get_or, Bool, true, false, List, [], ◌∷◌, ◌++◌, Option, Some, None, refl, sym, ap, ◌∙◌, subst, cond, bytes_eq, codes, true≢false}
+use Rattle.std.proofs.Common.{◌≡◌, ℕ, ◌+◌, ◌<◌, length, take, get_or, Bool, true, false, List, [], ◌∷◌, ◌++◌, Option, Some, None, refl, sym, ap, ◌∙◌, subst, cond, bytes_eq, true≢false}
 use Rattle.std.specs.Prelude.{if◌then◌else◌}
 use Rattle.std.specs.Map.{lookup}
 use Rattle.std.proofs.lemmas.List.{take_more}
@@ -18,17 +18,17 @@ use Rattle.rebind_rules.specs.declared.sight.Sight.{Sight}
 use Rattle.rebind_rules.specs.declared.walk.Walk.{Walk}
 use Rattle.rebind_rules.specs.declared.kept.Kept.{Kept}
 use Rattle.rebind_rules.specs.declared.kept.Keeps.{Keeps}
-use Rattle.rebind_rules.specs.Telling.{sure, held_where, told, Around, Lets, Adds}
+use Rattle.rebind_rules.specs.Telling.{sure, held_where, told, Around, Lets, IsNew, Adds}
 use Rattle.algorithm_limits.specs.DepthsIn.{Hides}
 use Rattle.rebind_rules.proofs.TellLaws.{adds_as, adds_then, adds_within, naming_alone}
 use Rattle.rebind_rules.specs.Keeping.{Within, kept_by, kept_tells, Tells, Means}
 
 -- ---- what is found in a text that is gone through alone
 
-pub found_tells : (g : Sight) (K : Word → Bool) (w v : Walk) (f : List Word → Standings → List Refusal) → w.bound ≡ [] → w.first ≡ None → w.free.keys ≡ [] → Adds g K w v f → Tells g K v f
-found_tells g K w v f b o k a ms s m p l =
-    a.tells ms s s (record { modules = m; process = p; lets = l; around = subst (λ (xs : List Word). Around xs s s) (sym b) (around_none s) })
-    ∙ (λ i. first ((sure (o i) ++ held_where ms s (k i)) ++ f ms s))
+pub found_tells : (g : Sight) (K : Word → Bool) (w v : Walk) (f : List Word → Standings → List Refusal) → IsNew w → Adds g K w v f → Tells g K v f
+found_tells g K w v f n a ms s m l =
+    a.tells ms s s (record { modules = m; lets = l; around = subst (λ (xs : List Word). Around xs s s) (sym n.bound) (around_none s) })
+    ∙ (λ i. first ((sure (n.first i) ++ held_where ms s (n.free i)) ++ f ms s))
 
 -- ---- one more is kept
 
@@ -75,11 +75,11 @@ lets_putting P (p ∷ ps) (tree t ts) s r h l x = by (bytes_eq p.word x) refl (l
 pub means_none : (g : Sight) (P : List Word) (ks : Keeps) (C : List Word → Calls) → ((ms : List Word) (s : Standings) (x : Word) (ts : Trees) → C ms s x ts ≡ []) → ks.kept.entries ≡ [] → Means g P ks C
 means_none g P ks C h e ms m s l x ts = ap (λ (es : List (Word × Kept)). first (kept_tells ms (lookup (equal x) es) s ts)) e ∙ ap first (sym (h ms s x ts))
 
-pub means_more : (g : Sight) (P : List Word) (old new : Keeps) (C : List Word → Calls) (B : List Word → Standings → List Refusal) (title : Word) (d : Kept) (params : List Name) → g.process ≡ codes "self"
+pub means_more : (g : Sight) (P : List Word) (old new : Keeps) (C : List Word → Calls) (B : List Word → Standings → List Refusal) (title : Word) (d : Kept) (params : List Name)
     → new.kept.entries ≡ insert_entry equal old.kept.entries title d → d.params.items ≡ params → Within P (words params)
     → ((ms : List Word) (s : Standings) → AreModules g.modules ms → Lets any_name P s → first (told ms d.found s) ≡ first (B ms s)) → Means g P old C
     → Means g P new (λ ms s x ts. cond (bytes_eq title x) (B ms (putting_in params ts s s)) (C ms s x ts))
-means_more g P old new C B title d params u e is w f h ms m s l x ts =
+means_more g P old new C B title d params e is w f h ms m s l x ts =
     ap (λ (o : Option Kept). first (kept_tells ms o s ts)) (ap (lookup (equal x)) e ∙ lookup_insert old.kept.entries title d x) ∙ by (bytes_eq title x)
   where
     by : (b : Bool) → first (kept_tells ms (cond b (Some d) (kept_by old x)) s ts) ≡ first (cond b (B ms (putting_in params ts s s)) (C ms s x ts))

@@ -1,7 +1,7 @@
 -- What is kept of macros one after another, and of procedures from the last one on.
-use Rattle.std.proofs.Common.{◌≡◌, ℕ, zero, suc, ◌+◌, ◌-◌, ◌<◌, Bool, true, false, ◌||◌, List, [], ◌∷◌, ◌++◌, length, take, drop, map, reverse, get_or, refl, sym, ap, ◌∙◌, subst, arith, cond, bytes_eq, codes}
+use Rattle.std.proofs.Common.{◌≡◌, ℕ, zero, suc, ◌+◌, ◌-◌, ◌<◌, Bool, true, false, ◌||◌, List, [], ◌∷◌, ◌++◌, length, take, drop, map, reverse, get_or, refl, sym, ap, ◌∙◌, subst, arith, cond, bytes_eq}
 use Rattle.std.specs.List.{list_any}
-use Rattle.std.proofs.lemmas.List.{drop_more, take_more, map-append, reverse-append}
+use Rattle.std.proofs.lemmas.List.{drop_more, drop_all, take_more, map-append, reverse-append}
 use Rattle.std.proofs.lemmas.List.Folds.{list_any-append}
 use Rattle.std.proofs.lemmas.Bool.{or_left, or_right}
 use Rattle.indexmap.specs.IndexMap.{insert_entry}
@@ -29,7 +29,7 @@ use Rattle.rebind_rules.specs.Keeping.{Within, Tells, Means, KnowsCalls}
 use Rattle.rebind_rules.specs.Macros.{macro_names, Ready, MacrosAt}
 use Rattle.rebind_rules.proofs.TellLaws.{first_same_before, adds_none, adds_then}
 use Rattle.rebind_rules.proofs.PutLaws.{lets_here}
-use Rattle.rebind_rules.proofs.KeepLaws.{means_more}
+use Rattle.rebind_rules.proofs.KeepLaws.{means_none, means_more}
 
 pub lets_naming : (P xs : List Word) (r : Standings) → Lets any_name P r → Lets any_name P (naming xs r)
 lets_naming P [] r l x = l x
@@ -64,9 +64,10 @@ within_none P near e x h = absurd_none (sym (ap (λ (xs : List Word). is_among x
 -- ---- one more macro
 
 module _ (near far : Sight) (ps : List Procedure) where
-  knows : (k before : kept.Calls) (params : List Word) (ds : List Macro) → Ready near far before ps params → k.procedures ≡ before.procedures → Means far far.stands k.macros (λ ms. macro_rebinds ms ps ds) → KnowsCalls far k (λ ms. macro_rebinds ms ps ds) ps
-  knows k before params ds h e m = record {
+  knows : (k before : kept.Calls) (params : List Word) (ds : List Macro) → Ready near far before ps params → k.procedures ≡ before.procedures → k.process ≡ before.process → Means far far.stands k.macros (λ ms. macro_rebinds ms ps ds) → KnowsCalls far k (λ ms. macro_rebinds ms ps ds) ps
+  knows k before params ds h e p m = record {
     macros = record { names = far.stands; within = λ x i. i; means = m };
+    process = p ∙ h.process;
     procedures = record {
       names = far.stands;
       within = λ x i. i;
@@ -78,13 +79,14 @@ module _ (near far : Sight) (ps : List Procedure) where
       → kept_one.params.items ≡ d.params
       → ((C : List Word → Calls) (qs : List Procedure) → KnowsCalls far c1 C qs → Tells far any_name kept_one.found (λ ms s. body_rebinds ms qs (C ms) d.body s))
       → Adds near any_name now next (λ ms r. rebound_all ms r kept_one.params.items ++ told ms kept_one.found (naming (words kept_one.params.items) r))
-      → c2.macros.kept.entries ≡ insert_entry equal c1.macros.kept.entries d.name.word kept_one → c2.procedures ≡ c1.procedures → MacrosAt near far ps old now c0 c1 ds → MacrosAt near far ps old next c0 c2 (d ∷ ds)
-  macro_step old now next c0 c1 c2 params ds d kept_one ready w is tells text e same h = record {
+      → c2.macros.kept.entries ≡ insert_entry equal c1.macros.kept.entries d.name.word kept_one → c2.procedures ≡ c1.procedures → c2.process ≡ c1.process → MacrosAt near far ps old now c0 c1 ds → MacrosAt near far ps old next c0 c2 (d ∷ ds)
+  macro_step old now next c0 c1 c2 params ds d kept_one ready w is tells text e same named h = record {
     adds = adds_first near any_name old next (λ ms r. texts ds ms r ++ own ms r) (texts (d ∷ ds))
         (adds_then near any_name old now next (texts ds) own h.adds (adds_first near any_name now next _ own text (λ ms s r q. here ms s r q))) (λ ms s r q. first_swapped (texts ds ms r) (own ms r));
-    macros = means_more far far.stands c1.macros c2.macros (λ ms. macro_rebinds ms ps ds) (λ ms s. body_rebinds ms ps (macro_rebinds ms ps ds) d.body s) d.name.word kept_one d.params ready.process e is w
-        (λ ms s m l. said ms s m ready.process l) h.macros;
+    macros = means_more far far.stands c1.macros c2.macros (λ ms. macro_rebinds ms ps ds) (λ ms s. body_rebinds ms ps (macro_rebinds ms ps ds) d.body s) d.name.word kept_one d.params e is w
+        said h.macros;
     procedures = same ∙ h.procedures;
+    process = named ∙ h.process;
   }
     where
       texts : List Macro → List Word → Standings → List Refusal
@@ -94,17 +96,17 @@ module _ (near far : Sight) (ps : List Procedure) where
       own ms r = rebound_all ms r d.params ++ body_rebinds ms ps (macro_rebinds ms ps ds) d.body (naming (words d.params) r)
 
       said : Tells far any_name kept_one.found (λ ms s. body_rebinds ms ps (macro_rebinds ms ps ds) d.body s)
-      said = tells (λ ms. macro_rebinds ms ps ds) ps (knows c1 c0 params ds ready h.procedures h.macros)
+      said = tells (λ ms. macro_rebinds ms ps ds) ps (knows c1 c0 params ds ready h.procedures h.process h.macros)
 
       here : (ms : List Word) (s r : Standings) → Seen near any_name now ms s r → first (rebound_all ms r kept_one.params.items ++ told ms kept_one.found (naming (words kept_one.params.items) r)) ≡ first (own ms r)
       here ms s r q =
           ap (λ (ns : List Name). first (rebound_all ms r ns ++ told ms kept_one.found (naming (words ns) r))) is
           ∙ first_same_before (rebound_all ms r d.params) (told ms kept_one.found (naming (words d.params) r)) (body_rebinds ms ps (macro_rebinds ms ps ds) d.body (naming (words d.params) r))
-          (said ms (naming (words d.params) r) (subst (λ (m : Modules). AreModules m ms) ready.modules q.modules) ready.process
+          (said ms (naming (words d.params) r) (subst (λ (m : Modules). AreModules m ms) ready.modules q.modules)
           (lets_naming far.stands (words d.params) r (lets_here near now ms far.stands s r (within_none far.stands near.stands ready.alone) q)))
 
   pub macros_none : (w : Walk) (k : kept.Calls) → Means far far.stands k.macros (λ ms. macro_rebinds ms ps []) → MacrosAt near far ps w w k k []
-  macros_none w k m = record { adds = adds_none near any_name w; macros = m; procedures = refl }
+  macros_none w k m = record { adds = adds_none near any_name w; macros = m; procedures = refl; process = refl }
 
 -- ---- in the loop
 
@@ -124,14 +126,19 @@ macros_taken ts ms i m e l =
 
 -- ---- procedures, from the last one on
 
-pub procedure_step : (g : Sight) (P : List Word) (old new : Keeps) (ts : List Tree) (all : List declared_procedure.Procedure) (i k : ℕ) (p : declared_procedure.Procedure) (d : Kept) → g.process ≡ codes "self"
+pub procedures_none : (g : Sight) (P : List Word) (ks : Keeps) (ts : List Tree) (all : List declared_procedure.Procedure) → ks.kept.entries ≡ [] → Means g P ks (λ ms s x us. call_rebinds ms (map (procedure_at ts) (drop (length all - 0) all)) x s)
+procedures_none g P ks ts all e =
+    means_none g P ks (λ ms s x us. call_rebinds ms (map (procedure_at ts) (drop (length all - 0) all)) x s)
+    (λ ms s x us. ap (λ (qs : List declared_procedure.Procedure). call_rebinds ms (map (procedure_at ts) qs) x s) (drop_all (length all - 0) all (omega arith))) e
+
+pub procedure_step : (g : Sight) (P : List Word) (old new : Keeps) (ts : List Tree) (all : List declared_procedure.Procedure) (i k : ℕ) (p : declared_procedure.Procedure) (d : Kept)
     → ((x : Word) → is_among g.stands x ≡ self_alone x) → k + 1 + i ≡ length all → p ≡ get_or all k p → d.params.items ≡ []
     → ((K : Word → Bool) → Tells g K d.found (λ ms s. starts_rebind ms K (procedure_at ts p).variables s)) → new.kept.entries ≡ insert_entry equal old.kept.entries p.name.word d
     → Means g P old (λ ms s x us. call_rebinds ms (map (procedure_at ts) (drop (length all - i) all)) x s) → Means g P new (λ ms s x us. call_rebinds ms (map (procedure_at ts) (drop (length all - (i + 1)) all)) x s)
-procedure_step g P old new ts all i k p d u stands n e is tells put h =
+procedure_step g P old new ts all i k p d stands n e is tells put h =
     subst (λ (qs : List declared_procedure.Procedure). Means g P new (λ ms s x us. call_rebinds ms (map (procedure_at ts) qs) x s)) behind
-    (means_more g P old new (λ ms s x us. call_rebinds ms (map (procedure_at ts) (drop (length all - i) all)) x s) (λ ms s. starts_rebind ms self_alone (procedure_at ts p).variables s) p.name.word d [] u put is (λ x i. absurd_none x i)
-    (λ ms s m l. tells self_alone ms s m u (λ x. ap (λ (b : Bool). cond b (brought s x) []) (sym (stands x)))) h)
+    (means_more g P old new (λ ms s x us. call_rebinds ms (map (procedure_at ts) (drop (length all - i) all)) x s) (λ ms s. starts_rebind ms self_alone (procedure_at ts p).variables s) p.name.word d [] put is (λ x i. absurd_none x i)
+    (λ ms s m l. tells self_alone ms s m (λ x. ap (λ (b : Bool). cond b (brought s x) []) (sym (stands x)))) h)
   where
     absurd_none : (x : Word) → is_among [] x ≡ true → is_among P x ≡ true
     absurd_none x h = cc

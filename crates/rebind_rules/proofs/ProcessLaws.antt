@@ -35,12 +35,12 @@ lets_single near own ns r h e x =
     by true k = refl
     by false k = k
 
-pub single_adds : (near own : Sight) (j k : Walk) (found : Walk) (t : Tree) (f : List Word → Standings → List Refusal) → Singles near own → Tells own any_name found f
-    → Adds near any_name j k (λ ms r. told ms found (stands_for near.process (bound_by t r) ∷ r)) → Adds near any_name j k (λ ms r. f ms (body_scope false t r))
-single_adds near own j k found t f h tells a =
+pub single_adds : (near own : Sight) (j k : Walk) (found : Walk) (t : Tree) (x : Word) (f : List Word → Standings → List Refusal) → x ≡ codes "self" → Singles near own → Tells own any_name found f
+    → Adds near any_name j k (λ ms r. told ms found (stands_for x (bound_by t r) ∷ r)) → Adds near any_name j k (λ ms r. f ms (body_scope false t r))
+single_adds near own j k found t x f e h tells a =
     adds_first near any_name j k _ (λ ms r. f ms (body_scope false t r)) a (λ ms s r q.
-    ap (λ (w : Word). first (told ms found (stands_for w (bound_by t r) ∷ r))) q.process
-    ∙ tells ms (stands_for (codes "self") (bound_by t r) ∷ r) (subst (λ (m : Modules). AreModules m ms) h.modules q.modules) h.process (lets_single near own (bound_by t r) r h (nothing_near near j ms s r h.alone q)))
+    ap (λ (w : Word). first (told ms found (stands_for w (bound_by t r) ∷ r))) e
+    ∙ tells ms (stands_for (codes "self") (bound_by t r) ∷ r) (subst (λ (m : Modules). AreModules m ms) h.modules q.modules) (lets_single near own (bound_by t r) r h (nothing_near near j ms s r h.alone q)))
 
 -- text that is put in is the same where names are bound as well
 naming_nothing : (xs : List Word) (r : Standings) → ((x : Word) → brought r x ≡ []) → (x : Word) → brought (naming xs r) x ≡ []

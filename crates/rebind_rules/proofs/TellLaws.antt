@@ -33,10 +33,10 @@ first_sure (Some r) = refl
 -- ---- where it is seen
 
 pub seen_kept : (g : Sight) (K : Word → Bool) (j k : Walk) (ms : List Word) (s r : Standings) → k.bound ≡ j.bound → Seen g K j ms s r → Seen g K k ms s r
-seen_kept g K j k ms s r e h = record { modules = h.modules; process = h.process; lets = h.lets; around = subst (λ (xs : List Word). Around xs s r) (sym e) h.around }
+seen_kept g K j k ms s r e h = record { modules = h.modules; lets = h.lets; around = subst (λ (xs : List Word). Around xs s r) (sym e) h.around }
 
 pub seen_more : (g : Sight) (K : Word → Bool) (j k : Walk) (ms ys : List Word) (s r : Standings) → Hides j.bound k.bound ys → Seen g K j ms s r → Seen g K k ms s (naming ys r)
-seen_more g K j k ms ys s r e h = record { modules = h.modules; process = h.process; lets = h.lets; around = around_hides j.bound k.bound ys s r e h.around }
+seen_more g K j k ms ys s r e h = record { modules = h.modules; lets = h.lets; around = around_hides j.bound k.bound ys s r e h.around }
 
 -- ---- one after another
 

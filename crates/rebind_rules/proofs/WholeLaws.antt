@@ -56,17 +56,18 @@ module _ (s : Sights) (ts : List Tree) (a : declared_algorithm.Algorithm) (k : k
   far_procedures = means_moved s.far s.own s.far.stands k.procedures (λ ms z x us. call_rebinds ms ps x z) (b.sights.far_modules ∙ sym b.sights.own_modules) b.procedures
 
   pub ready : Ready s.near s.far k ps (macro_names a.macros.items)
-  ready = record { modules = same_far s.near b.sights.near_modules; process = b.sights.far_process; alone = b.sights.alone; within = b.sights.far; procedures = far_procedures }
+  ready = record { modules = same_far s.near b.sights.near_modules; process = b.process; alone = b.sights.alone; within = b.sights.far; procedures = far_procedures }
 
   pub no_macros : Means s.far s.far.stands k.macros (λ ms. macro_rebinds ms ps [])
   no_macros = means_none s.far s.far.stands k.macros (λ ms. macro_rebinds ms ps []) (λ ms z x us. refl) b.macros
 
   pub singles : Singles s.near s.own
-  singles = record { modules = b.sights.near_modules ∙ sym b.sights.own_modules; process = b.sights.own_process; alone = b.sights.alone; stands = b.sights.own }
+  singles = record { modules = b.sights.near_modules ∙ sym b.sights.own_modules; alone = b.sights.alone; stands = b.sights.own }
 
-  knows : (g : Sight) → g.modules ≡ b.modules → Within s.far.stands g.stands → (new : kept.Calls) (C : List Word → Calls) → new.procedures ≡ k.procedures → Means s.far s.far.stands new.macros C → KnowsCalls g new C ps
-  knows g e w new C p m = record {
+  knows : (g : Sight) → g.modules ≡ b.modules → Within s.far.stands g.stands → (new : kept.Calls) (C : List Word → Calls) → new.procedures ≡ k.procedures → new.process ≡ k.process → Means s.far s.far.stands new.macros C → KnowsCalls g new C ps
+  knows g e w new C p n m = record {
     macros = record { names = s.far.stands; within = w; means = means_moved g s.far s.far.stands new.macros C (same_far g e) m };
+    process = n ∙ b.process;
     procedures = record {
       names = s.far.stands;
       within = w;
@@ -81,10 +82,10 @@ module _ (s : Sights) (ts : List Tree) (a : declared_algorithm.Algorithm) (k : k
       absurd_none : false ≡ true → is_among s.far.stands x ≡ true
       absurd_none h = cc
 
-  pub knows_near : (new : kept.Calls) (C : List Word → Calls) → new.procedures ≡ k.procedures → Means s.far s.far.stands new.macros C → KnowsCalls s.near new C ps
+  pub knows_near : (new : kept.Calls) (C : List Word → Calls) → new.procedures ≡ k.procedures → new.process ≡ k.process → Means s.far s.far.stands new.macros C → KnowsCalls s.near new C ps
   knows_near = knows s.near b.sights.near_modules none_within
 
-  pub knows_own : (new : kept.Calls) (C : List Word → Calls) → new.procedures ≡ k.procedures → Means s.far s.far.stands new.macros C → KnowsCalls s.own new C ps
+  pub knows_own : (new : kept.Calls) (C : List Word → Calls) → new.procedures ≡ k.procedures → new.process ≡ k.process → Means s.far s.far.stands new.macros C → KnowsCalls s.own new C ps
   knows_own = knows s.own b.sights.own_modules b.sights.further
 
   pub insides_add : (i j l m n : Walk) (new : kept.Calls) → Adds s.near any_name i j (λ ms r. starts_rebind ms any_name (algorithm_at ts a).globals r)
@@ -114,7 +115,7 @@ module _ (s : Sights) (ts : List Tree) (a : declared_algorithm.Algorithm) (k : k
     where
       from : MacrosAt s.near s.far ps j l k new (reverse (map (macro_at ts) a.macros.items)) → Adds s.near any_name i n (λ ms r. insides ms (algorithm_at ts a) r)
       from h =
-          insides_add i j l m n new u h (w C ps (knows_near new C h.procedures h.macros)) (x C ps singles (knows_near new C h.procedures h.macros) (knows_own new C h.procedures h.macros))
+          insides_add i j l m n new u h (w C ps (knows_near new C h.procedures h.process h.macros)) (x C ps singles (knows_near new C h.procedures h.process h.macros) (knows_own new C h.procedures h.process h.macros))
         where
           C : List Word → Calls
           C ms = macro_rebinds ms ps (reverse (map (macro_at ts) a.macros.items))
@@ -123,7 +124,7 @@ module _ (s : Sights) (ts : List Tree) (a : declared_algorithm.Algorithm) (k : k
 
 held_none : (ms : List Word) (bs : List Binding) → held_where ms [] bs ≡ []
 held_none ms [] = refl
-held_none ms (held.Bound x l c ∷ bs) = held_none ms bs
+held_none ms (held.Bound x ∷ bs) = held_none ms bs
 held_none ms (held.Standing x ∷ bs) = held_none ms bs
 held_none ms (held.Beneath x y ∷ bs) = held_none ms bs
 
@@ -142,9 +143,9 @@ first_exchanged a b c = same_first (a ++ (b ++ c)) (b ++ (a ++ c)) (λ f. three 
     turned false true z = refl
     turned false false z = refl
 
-pub refusal_is : (near : Sight) (a : Algorithm) (o : Outside) (w u v : Walk) → AreModules near.modules o.extended → near.process ≡ codes "self" → w.first ≡ None → w.free.keys ≡ [] → Hides [] w.bound (declared a.globals ++ unit_names o)
+pub refusal_is : (near : Sight) (a : Algorithm) (o : Outside) (w u v : Walk) → AreModules near.modules o.extended → w.first ≡ None → w.free.keys ≡ [] → Hides [] w.bound (declared a.globals ++ unit_names o)
     → AddsNaming near any_name w u (map (λ (d : Definition). d.name.word) a.definitions) (λ ms r. definitions_rebind ms a.definitions r) → Adds near any_name u v (λ ms r. insides ms a r) → v.first ≡ first (rebind_offences_of a o)
-refusal_is near a o w u v m p f k h d i =
+refusal_is near a o w u v m f k h d i =
     first_told ms v
     ∙ first_then (told ms u []) (told ms w []) D (insides ms a inner) (told ms v []) (d.tells ms [] outer seen) (i.tells ms [] inner (seen_more near any_name w u ms (map (λ (d : Definition). d.name.word) a.definitions) [] outer d.hides seen))
     ∙ (λ j. first ((sure (f j) ++ held_where ms [] (k j)) ++ (D ++ insides ms a inner)))
@@ -176,16 +177,13 @@ refusal_is near a o w u v m p f k h d i =
     same_names false ns = refl
 
     seen : Seen near any_name w ms [] outer
-    seen = record { modules = m; process = p; lets = λ x. same_names (is_among near.stands x) []; around = around_hides [] w.bound (declared a.globals ++ unit_names o) [] [] h (around_none []) }
+    seen = record { modules = m; lets = λ x. same_names (is_among near.stands x) []; around = around_hides [] w.bound (declared a.globals ++ unit_names o) [] [] h (around_none []) }
 
-pub refusal_told : (ts : List Tree) (a : declared_algorithm.Algorithm) (o : Outside) (w u v : Walk) (s : Sights) (m : Modules) (k : kept.Calls) → AreModules m o.extended → AreSights m a.macros.items s → k.macros.kept.entries ≡ []
-    → ((P : List Word) → s.own.process ≡ codes "self" → ((x : Word) → is_among s.own.stands x ≡ self_alone x) → Means s.own P k.procedures (λ ms z x us. call_rebinds ms (map (procedure_at ts) a.procedures.items) x z))
+pub refusal_told : (ts : List Tree) (a : declared_algorithm.Algorithm) (o : Outside) (w u v : Walk) (s : Sights) (m : Modules) → AreModules m o.extended → AreSights m a.macros.items s
     → w.first ≡ None → w.free.keys ≡ [] → Hides [] w.bound (declared (algorithm_at ts a).globals ++ unit_names o)
     → AddsNaming s.near any_name w u (map (λ (d : Definition). d.name.word) (algorithm_at ts a).definitions) (λ ms r. definitions_rebind ms (algorithm_at ts a).definitions r)
-    → (Begins s ts a k → Adds s.near any_name u v (λ ms r. insides ms (algorithm_at ts a) r)) → v.first ≡ first (rebind_offences_of (algorithm_at ts a) o)
-refusal_told ts a o w u v s m k e g none ps f free h d i =
-    refusal_is s.near (algorithm_at ts a) o w u v (subst (λ (z : Modules). AreModules z o.extended) (sym g.near_modules) e) g.near_process f free h d
-    (i (record { modules = m; sights = g; macros = none; procedures = ps s.far.stands g.own_process g.own }))
+    → Adds s.near any_name u v (λ ms r. insides ms (algorithm_at ts a) r) → v.first ≡ first (rebind_offences_of (algorithm_at ts a) o)
+refusal_told ts a o w u v s m e g f free h d i = refusal_is s.near (algorithm_at ts a) o w u v (subst (λ (z : Modules). AreModules z o.extended) (sym g.near_modules) e) f free h d i
 
 -- ---- names for which text may be put in
 

@@ -44,8 +44,9 @@ pub record Knows (g : Sight) (ks : Keeps) (C : List Word → Calls) : Type 0 whe
 
 pub record KnowsCalls (g : Sight) (k : declared.Calls) (C : List Word → Calls) (ps : List Procedure) : Type 0 where
   pub macros : Knows g k.macros C
+  pub process : k.process ≡ codes "self"
   pub procedures : Knows g k.procedures (λ ms s x ts. call_rebinds ms ps x s)
 
 -- what was found in a text tells its offences, wherever the text is
 abbrev pub Tells : Sight → (Word → Bool) → Walk → (List Word → Standings → List Refusal) → Type 0
-Tells g K w f = (ms : List Word) (s : Standings) → AreModules g.modules ms → g.process ≡ codes "self" → Lets K g.stands s → first (told ms w s) ≡ first (f ms s)
+Tells g K w f = (ms : List Word) (s : Standings) → AreModules g.modules ms → Lets K g.stands s → first (told ms w s) ≡ first (f ms s)

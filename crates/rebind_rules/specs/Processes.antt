@@ -12,6 +12,5 @@ body_scope several t r = cond several r (stands_for (codes "self") (bound_by t r
 -- near no text is put in, and in a single process for `self` alone
 pub record Singles (near own : Sight) : Type 0 where
   pub modules : near.modules ≡ own.modules
-  pub process : own.process ≡ codes "self"
   pub alone : near.stands ≡ []
   pub stands : (x : Word) → is_among own.stands x ≡ self_alone x

@@ -1,5 +1,5 @@
 -- What was found in a text tells in a scope: the first offence, and those of what may offend there.
-use Rattle.std.specs.Prelude.{◌≡◌, List, [], ◌∷◌, ◌++◌, Bool, ◌||◌, cond, codes, length, take, Option, Some, None}
+use Rattle.std.specs.Prelude.{◌≡◌, List, [], ◌∷◌, ◌++◌, Bool, ◌||◌, cond, length, take, Option, Some, None}
 use Rattle.std.specs.List.{flat_map}
 use Rattle.tla_token.specs.declared.rule.Refusal.{Refusal}
 use Rattle.tla_token.specs.Signs.{is_among}
@@ -16,7 +16,7 @@ use Rattle.rebind_rules.specs.declared.sight.Sight.{Sight}
 use Rattle.rebind_rules.specs.declared.walk.Walk.{Walk}
 
 abbrev pub binding_of : Binding → pure.Binding
-binding_of (held.Bound x l c) = pure.bound (record { word = x; place = record { line = l; col = c } })
+binding_of (held.Bound x) = pure.bound x
 binding_of (held.Standing x) = pure.standing x
 binding_of (held.Beneath x y) = pure.beneath x y
 
@@ -42,7 +42,6 @@ Lets K xs s = (x : Word) → cond (K x) (brought s x) [] ≡ cond (is_among xs x
 -- a text that is put in the scope s is gone through, and where it is gone through now the scope is r
 pub record Seen (g : Sight) (K : Word → Bool) (w : Walk) (ms : List Word) (s r : Standings) : Type 0 where
   pub modules : AreModules g.modules ms
-  pub process : g.process ≡ codes "self"
   pub lets : Lets K g.stands s
   pub around : Around w.bound s r
 
@@ -65,3 +64,9 @@ pub record AddsParts (g : Sight) (K : Word → Bool) (old new : Walk) (f : List 
 pub record AddsNaming (g : Sight) (K : Word → Bool) (old new : Walk) (names : List Word) (f : List Word → Standings → List Refusal) : Type 0 where
   pub hides : Hides old.bound new.bound names
   pub tells : (ms : List Word) (s r : Standings) → Seen g K old ms s r → first (told ms new s) ≡ first (told ms old s ++ f ms r)
+
+-- nothing was found, and no name is bound
+pub record IsNew (w : Walk) : Type 0 where
+  pub bound : w.bound ≡ []
+  pub first : w.first ≡ None
+  pub free : w.free.keys ≡ []

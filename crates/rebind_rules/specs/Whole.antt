@@ -20,18 +20,31 @@ pub record AreSights (m : Modules) (ds : List declared.Macro) (s : Sights) : Typ
   pub near_modules : s.near.modules ≡ m
   pub own_modules : s.own.modules ≡ m
   pub far_modules : s.far.modules ≡ m
-  pub near_process : s.near.process ≡ codes "self"
-  pub own_process : s.own.process ≡ codes "self"
-  pub far_process : s.far.process ≡ codes "self"
   pub alone : s.near.stands ≡ []
   pub own : (x : Word) → is_among s.own.stands x ≡ self_alone x
   pub far : Within s.far.stands (macro_names ds)
   pub further : Within s.far.stands s.own.stands
 
+-- no text is put in anywhere
+pub record AreAlone (m : Modules) (s : Sights) : Type 0 where
+  pub near_modules : s.near.modules ≡ m
+  pub own_modules : s.own.modules ≡ m
+  pub far_modules : s.far.modules ≡ m
+  pub near : s.near.stands ≡ []
+  pub own : s.own.stands ≡ []
+  pub far : s.far.stands ≡ []
+
+-- nothing is kept
+pub record AreNone (k : Calls) : Type 0 where
+  pub process : k.process ≡ codes "self"
+  pub macros : k.macros.kept.entries ≡ []
+  pub procedures : k.procedures.kept.entries ≡ []
+
 -- nothing is kept of macros yet, and of procedures what calls of them offend
 pub record Begins (s : Sights) (ts : List Tree) (a : declared_algorithm.Algorithm) (k : Calls) : Type 0 where
   pub modules : Modules
   pub sights : AreSights modules a.macros.items s
+  pub process : k.process ≡ codes "self"
   pub macros : k.macros.kept.entries ≡ []
   pub procedures : Means s.own s.far.stands k.procedures (λ ms z x us. call_rebinds ms (map (procedure_at ts) a.procedures.items) x z)
 

@@ -1,13 +1,13 @@
 //! What may offend where a macro is called: names that are bound in it, and names for which other text may be put in.
 
 use std::hash::{Hash, Hasher};
-use tla_tree::Name;
+use tla_tree::{Name, PlacedName};
 
 /// What may offend, in a scope.
 #[derive(Drop)]
 pub enum Binding {
-    /// A name that is bound, and the line and column where.
-    Bound(Name, u32, u32),
+    /// A name that is bound.
+    Bound(PlacedName),
     /// A free name, for which other text may be put in.
     Standing(Name),
     /// The same where another name is bound.
@@ -23,8 +23,10 @@ impl PartialEq for Binding {
 
     fn eq(&self, other: &Binding) -> bool {
         match self {
-            Binding::Bound(a, line, col) => match other {
-                Binding::Bound(b, m, n) => a == b && line == m && col == n,
+            Binding::Bound(a) => match other {
+                Binding::Bound(b) => {
+                    a.name == b.name && a.place.line == b.place.line && a.place.col == b.place.col
+                }
                 _ => false,
             },
             Binding::Standing(a) => match other {
@@ -54,10 +56,10 @@ impl Hash for Binding {
 
     fn hash<H: Hasher>(&self, state: &mut H) {
         match self {
-            Binding::Bound(name, line, col) => {
-                name.hash(state);
-                line.hash(state);
-                col.hash(state);
+            Binding::Bound(name) => {
+                name.name.hash(state);
+                name.place.line.hash(state);
+                name.place.col.hash(state);
             }
             Binding::Standing(name) => name.hash(state),
             Binding::Beneath(name, under) => {

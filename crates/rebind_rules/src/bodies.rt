@@ -1,15 +1,16 @@
 //! Names that statements bind, and names for which other text may be put in.
 
-ghost use Rattle.std.specs.Prelude.{◌≤◌, ◌∷◌, [], List, Bool, length, map, OnOk};
+ghost use Rattle.std.specs.Prelude.{◌≡◌, ◌≤◌, ◌++◌, List, Bool, length, map, OnOk};
 ghost use Rattle.tla_tree.specs.Tree.{Word};
 ghost use Rattle.tla_tree.specs.Nesting.{greatest};
+ghost use Rattle.tla_tree.specs.Pool.{trees_at};
 ghost use Rattle.pcal_tree.specs.Algorithm.{Procedure as PureProcedure};
 ghost use Rattle.pcal_tree.specs.BoundNames.{names_of_binds};
-ghost use Rattle.pcal_tree.specs.InMemory.{assignments_at, binds_at, simple_at, statements_at, branches_at, past_assignment, past_bind, past_simple, past_stmt, past_statements, past_branches, start_at, declarations_at, past_declaration};
-ghost use Rattle.pcal_tree.specs.OffencesRebind.{any_name, rebound, rebound_all, Calls as PureCalls, start_rebinds, starts_rebind, jump_rebinds, assignments_rebind, one_rebinds, body_rebinds, branches_rebind};
+ghost use Rattle.pcal_tree.specs.InMemory.{assignments_at, binds_at, simple_at, statements_at, branches_at, past_assignment, past_bind, past_simple, past_stmt, past_statements, past_branches, start_at, declarations_at, past_declaration, past_numbers};
+ghost use Rattle.pcal_tree.specs.OffencesRebind.{any_name, rebound, rebound_all, Calls as PureCalls, start_rebinds, starts_rebind, jump_rebinds, assignments_rebind, each_rebinds, one_rebinds, body_rebinds, branches_rebind};
 ghost use Rattle.rebind_rules.specs.Telling.{Adds};
 ghost use Rattle.rebind_rules.specs.Keeping.{KnowsCalls};
-ghost use Rattle.rebind_rules.specs.Bodies.{bind_name, AddsBind, AddsBinds, AddsStmt};
+ghost use Rattle.rebind_rules.specs.Bodies.{bind_name, bind_number, AddsBinds, AddsStmt};
 
 use crate::kept::Calls;
 use crate::pieces::each_brings;
@@ -18,6 +19,27 @@ use crate::walk::Walk;
 use pcal_tree::algorithm::{Assignment, Bind, Declaration, Simple, Start, Stmt};
 use std::alloc::AllocError;
 use tla_pool::Pool;
+use tla_tree::{Name, NodeId, PlacedName};
+
+// The name that one of a `with` binds.
+fn named(bind: &Bind) -> &PlacedName
+    ensures { result.now ≡ bind_name bind.now }
+{
+    match bind {
+        Bind::Among(name, _) => name,
+        Bind::Is(name, _) => name,
+    }
+}
+
+// Its expression.
+fn expression(bind: &Bind) -> NodeId
+    ensures { result ≡ bind_number bind.now }
+{
+    match bind {
+        Bind::Among(_, e) => *e,
+        Bind::Is(_, e) => *e,
+    }
+}
 
 impl Walk {
     // A first value.
@@ -32,11 +54,10 @@ impl Walk {
         ensures { OnOk result ((K : Word → Bool) → Adds sight.now K self.old self.new (λ ms r. start_rebinds ms K (start_at pool.now declaration.now.start) r)) }
     {
         match &declaration.start {
-            Start::Unset => {}
-            Start::Equals(e) => self.expr(sight, pool, *e)?,
-            Start::Among(e) => self.expr(sight, pool, *e)?,
+            Start::Unset => Ok(()),
+            Start::Equals(e) => self.expr(sight, pool, *e),
+            Start::Among(e) => self.expr(sight, pool, *e),
         }
-        Ok(())
     }
 
     /// First values.
@@ -76,54 +97,44 @@ impl Walk {
         Ok(())
     }
 
-    // The name of one that a `with` names.
-    fn bind_name(&mut self, sight: &Sight, bind: &Bind) -> Result<(), AllocError>
-        ensures { OnOk result (Adds sight.now any_name self.old self.new (λ ms r. rebound ms r (bind_name bind.now))) }
-    {
-        match bind {
-            Bind::Among(name, _) => self.name(sight, name)?,
-            Bind::Is(name, _) => self.name(sight, name)?,
-        }
-        Ok(())
-    }
-
     // The names of all that a `with` names.
     fn bind_names(&mut self, sight: &Sight, list: &[Bind]) -> Result<(), AllocError>
         ensures { OnOk result (Adds sight.now any_name self.old self.new (λ ms r. rebound_all ms r (map bind_name list.now))) }
     {
         for bind in list {
-            self.bind_name(sight, bind)?;
+            self.name(sight, named(bind))?;
         }
         Ok(())
     }
 
-    // What a `with` names: its expression, and then it is bound.
-    fn bind(&mut self, sight: &Sight, pool: &Pool, bind: &Bind) -> Result<(), AllocError>
-        requires { past_bind bind.now ≤ length pool.now }
-        ensures { OnOk result (AddsBind sight.now pool.now bind.now self.old self.new) }
-    {
-        match bind {
-            Bind::Among(name, e) => {
-                self.expr(sight, pool, *e)?;
-                self.bound.add(&name.name)?;
-            }
-            Bind::Is(name, e) => {
-                self.expr(sight, pool, *e)?;
-                self.bound.add(&name.name)?;
-            }
-        }
-        Ok(())
-    }
-
-    // All that a `with` names, each seen by those after it.
+    // All that a `with` names, each seen by those after it: its expression, and then it is bound.
     fn binds(&mut self, sight: &Sight, pool: &Pool, list: &[Bind]) -> Result<(), AllocError>
         requires { greatest (map past_bind list.now) ≤ length pool.now }
         ensures { OnOk result (AddsBinds sight.now pool.now list.now self.old self.new) }
     {
         for bind in list {
-            self.bind(sight, pool, bind)?;
+            self.expr(sight, pool, expression(bind))?;
+            let name = named(bind);
+            self.bound.add(&name.name)?;
         }
         Ok(())
+    }
+
+    // A macro call.
+    fn macro_call(
+        &mut self,
+        sight: &Sight,
+        calls: &Calls,
+        pool: &Pool,
+        name: &Name,
+        es: &[NodeId],
+    ) -> Result<(), AllocError>
+        requires { past_numbers es.now ≤ length pool.now }
+        ensures { OnOk result ((C : List Word → PureCalls) (ps : List PureProcedure) → KnowsCalls sight.now calls.now C ps → Adds sight.now any_name self.old self.new (λ ms r. C ms r name.now (trees_at pool.now es.now) ++ each_rebinds ms (trees_at pool.now es.now) r)) }
+    {
+        let args = each_brings(calls.alloc, pool, es)?;
+        self.called(sight, &calls.macros, name, &args)?;
+        self.exprs(sight, pool, es)
     }
 
     // A statement with none in it.
@@ -138,25 +149,20 @@ impl Walk {
         ensures { OnOk result ((C : List Word → PureCalls) (ps : List PureProcedure) → KnowsCalls sight.now calls.now C ps → Adds sight.now any_name self.old self.new (λ ms r. one_rebinds ms ps (C ms) (simple_at pool.now simple.now) r)) }
     {
         match simple {
-            Simple::Assign(list) => self.assignments(sight, pool, list)?,
-            Simple::Await(e) => self.expr(sight, pool, *e)?,
-            Simple::Print(e) => self.expr(sight, pool, *e)?,
-            Simple::Assert(e) => self.expr(sight, pool, *e)?,
-            Simple::Skip => {}
-            Simple::Goto(_) => self.standing(sight, &sight.process)?,
-            Simple::Macro(name, es) => {
-                let args = each_brings(calls.alloc, pool, es)?;
-                self.called(sight, &calls.macros, name, &args)?;
-                self.exprs(sight, pool, es)?;
-            }
+            Simple::Assign(list) => self.assignments(sight, pool, list),
+            Simple::Await(e) => self.expr(sight, pool, *e),
+            Simple::Print(e) => self.expr(sight, pool, *e),
+            Simple::Assert(e) => self.expr(sight, pool, *e),
+            Simple::Skip => Ok(()),
+            Simple::Goto(_) => self.standing(sight, &calls.process),
+            Simple::Macro(name, es) => self.macro_call(sight, calls, pool, name, es),
             Simple::Call(name, es) => {
-                self.standing(sight, &sight.process)?;
+                self.standing(sight, &calls.process)?;
                 self.called(sight, &calls.procedures, &name.name, &[])?;
-                self.exprs(sight, pool, es)?;
+                self.exprs(sight, pool, es)
             }
-            Simple::Return => {}
+            Simple::Return => Ok(()),
         }
-        Ok(())
     }
 
     // A statement.
@@ -172,27 +178,27 @@ impl Walk {
         ensures { OnOk result ((C : List Word → PureCalls) (ps : List PureProcedure) → KnowsCalls sight.now calls.now C ps → AddsStmt sight.now C ps pool.now stmt.now self.old self.new) }
     {
         match stmt {
-            Stmt::Label(_, _) => {}
-            Stmt::Simple(_, simple) => self.simple(sight, calls, pool, simple)?,
+            Stmt::Label(_, _) => Ok(()),
+            Stmt::Simple(_, simple) => self.simple(sight, calls, pool, simple),
             Stmt::If(_, e, then, otherwise) => {
                 self.expr(sight, pool, *e)?;
                 self.body(sight, calls, pool, then)?;
-                self.body(sight, calls, pool, otherwise)?;
+                self.body(sight, calls, pool, otherwise)
             }
-            Stmt::Either(_, list) => self.branches(sight, calls, pool, list)?,
+            Stmt::Either(_, list) => self.branches(sight, calls, pool, list),
             Stmt::With(_, binds, body) => {
                 self.bind_names(sight, binds)?;
                 let around = self.bound.len();
                 self.binds(sight, pool, binds)?;
                 self.body(sight, calls, pool, body)?;
                 self.bound.truncate(around);
+                Ok(())
             }
             Stmt::While(_, e, body) => {
                 self.expr(sight, pool, *e)?;
-                self.body(sight, calls, pool, body)?;
+                self.body(sight, calls, pool, body)
             }
         }
-        Ok(())
     }
 
     // Branches.

@@ -34,12 +34,11 @@ impl Walk {
         ensures { OnOk result ((K : Word → Bool) → Adds sight.now K self.old self.new (λ ms r. form_rebinds ms K r (form_of form.now))) }
     {
         match form {
-            Form::Binding(_, groups) => self.groups(sight, groups)?,
-            Form::Local(names) => self.names(sight, names)?,
-            Form::Name(name) => self.standing(sight, name)?,
-            _ => {}
+            Form::Binding(_, groups) => self.groups(sight, groups),
+            Form::Local(names) => self.names(sight, names),
+            Form::Name(name) => self.standing(sight, name),
+            _ => Ok(()),
         }
-        Ok(())
     }
 
     /// An expression. It calls itself as deep as forms are in forms.

@@ -3,6 +3,7 @@
 ghost use Rattle.std.specs.Prelude.{◌≡◌, ◌==◌, [], Some, OnOk, IfSome, IfNone, None};
 ghost use Rattle.std.specs.Map.{lookup};
 ghost use Rattle.std.specs.Cmp.Lexicographic.{pointwise};
+ghost use Rattle.rebind_rules.specs.Telling.{IsNew};
 ghost use Rattle.indexmap.specs.IndexMap.{insert_entry};
 
 use crate::walk::Walk;
@@ -23,24 +24,29 @@ pub struct Keeps {
     pub kept: IndexMap<Name, Kept>,
 }
 
-/// What is kept of macros, and of the initial values of procedures' variables.
+/// The name of a process's identifier, and what is kept of macros and of the initial values of procedures' variables.
 #[derive(Drop)]
 pub struct Calls {
     pub alloc: Global,
+    pub process: Name,
     pub macros: Keeps,
     pub procedures: Keeps,
 }
 
-impl Keeps {
-    /// Nothing is kept.
-    pub fn new(alloc: Global) -> Keeps
-        ensures { result.kept.entries ≡ [] }
+impl Kept {
+    /// Nothing was found.
+    pub fn new(alloc: Global) -> Kept
+        ensures params { result.params.items ≡ [] }
+        ensures found { IsNew result.found }
     {
-        Keeps {
-            kept: IndexMap::new(alloc),
+        Kept {
+            params: Vec::new(alloc),
+            found: Walk::new(alloc),
         }
     }
+}
 
+impl Keeps {
     /// What is kept by a name.
     pub fn get(&self, name: &Name) -> Option<&Kept>
         ensures some { IfSome result (λ d. lookup (pointwise ◌==◌ name.now) self.now.kept.entries ≡ Some d.now) }
@@ -54,10 +60,30 @@ impl Keeps {
     /// # Errors
     ///
     /// Only for want of memory.
-    pub fn add(&mut self, name: Name, kept: Kept) -> Result<(), AllocError>
-        ensures { OnOk result (self.new.kept.entries ≡ insert_entry (pointwise ◌==◌) self.old.kept.entries name kept) }
+    pub fn add(&mut self, name: &Name, kept: Kept) -> Result<(), AllocError>
+        ensures { OnOk result (self.new.kept.entries ≡ insert_entry (pointwise ◌==◌) self.old.kept.entries name.now kept) }
     {
-        self.kept.insert(name, kept)?;
+        self.kept.insert(name.copied()?, kept)?;
         Ok(())
+    }
+}
+
+impl Calls {
+    /// Nothing is kept.
+    pub fn new(alloc: Global, process: Name) -> Calls
+        ensures process { result.process ≡ process }
+        ensures macros { result.macros.kept.entries ≡ [] }
+        ensures procedures { result.procedures.kept.entries ≡ [] }
+    {
+        Calls {
+            alloc,
+            process,
+            macros: Keeps {
+                kept: IndexMap::new(alloc),
+            },
+            procedures: Keeps {
+                kept: IndexMap::new(alloc),
+            },
+        }
     }
 }

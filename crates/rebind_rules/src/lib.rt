@@ -4,7 +4,6 @@
 pub mod binding;
 pub mod bodies;
 pub mod exprs;
-pub mod found;
 pub mod kept;
 pub mod macros;
 pub mod names;

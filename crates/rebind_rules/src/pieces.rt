@@ -69,12 +69,11 @@ impl Pieces {
         ensures { OnOk result (Gathers self.old self.new (form_pieces (form_of form.now))) }
     {
         match form {
-            Form::Binding(_, groups) => self.groups(groups)?,
-            Form::Local(names) => self.names(names)?,
-            Form::Name(name) => self.free(name)?,
-            _ => {}
+            Form::Binding(_, groups) => self.groups(groups),
+            Form::Local(names) => self.names(names),
+            Form::Name(name) => self.free(name),
+            _ => Ok(()),
         }
-        Ok(())
     }
 
     // A tree. It calls itself as deep as forms are in forms.

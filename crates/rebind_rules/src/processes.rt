@@ -1,51 +1,50 @@
 //! Processes, and what runs.
 
-ghost use Rattle.std.specs.Prelude.{◌≡◌, ◌<◌, ◌≤◌, ◌∷◌, List, length, map, OnOk};
+ghost use Rattle.std.specs.Prelude.{◌≤◌, Bool, false, List, length, map, OnOk};
 ghost use Rattle.std.specs.List.{flat_map};
 ghost use Rattle.tla_tree.specs.Tree.{Word};
 ghost use Rattle.tla_tree.specs.Nesting.{greatest};
 ghost use Rattle.tla_tree.specs.Pool.{at};
 ghost use Rattle.pcal_tree.specs.Algorithm.{Procedure as PureProcedure};
 ghost use Rattle.pcal_tree.specs.InMemory.{statements_at, process_at, main_at, past_process, past_main};
-ghost use Rattle.pcal_tree.specs.OffencesRebind.{any_name, stands_for, bound_by, body_rebinds, Calls as PureCalls, process_rebinds, main_rebinds};
-ghost use Rattle.rebind_rules.specs.Telling.{told, Adds};
+ghost use Rattle.pcal_tree.specs.OffencesRebind.{any_name, body_rebinds, Calls as PureCalls, process_rebinds, main_rebinds};
+ghost use Rattle.rebind_rules.specs.Telling.{IsNew, Adds};
 ghost use Rattle.rebind_rules.specs.Keeping.{KnowsCalls};
 ghost use Rattle.rebind_rules.specs.Processes.{body_scope, Singles};
 
-use crate::found::body_found;
-use crate::kept::{Calls, Kept};
+use crate::kept::Calls;
 use crate::pieces::each_brings;
 use crate::sight::Sight;
 use crate::walk::Walk;
 use pcal_tree::algorithm::{Main, Process};
-use std::alloc::{AllocError, Global};
+use std::alloc::AllocError;
 use tla_pool::Pool;
 use tla_token::Place;
-use tla_tree::{NodeId, PlacedName};
+use tla_tree::PlacedName;
 
 impl Walk {
-    // The body of a single process, in which `self` is its identifier.
+    // The body of a single process, in which `self` is its identifier, where nothing was found in it yet.
     fn single(
         &mut self,
         near: &Sight,
-        alloc: Global,
+        own: &Sight,
+        calls: &Calls,
         pool: &Pool,
-        identity: NodeId,
-        found: Walk,
+        process: &Process,
+        found: &mut Walk,
     ) -> Result<(), AllocError>
-        requires { identity < length pool.now }
-        ensures { OnOk result (Adds near.now any_name self.old self.new (λ ms r. told ms found (stands_for near.now.process (bound_by (at pool.now identity) r) ∷ r))) }
+        requires { past_process process.now ≤ length pool.now }
+        ensures { OnOk result ((C : List Word → PureCalls) (ps : List PureProcedure) → IsNew found.old → Singles near.now own.now → KnowsCalls own.now calls.now C ps → Adds near.now any_name self.old self.new (λ ms r. body_rebinds ms ps (C ms) (statements_at pool.now process.now.body.items) (body_scope false (at pool.now process.now.identity) r))) }
     {
-        let identities = [identity];
-        let args = each_brings(alloc, pool, &identities)?;
-        let mut params = Vec::new(alloc);
-        params.push(PlacedName {
-            name: near.process.copied()?,
-            place: Place { line: 1, col: 1 },
-        })?;
-        let kept = Kept { params, found };
-        self.put(near, &kept, &args)?;
-        Ok(())
+        found.body(own, calls, pool, &process.body)?;
+        let identities = [process.identity];
+        let args = each_brings(calls.alloc, pool, &identities)?;
+        let place = Place { line: 1, col: 1 };
+        let params = [PlacedName {
+            name: calls.process.copied()?,
+            place,
+        }];
+        self.put(near, &params, found, &args)
     }
 
     // The body of a process.
@@ -61,32 +60,10 @@ impl Walk {
         ensures { OnOk result ((C : List Word → PureCalls) (ps : List PureProcedure) → Singles near.now own.now → KnowsCalls near.now calls.now C ps → KnowsCalls own.now calls.now C ps → Adds near.now any_name self.old self.new (λ ms r. body_rebinds ms ps (C ms) (statements_at pool.now process.now.body.items) (body_scope process.now.several (at pool.now process.now.identity) r))) }
     {
         if process.several {
-            self.body(near, calls, pool, &process.body)?;
-        } else {
-            let found = body_found(own, calls, pool, &process.body)?;
-            self.single(near, calls.alloc, pool, process.identity, found)?;
+            return self.body(near, calls, pool, &process.body);
         }
-        Ok(())
-    }
-
-    // A process.
-    fn process(
-        &mut self,
-        near: &Sight,
-        own: &Sight,
-        calls: &Calls,
-        pool: &Pool,
-        process: &Process,
-    ) -> Result<(), AllocError>
-        requires { past_process process.now ≤ length pool.now }
-        ensures { OnOk result ((C : List Word → PureCalls) (ps : List PureProcedure) → Singles near.now own.now → KnowsCalls near.now calls.now C ps → KnowsCalls own.now calls.now C ps → Adds near.now any_name self.old self.new (λ ms r. process_rebinds ms ps (C ms) r (process_at pool.now process.now))) }
-    {
-        self.expr(near, pool, process.identity)?;
-        let around = self.bound.len();
-        self.locals(near, pool, &[], &process.variables)?;
-        self.process_body(near, own, calls, pool, process)?;
-        self.bound.truncate(around);
-        Ok(())
+        let mut found = Walk::new(calls.alloc);
+        self.single(near, own, calls, pool, process, &mut found)
     }
 
     // Processes.
@@ -102,7 +79,12 @@ impl Walk {
         ensures { OnOk result ((C : List Word → PureCalls) (ps : List PureProcedure) → Singles near.now own.now → KnowsCalls near.now calls.now C ps → KnowsCalls own.now calls.now C ps → Adds near.now any_name self.old self.new (λ ms r. flat_map (process_rebinds ms ps (C ms) r) (map (process_at pool.now) list.now))) }
     {
         for i in 0..list.len() {
-            self.process(near, own, calls, pool, &list[i])?;
+            let process = &list[i];
+            self.expr(near, pool, process.identity)?;
+            let around = self.bound.len();
+            self.locals(near, pool, &[], &process.variables)?;
+            self.process_body(near, own, calls, pool, process)?;
+            self.bound.truncate(around);
         }
         Ok(())
     }
@@ -124,9 +106,8 @@ impl Walk {
         ensures { OnOk result ((C : List Word → PureCalls) (ps : List PureProcedure) → Singles near.now own.now → KnowsCalls near.now calls.now C ps → KnowsCalls own.now calls.now C ps → Adds near.now any_name self.old self.new (λ ms r. main_rebinds ms ps (C ms) r (main_at pool.now main.now))) }
     {
         match main {
-            Main::Alone(body) => self.body(near, calls, pool, body)?,
-            Main::Processes(list) => self.processes(near, own, calls, pool, list)?,
+            Main::Alone(body) => self.body(near, calls, pool, body),
+            Main::Processes(list) => self.processes(near, own, calls, pool, list),
         }
-        Ok(())
     }
 }

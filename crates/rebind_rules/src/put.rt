@@ -5,18 +5,17 @@ ghost use Rattle.std.specs.List.{flat_map};
 ghost use Rattle.tla_tree.specs.Tree.{Word, Trees};
 ghost use Rattle.pcal_tree.specs.OffencesRebind.{Standings, naming, brought, rebound_all, any_name, piece_names, Calls as PureCalls, putting_in};
 ghost use Rattle.pcal_tree.specs.laws.MacroBindings.{offences_where};
-ghost use Rattle.rebind_rules.specs.Telling.{binding_of, held_where, told, Adds};
+ghost use Rattle.rebind_rules.specs.Telling.{binding_of, told, Adds};
 ghost use Rattle.rebind_rules.specs.Gathering.{list_of, lists_of, each_pieces};
 ghost use Rattle.rebind_rules.specs.Keeping.{argument_of, Knows};
 
 use crate::binding::Binding;
-use crate::kept::{Keeps, Kept};
+use crate::kept::Keeps;
 use crate::pieces::Piece;
 use crate::sight::Sight;
 use crate::walk::Walk;
 use algorithm_limits::order::least;
 use std::alloc::AllocError;
-use tla_token::Place;
 use tla_tree::{Name, PlacedName};
 
 // What the argument brings that is put in for a name.
@@ -42,10 +41,9 @@ impl Walk {
         ensures { OnOk result (Adds sight.now any_name self.old self.new (λ ms r. rebound_all ms r (flat_map (piece_names r) (list_of (piece.now ∷ []))))) }
     {
         match piece {
-            Piece::Binds(name) => self.name(sight, name)?,
-            Piece::Frees(name) => self.standing(sight, name)?,
+            Piece::Binds(name) => self.name(sight, name),
+            Piece::Frees(name) => self.standing(sight, name),
         }
-        Ok(())
     }
 
     // All that it brings.
@@ -98,55 +96,37 @@ impl Walk {
         ensures { OnOk result ((ts : Trees) → lists_of args.now ≡ each_pieces ts → Adds sight.now any_name self.old self.new (λ ms r. offences_where ms (putting_in params.now ts r r) (binding_of binding.now))) }
     {
         match binding {
-            Binding::Bound(name, line, col) => {
-                let place = Place {
-                    line: *line,
-                    col: *col,
-                };
-                let placed = PlacedName {
-                    name: name.copied()?,
-                    place,
-                };
-                self.name(sight, &placed)?;
-            }
+            Binding::Bound(name) => self.name(sight, name),
             Binding::Standing(name) => match argument(params, args, name) {
-                Some(list) => self.pieces(sight, list)?,
-                None => self.standing(sight, name)?,
+                Some(list) => self.pieces(sight, list),
+                None => self.standing(sight, name),
             },
             Binding::Beneath(name, under) => match argument(params, args, name) {
-                Some(list) => self.pieces_under(sight, list, under)?,
-                None => self.beneath(sight, name, under)?,
+                Some(list) => self.pieces_under(sight, list, under),
+                None => self.beneath(sight, name, under),
             },
         }
-        Ok(())
     }
 
-    // All of these.
-    fn put_all(
-        &mut self,
-        sight: &Sight,
-        params: &[PlacedName],
-        args: &[Vec<Piece>],
-        list: &[Binding],
-    ) -> Result<(), AllocError>
-        ensures { OnOk result ((ts : Trees) → lists_of args.now ≡ each_pieces ts → Adds sight.now any_name self.old self.new (λ ms r. held_where ms (putting_in params.now ts r r) list.now)) }
-    {
-        for binding in list {
-            self.put_one(sight, params, args, binding)?;
-        }
-        Ok(())
-    }
-
-    /// All that is kept of a text, where arguments that bring these are put in.
+    /// What was found in a text, where arguments that bring these are put in.
     ///
     /// # Errors
     ///
     /// Only for want of memory.
-    pub fn put(&mut self, sight: &Sight, kept: &Kept, args: &[Vec<Piece>]) -> Result<(), AllocError>
-        ensures { OnOk result ((ts : Trees) → lists_of args.now ≡ each_pieces ts → Adds sight.now any_name self.old self.new (λ ms r. told ms kept.now.found (putting_in kept.now.params.items ts r r))) }
+    pub fn put(
+        &mut self,
+        sight: &Sight,
+        params: &[PlacedName],
+        found: &Walk,
+        args: &[Vec<Piece>],
+    ) -> Result<(), AllocError>
+        ensures { OnOk result ((ts : Trees) → lists_of args.now ≡ each_pieces ts → Adds sight.now any_name self.old self.new (λ ms r. told ms found.now (putting_in params.now ts r r))) }
     {
-        self.first = least(self.first, kept.found.first);
-        self.put_all(sight, &kept.params, args, kept.found.free.as_slice())?;
+        self.first = least(self.first, found.first);
+        let list = found.free.as_slice();
+        for binding in list {
+            self.put_one(sight, params, args, binding)?;
+        }
         Ok(())
     }
 
@@ -165,9 +145,8 @@ impl Walk {
         ensures { OnOk result ((C : List Word → PureCalls) (ts : Trees) → Knows sight.now keeps.now C → lists_of args.now ≡ each_pieces ts → Adds sight.now any_name self.old self.new (λ ms r. C ms r name.now ts)) }
     {
         match keeps.get(name) {
-            Some(kept) => self.put(sight, kept, args)?,
-            None => {}
+            Some(kept) => self.put(sight, &kept.params, &kept.found, args),
+            None => Ok(()),
         }
-        Ok(())
     }
 }

@@ -1,23 +1,18 @@
 //! Names that are bound or declared where they are in scope already, in an algorithm.
 
-ghost use Rattle.std.specs.Prelude.{◌≡◌, ◌≤◌, ◌∷◌, ◌++◌, [], List, None, length, map, codes, IfOk, OnOk};
-ghost use Rattle.tla_token.specs.Signs.{is_among};
-ghost use Rattle.tla_tree.specs.Tree.{Word, Tree, words};
+ghost use Rattle.std.specs.Prelude.{◌≡◌, ◌≤◌, ◌∷◌, [], length, codes, IfOk, OnOk};
+ghost use Rattle.tla_tree.specs.Tree.{words};
 ghost use Rattle.algorithm_limits.specs.DepthsIn.{Hides};
 ghost use Rattle.outside_sight.specs.ModulesIn.{AreModules};
-ghost use Rattle.pcal_tree.specs.InMemory.{procedure_at, algorithm_at, past_algorithm};
+ghost use Rattle.pcal_tree.specs.InMemory.{algorithm_at, past_algorithm};
 ghost use Rattle.pcal_tree.specs.Offences.{first};
-ghost use Rattle.pcal_tree.specs.Outside.{unit_names};
-ghost use Rattle.pcal_tree.specs.Variables.{declared};
-ghost use Rattle.pcal_tree.specs.OffencesRebind.{any_name, self_alone, call_rebinds, rebind_offences_of};
+ghost use Rattle.pcal_tree.specs.OffencesRebind.{any_name, rebind_offences_of};
 ghost use Rattle.module_outside.specs.WholeAt.{outside_at};
-ghost use Rattle.rebind_rules.specs.Telling.{Adds};
-ghost use Rattle.rebind_rules.specs.Keeping.{Means};
+ghost use Rattle.rebind_rules.specs.Telling.{Adds, IsNew};
 ghost use Rattle.rebind_rules.specs.Macros.{macro_names};
-ghost use Rattle.rebind_rules.specs.Whole.{AreSights, Begins, insides};
+ghost use Rattle.rebind_rules.specs.Whole.{AreNone, AreAlone, AreSights, Begins, insides};
 
-use crate::kept::{Calls, Keeps};
-use crate::macros::procedures_kept;
+use crate::kept::Calls;
 use crate::outside::bind_units;
 use crate::sight::Sight;
 use crate::walk::Walk;
@@ -39,6 +34,14 @@ pub struct Sights {
     pub far: Sight,
 }
 
+/// Where names are looked at, what is kept, and what was found.
+#[derive(Drop)]
+pub struct Whole {
+    pub sights: Sights,
+    pub calls: Calls,
+    pub walk: Walk,
+}
+
 // The standard modules among these.
 fn modules_among(alloc: Global, extended: &[PlacedName]) -> Result<Modules, AllocError>
     ensures { IfOk result (λ m. AreModules m (words extended.now)) }
@@ -55,49 +58,47 @@ fn process_name(alloc: Global) -> Result<Name, AllocError>
 }
 
 // The names for which text may be put in, in macros.
-fn far_names(alloc: Global, process: &Name, macros: &[Macro]) -> Result<Bound, AllocError>
-    ensures { IfOk result (λ b. Hides [] b (process.now ∷ macro_names macros.now)) }
+fn add_params(names: &mut Bound, process: &Name, macros: &[Macro]) -> Result<(), AllocError>
+    ensures { OnOk result (Hides names.old names.new (process.now ∷ macro_names macros.now)) }
 {
-    let mut names = Bound::new(alloc);
     names.add(process)?;
     for i in 0..macros.len() {
         let one = &macros[i];
         names.add_all(&one.params)?;
     }
-    Ok(names)
+    Ok(())
 }
 
-// The name of a process's identifier alone.
-fn own_names(alloc: Global, process: &Name) -> Result<Bound, AllocError>
-    ensures { IfOk result (λ b. Hides [] b (process.now ∷ [])) }
+// Where none may be.
+fn alone(alloc: Global, modules: Modules) -> Sight
+    ensures modules { result.modules ≡ modules }
+    ensures stands { result.stands ≡ [] }
 {
-    let mut names = Bound::new(alloc);
-    names.add(process)?;
-    Ok(names)
-}
-
-// One of them.
-fn one_sight(modules: Modules, process: &Name, stands: Bound) -> Result<Sight, AllocError>
-    ensures modules { IfOk result (λ g. g.modules ≡ modules) }
-    ensures process { IfOk result (λ g. g.process ≡ process.now) }
-    ensures stands { IfOk result (λ g. g.stands ≡ stands) }
-{
-    Ok(Sight {
+    Sight {
         modules,
-        process: process.copied()?,
-        stands,
-    })
+        stands: Bound::new(alloc),
+    }
 }
 
-// Where names are looked at.
-fn sights_among(alloc: Global, modules: Modules, macros: &[Macro]) -> Result<Sights, AllocError>
-    ensures { IfOk result (λ s. AreSights modules macros.now s) }
-{
-    let process = process_name(alloc)?;
-    let near = one_sight(modules, &process, Bound::new(alloc))?;
-    let own = one_sight(modules, &process, own_names(alloc, &process)?)?;
-    let far = one_sight(modules, &process, far_names(alloc, &process, macros)?)?;
-    Ok(Sights { near, own, far })
+impl Sights {
+    // No text is put in anywhere.
+    fn new(alloc: Global, modules: Modules) -> Sights
+        ensures { AreAlone modules result }
+    {
+        Sights {
+            near: alone(alloc, modules),
+            own: alone(alloc, modules),
+            far: alone(alloc, modules),
+        }
+    }
+
+    // Text may be put in for the name of a process's identifier and for parameters.
+    fn stand(&mut self, process: &Name, macros: &[Macro]) -> Result<(), AllocError>
+        ensures { OnOk result ((m : Modules) → AreAlone m self.old → process.now ≡ codes "self" → AreSights m macros.now self.new) }
+    {
+        self.own.stands.add(process)?;
+        add_params(&mut self.far.stands, process, macros)
+    }
 }
 
 impl Walk {
@@ -115,58 +116,49 @@ impl Walk {
         self.starts(&sights.near, pool, &algorithm.globals)?;
         self.macros(&sights.near, &sights.far, calls, pool, &algorithm.macros)?;
         self.procedures(&sights.near, calls, pool, &algorithm.procedures)?;
-        self.main(&sights.near, &sights.own, calls, pool, &algorithm.main)?;
-        Ok(())
+        self.main(&sights.near, &sights.own, calls, pool, &algorithm.main)
     }
 }
 
-// What is kept at first: of procedures.
-fn calls_at_first(
-    alloc: Global,
-    own: &Sight,
-    pool: &Pool,
-    algorithm: &Algorithm,
-) -> Result<Calls, AllocError>
-    requires { past_algorithm algorithm.now ≤ length pool.now }
-    ensures macros { IfOk result (λ k. k.macros.kept.entries ≡ []) }
-    ensures procedures { IfOk result (λ k. (P : List Word) → own.now.process ≡ codes "self" → ((x : Word) → is_among own.now.stands x ≡ self_alone x) → Means own.now P k.procedures (λ ms s x ts. call_rebinds ms (map (procedure_at pool.now) algorithm.now.procedures.items) x s)) }
-{
-    let procedures = procedures_kept(alloc, own, pool, &algorithm.procedures)?;
-    Ok(Calls {
-        alloc,
-        macros: Keeps::new(alloc),
-        procedures,
-    })
-}
+impl Whole {
+    // Nothing was found, and nothing is kept.
+    fn new(alloc: Global, modules: Modules, process: Name) -> Whole
+        ensures sights { AreAlone modules result.sights }
+        ensures process { result.calls.process ≡ process }
+        ensures macros { result.calls.macros.kept.entries ≡ [] }
+        ensures procedures { result.calls.procedures.kept.entries ≡ [] }
+        ensures walk { IsNew result.walk }
+    {
+        Whole {
+            sights: Sights::new(alloc, modules),
+            calls: Calls::new(alloc, process),
+            walk: Walk::new(alloc),
+        }
+    }
 
-// Nothing was found; globals and the names of units outside are bound.
-fn walk_outside(alloc: Global, algorithm: &Algorithm, outside: &Outside) -> Result<Walk, AllocError>
-    ensures first { IfOk result (λ w. w.first ≡ None) }
-    ensures free { IfOk result (λ w. w.free.keys ≡ []) }
-    ensures bound { IfOk result (λ w. (ts : List Tree) → Hides [] w.bound (declared (algorithm_at ts algorithm.now).globals ++ unit_names (outside_at ts outside.now))) }
-{
-    let mut walk = Walk::new(alloc);
-    walk.bound.add_declared(&algorithm.globals)?;
-    bind_units(&mut walk.bound, outside)?;
-    Ok(walk)
-}
-
-// The first offence that is found, looked at so.
-fn first_found(
-    alloc: Global,
-    places: &Sights,
-    pool: &Pool,
-    algorithm: &Algorithm,
-    outside: &Outside,
-) -> Result<Option<Refusal>, AllocError>
-    requires { past_algorithm algorithm.now ≤ length pool.now }
-    ensures { IfOk result (λ r. (m : Modules) → AreModules m (words outside.now.extended.items) → AreSights m algorithm.now.macros.items places.now → r ≡ first (rebind_offences_of (algorithm_at pool.now algorithm.now) (outside_at pool.now outside.now))) }
-{
-    let mut calls = calls_at_first(alloc, &places.own, pool, algorithm)?;
-    let mut walk = walk_outside(alloc, algorithm, outside)?;
-    walk.definitions(&places.near, pool, &algorithm.definitions)?;
-    walk.inside(places, &mut calls, pool, algorithm)?;
-    Ok(walk.first)
+    // The first offence, where nothing was found and nothing is kept yet.
+    fn first_offence(
+        &mut self,
+        pool: &Pool,
+        algorithm: &Algorithm,
+        outside: &Outside,
+    ) -> Result<Option<Refusal>, AllocError>
+        requires { past_algorithm algorithm.now ≤ length pool.now }
+        ensures { IfOk result (λ f. (m : Modules) → AreModules m (words outside.now.extended.items) → AreAlone m self.old.sights → AreNone self.old.calls → IsNew self.old.walk → f ≡ first (rebind_offences_of (algorithm_at pool.now algorithm.now) (outside_at pool.now outside.now))) }
+    {
+        let alloc = self.calls.alloc;
+        self.sights.stand(&self.calls.process, &algorithm.macros)?;
+        self.calls
+            .procedures
+            .procedures(alloc, &self.sights.own, pool, &algorithm.procedures)?;
+        self.walk.bound.add_declared(&algorithm.globals)?;
+        bind_units(&mut self.walk.bound, outside)?;
+        self.walk
+            .definitions(&self.sights.near, pool, &algorithm.definitions)?;
+        self.walk
+            .inside(&self.sights, &mut self.calls, pool, algorithm)?;
+        Ok(self.walk.first)
+    }
 }
 
 /// The first name of an algorithm that is bound or declared where it is in scope already, also where macro calls, identifiers of
@@ -185,6 +177,7 @@ pub fn rebind_refusal(
     ensures { IfOk result (λ r. r ≡ first (rebind_offences_of (algorithm_at pool.now algorithm.now) (outside_at pool.now outside.now))) }
 {
     let modules = modules_among(alloc, &outside.extended)?;
-    let places = sights_among(alloc, modules, &algorithm.macros)?;
-    first_found(alloc, &places, pool, algorithm, outside)
+    let process = process_name(alloc)?;
+    let mut whole = Whole::new(alloc, modules, process);
+    whole.first_offence(pool, algorithm, outside)
 }

@@ -36,11 +36,10 @@ fn is_own(word: &[u8]) -> bool
     is_among(&OWN, word)
 }
 
-/// The standard modules that are extended, the name of a process's identifier, and the names for which other text may be put in.
+/// The standard modules that are extended, and the names for which other text may be put in.
 #[derive(Drop)]
 pub struct Sight {
     pub modules: Modules,
-    pub process: Name,
     pub stands: Bound,
 }
 

@@ -20,20 +20,13 @@ use std::alloc::AllocError;
 use tla_pool::Pool;
 
 impl Walk {
-    // The name of a declaration.
-    fn declares(&mut self, sight: &Sight, declaration: &Declaration) -> Result<(), AllocError>
-        ensures { OnOk result (Adds sight.now any_name self.old self.new (λ ms r. rebound ms r declaration.now.name)) }
-    {
-        self.name(sight, &declaration.name)?;
-        Ok(())
-    }
-
     // The names of declarations.
     fn declared(&mut self, sight: &Sight, list: &[Declaration]) -> Result<(), AllocError>
         ensures { OnOk result (Adds sight.now any_name self.old self.new (λ ms r. rebound_all ms r (declared_names list.now))) }
     {
         for i in 0..list.len() {
-            self.declares(sight, &list[i])?;
+            let one = &list[i];
+            self.name(sight, &one.name)?;
         }
         Ok(())
     }
@@ -59,27 +52,7 @@ impl Walk {
         self.bound.add_declared(params)?;
         self.bound.add_declared(variables)?;
         self.starts(sight, pool, params)?;
-        self.starts(sight, pool, variables)?;
-        Ok(())
-    }
-
-    // A definition.
-    fn definition(
-        &mut self,
-        sight: &Sight,
-        pool: &Pool,
-        definition: &Definition,
-    ) -> Result<(), AllocError>
-        requires { definition.now.body < length pool.now }
-        ensures { OnOk result (AddsNaming sight.now any_name self.old self.new (definition.now.name.word ∷ []) (λ ms r. rebound_all ms r definition.now.params.items ++ whole_rebinds ms (at pool.now definition.now.body) (naming (words definition.now.params.items) r))) }
-    {
-        self.names(sight, &definition.params)?;
-        let around = self.bound.len();
-        self.bound.add_all(&definition.params)?;
-        self.expr(sight, pool, definition.body)?;
-        self.bound.truncate(around);
-        self.bound.add(&definition.name.name)?;
-        Ok(())
+        self.starts(sight, pool, variables)
     }
 
     /// Definitions, each seen by those after it.
@@ -97,26 +70,14 @@ impl Walk {
         ensures { OnOk result (AddsNaming sight.now any_name self.old self.new (map (λ d. d.name.word) (definitions_at pool.now list.now)) (λ ms r. definitions_rebind ms (definitions_at pool.now list.now) r)) }
     {
         for i in 0..list.len() {
-            self.definition(sight, pool, &list[i])?;
+            let definition = &list[i];
+            self.names(sight, &definition.params)?;
+            let around = self.bound.len();
+            self.bound.add_all(&definition.params)?;
+            self.expr(sight, pool, definition.body)?;
+            self.bound.truncate(around);
+            self.bound.add(&definition.name.name)?;
         }
-        Ok(())
-    }
-
-    // A procedure.
-    fn procedure(
-        &mut self,
-        sight: &Sight,
-        calls: &Calls,
-        pool: &Pool,
-        procedure: &Procedure,
-    ) -> Result<(), AllocError>
-        requires { past_procedure procedure.now ≤ length pool.now }
-        ensures { OnOk result ((C : List Word → PureCalls) (ps : List PureProcedure) → KnowsCalls sight.now calls.now C ps → Adds sight.now any_name self.old self.new (λ ms r. procedure_rebinds ms ps (C ms) r (procedure_at pool.now procedure.now))) }
-    {
-        let around = self.bound.len();
-        self.locals(sight, pool, &procedure.params, &procedure.variables)?;
-        self.body(sight, calls, pool, &procedure.body)?;
-        self.bound.truncate(around);
         Ok(())
     }
 
@@ -136,7 +97,11 @@ impl Walk {
         ensures { OnOk result ((C : List Word → PureCalls) (ps : List PureProcedure) → KnowsCalls sight.now calls.now C ps → Adds sight.now any_name self.old self.new (λ ms r. flat_map (procedure_rebinds ms ps (C ms) r) (map (procedure_at pool.now) list.now))) }
     {
         for i in 0..list.len() {
-            self.procedure(sight, calls, pool, &list[i])?;
+            let procedure = &list[i];
+            let around = self.bound.len();
+            self.locals(sight, pool, &procedure.params, &procedure.variables)?;
+            self.body(sight, calls, pool, &procedure.body)?;
+            self.bound.truncate(around);
         }
         Ok(())
     }

@@ -1,13 +1,13 @@
 //! What was found in a text that was gone through: the first offence, and what may offend where the text is put in.
 
-ghost use Rattle.std.specs.Prelude.{◌≡◌, ◌<◌, ◌≤◌, ◌∷◌, ◌++◌, [], List, Bool, None, map, cond, length, codes, OnOk};
+ghost use Rattle.std.specs.Prelude.{◌≡◌, ◌<◌, ◌≤◌, ◌∷◌, ◌++◌, [], List, Bool, map, cond, length, codes, OnOk};
 ghost use Rattle.std.specs.List.{flat_map};
 ghost use Rattle.tla_token.specs.declared.rule.Rule.TheVariants as rule;
 ghost use Rattle.tla_tree.specs.Tree.{Word};
 ghost use Rattle.pcal_tree.specs.Offences.{offence_if};
 ghost use Rattle.pcal_tree.specs.OffencesRebind.{naming, brought, rebound, rebound_all};
 ghost use Rattle.pcal_tree.specs.laws.MacroBindings.{beneath, offences_where};
-ghost use Rattle.rebind_rules.specs.Telling.{binding_of, Gains, Adds};
+ghost use Rattle.rebind_rules.specs.Telling.{binding_of, IsNew, Gains, Adds};
 
 use crate::binding::Binding;
 use crate::names::Names;
@@ -30,9 +30,7 @@ pub struct Walk {
 impl Walk {
     /// Nothing was found, and no name is bound.
     pub fn new(alloc: Global) -> Walk
-        ensures bound { result.bound ≡ [] }
-        ensures first { result.first ≡ None }
-        ensures free { result.free.keys ≡ [] }
+        ensures { IsNew result }
     {
         Walk {
             bound: Names::new(alloc),
@@ -66,8 +64,7 @@ impl Walk {
     {
         let bound = self.bound.has(&name.name);
         self.offence(sight.rebinds(bound, &name.name), name.place);
-        self.keep(Binding::Bound(name.name.copied()?, name.place.line, name.place.col))?;
-        Ok(())
+        self.keep(Binding::Bound(name.copied()?))
     }
 
     // A name under each of those that are bound.

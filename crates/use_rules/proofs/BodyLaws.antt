@@ -1,5 +1,5 @@
 -- What is found in statements, one after another.
-use Rattle.std.proofs.Common.{◌≡◌, ℕ, ◌+◌, ◌<◌, ◌≤◌, List, [], ◌∷◌, ◌++◌, length, take, drop, get_or, Option, Vec, Global, refl, sym, ap, ◌∙◌, subst, append-nil, append_assoc}
+use Rattle.std.proofs.Common.{◌≡◌, ℕ, ◌+◌, ◌<◌, ◌≤◌, List, [], ◌∷◌, ◌++◌, length, take, drop, get_or, Option, Vec, Global, refl, sym, ap, ◌∙◌, subst, append-nil, append_assoc, arith}
 use Rattle.std.proofs.lemmas.List.{drop_more, drop_all}
 use Rattle.std.proofs.Math.Seq.{take-append_seam}
 use Rattle.tla_token.specs.declared.rule.Refusal.{Refusal}
@@ -14,7 +14,7 @@ use Rattle.pcal_tree.specs.declared.algorithm.Simple as declared_simple
 use Rattle.pcal_tree.specs.declared.algorithm.Stmt.{Stmt}
 use Rattle.pcal_tree.specs.declared.algorithm.Stmt.TheVariants.{Label, Simple, If, Either, With, While}
 use Rattle.pcal_tree.specs.Algorithm.{Name, Binds, no_binds, one_of, is, branch, either, with, while, Statements, then, mark, Procedure}
-use Rattle.pcal_tree.specs.InMemory.{span_of, simple_at, assignments_at, bind_at, binds_at, Before, stmt_at, statements_at, branches_at}
+use Rattle.pcal_tree.specs.InMemory.{span_of, simple_at, assignments_at, bind_at, binds_at, past_bind, Before, stmt_at, statements_at, branches_at}
 use Rattle.pcal_tree.specs.Offences.{first}
 use Rattle.pcal_tree.specs.NameUses.{Sight, seeing_plain}
 use Rattle.pcal_tree.specs.OffencesNames.{Calls, in_whole, in_left, in_assignments, in_binds, after_binds, in_one, in_body, in_branches}
@@ -25,7 +25,7 @@ use Rattle.algorithm_limits.specs.DepthsIn.{Hides}
 use Rattle.use_rules.specs.declared.found.Found.{Found}
 use Rattle.use_rules.specs.Telling.{told_by, Inside}
 use Rattle.use_rules.specs.Finding.{told, Tells}
-use Rattle.use_rules.specs.Walking.{Behind, TellsBinds, TellsStmt}
+use Rattle.use_rules.specs.Walking.{bind_name, bind_number, Behind, TellsBinds, TellsStmt}
 use Rattle.use_rules.proofs.TellLaws.{tells_none, tells_as, tells_then, inside_more}
 
 -- ---- assignments: what is left still gives the whole
@@ -57,6 +57,14 @@ module _ (j k l : Found) (t : Tree) (x : Name) (a : Tells j k (in_whole t)) (p :
 
   pub is_named : TellsBinds (is x t no_binds) j l
   is_named = record { behind = named_behind; inside = named_inside; tells = named_tells }
+
+pub past_number : (b : Bind) → bind_number b < past_bind b
+past_number (bind.Among x e) = omega arith
+past_number (bind.Is x e) = omega arith
+
+pub bind_named : (ts : List Tree) (b : Bind) (j k l : Found) → Tells j k (in_whole (at ts (bind_number b))) → l.first ≡ k.first → l.free.keys ≡ k.free.keys → Hides k.bound l.bound ((bind_name b).word ∷ []) → TellsBinds (bind_at ts b no_binds) j l
+bind_named ts (bind.Among x e) j k l a p q h = one_named j k l (at ts e) x a p q h
+bind_named ts (bind.Is x e) j k l a p q h = is_named j k l (at ts e) x a p q h
 
 behind_then : (a b c : List Word) → Behind a b → Behind b c → Behind a c
 behind_then a b c p q = record { more = p.more ++ q.more; kept = q.kept ∙ ap (λ (hs : List Word). hs ++ q.more) p.kept ∙ append_assoc a p.more q.more }

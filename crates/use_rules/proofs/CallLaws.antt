@@ -189,12 +189,12 @@ pub first_kept : (o : Option Refusal) → o ≡ first (kept_list o)
 first_kept None = refl
 first_kept (Some r) = refl
 
-pub kept_called : (ts : List Tree) (ids : List ℕ) (u : MacroUses) (p : Place) (i j k l : Found) → Tells i j (λ r. wrong_number (length u.params.items) (length ids) p) → Tells j k (λ r. kept_list u.first)
-    → Tells k l (all_called ts ids u.params.items u.free.keys) → Tells i l (called_offences u p (trees_at ts ids))
+pub kept_called : (ts : List Tree) (ids : List ℕ) (u : MacroUses) (p : Place) (i j k l : Found) → Tells i j (λ r. wrong_number (length u.params.items) (length ids) p) → Tells j k (λ r. kept_list u.found.first)
+    → Tells k l (all_called ts ids u.params.items u.found.free.keys) → Tells i l (called_offences u p (trees_at ts ids))
 kept_called ts ids u p i j k l a b c =
-    tells_as i l _ _ (λ r. ap (λ (n : ℕ). wrong_number (length u.params.items) n p ++ (kept_list u.first ++ all_called ts ids u.params.items u.free.keys r)) (sym (counted ts ids)))
-    (tells_then i j l (λ r. wrong_number (length u.params.items) (length ids) p) (λ r. kept_list u.first ++ all_called ts ids u.params.items u.free.keys r) a
-    (tells_then j k l (λ r. kept_list u.first) (all_called ts ids u.params.items u.free.keys) b c))
+    tells_as i l _ _ (λ r. ap (λ (n : ℕ). wrong_number (length u.params.items) n p ++ (kept_list u.found.first ++ all_called ts ids u.params.items u.found.free.keys r)) (sym (counted ts ids)))
+    (tells_then i j l (λ r. wrong_number (length u.params.items) (length ids) p) (λ r. kept_list u.found.first ++ all_called ts ids u.params.items u.found.free.keys r) a
+    (tells_then j k l (λ r. kept_list u.found.first) (all_called ts ids u.params.items u.found.free.keys) b c))
 
 pub macro_called : (k : Callees) (C : Calls) (ps : List Procedure) (i j : Found) (o : Option MacroUses) (p : Place) (m : Word) (ts : Trees) → Means k C ps → o ≡ lookup (pointwise ◌==◌ m) k.macros.entries
     → Tells i j (kept_offences o p ts) → Tells i j (λ r. C r p m ts)

@@ -80,8 +80,8 @@ module _ (k l : Callees) (ts : List Tree) (older : List Macro) (ps : List Proced
       ap (λ (ns : List Name). first (wrong_number (length ns) (count us) p ++ in_body (macro_offences older ps) ps (statements_at ts d.body.items) (seeing_parameters ns us s s))) (sym h.params)
       ∙ first_append (wrong_number (length u.params.items) (count us) p) (in_body (macro_offences older ps) ps (statements_at ts d.body.items) inner)
       ∙ ap (joined (first (wrong_number (length u.params.items) (count us) p)))
-      (sym (h.tells inner) ∙ ap (λ (o : Option Refusal). joined o (first (flat_map (looked inner) u.free.keys))) (first_kept u.first) ∙ sym (first_append (kept_list u.first) (flat_map (looked inner) u.free.keys)))
-      ∙ sym (first_append (wrong_number (length u.params.items) (count us) p) (kept_list u.first ++ flat_map (looked inner) u.free.keys))
+      (sym (h.tells inner) ∙ ap (λ (o : Option Refusal). joined o (first (flat_map (looked inner) u.found.free.keys))) (first_kept u.found.first) ∙ sym (first_append (kept_list u.found.first) (flat_map (looked inner) u.found.free.keys)))
+      ∙ sym (first_append (wrong_number (length u.params.items) (count us) p) (kept_list u.found.first ++ flat_map (looked inner) u.found.free.keys))
     where
       inner : Sight
       inner = seeing_parameters u.params.items us s s

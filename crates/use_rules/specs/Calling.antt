@@ -63,7 +63,7 @@ wrong_number k n p = offence_if (not (nat_eq k n)) Arity p
 -- a call with these arguments
 abbrev pub called_offences : MacroUses → Place → Trees → Sight → List Refusal
 called_offences u p ts s =
-    wrong_number (length u.params.items) (count ts) p ++ (kept_list u.first ++ flat_map (looked (seeing_parameters u.params.items ts s s)) u.free.keys)
+    wrong_number (length u.params.items) (count ts) p ++ (kept_list u.found.first ++ flat_map (looked (seeing_parameters u.params.items ts s s)) u.found.free.keys)
 
 abbrev pub kept_offences : Option MacroUses → Place → Trees → Sight → List Refusal
 kept_offences None p ts s = offence Unknown p

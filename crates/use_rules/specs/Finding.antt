@@ -1,5 +1,5 @@
 -- What was found of offences and of uses of names, as more is looked at.
-use Rattle.std.specs.Prelude.{◌≡◌, List, Option, length, take}
+use Rattle.std.specs.Prelude.{◌≡◌, List, [], Option, None, length, take}
 use Rattle.tla_token.specs.declared.rule.Refusal.{Refusal}
 use Rattle.pcal_tree.specs.Offences.{first}
 use Rattle.pcal_tree.specs.NameUses.{Sight}
@@ -19,3 +19,9 @@ pub record Tells (old new : Found) (offends : Sight → List Refusal) : Type 0 w
 pub record TellsParts (old new : Found) (offends : Sight → List Refusal) : Type 0 where
   pub bound : take (length old.bound) new.bound ≡ old.bound
   pub tells : (s r : Sight) → Inside old.bound s r → told new s ≡ joined (told old s) (first (offends r))
+
+-- nothing was found, and no name is bound
+pub record IsNew (k : Found) : Type 0 where
+  pub first : k.first ≡ None
+  pub free : k.free.keys ≡ []
+  pub bound : k.bound ≡ []

@@ -5,3 +5,4 @@ pub mod Walking
 pub mod Keeping
 pub mod Seeing
 pub mod Routines
+pub mod Whole

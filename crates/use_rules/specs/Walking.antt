@@ -1,7 +1,9 @@
 -- What is found in what a `with` names, and in statements.
-use Rattle.std.specs.Prelude.{◌≡◌, List, ◌++◌}
-use Rattle.tla_tree.specs.Tree.{Word, Tree}
+use Rattle.std.specs.Prelude.{◌≡◌, ℕ, List, ◌++◌}
+use Rattle.tla_tree.specs.Tree.{Word, Name, Tree}
 use Rattle.tla_token.specs.declared.rule.Refusal.{Refusal}
+use Rattle.pcal_tree.specs.declared.algorithm.Bind.{Bind}
+use Rattle.pcal_tree.specs.declared.algorithm.Bind.TheVariants as bind
 use Rattle.pcal_tree.specs.declared.algorithm.Stmt.{Stmt}
 use Rattle.pcal_tree.specs.Algorithm.{Binds, Statements, Procedure}
 use Rattle.pcal_tree.specs.InMemory.{stmt_at}
@@ -12,6 +14,14 @@ use Rattle.algorithm_answer.specs.Joined.{joined}
 use Rattle.use_rules.specs.declared.found.Found.{Found}
 use Rattle.use_rules.specs.Telling.{Inside}
 use Rattle.use_rules.specs.Finding.{told, Tells}
+
+abbrev pub bind_name : Bind → Name
+bind_name (bind.Among x e) = x
+bind_name (bind.Is x e) = x
+
+abbrev pub bind_number : Bind → ℕ
+bind_number (bind.Among x e) = e
+bind_number (bind.Is x e) = e
 
 -- more names may be bound behind those that were
 pub record Behind (old new : List Word) : Type 0 where

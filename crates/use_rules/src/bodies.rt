@@ -1,13 +1,13 @@
 //! What is found in statements.
 
-ghost use Rattle.std.specs.Prelude.{◌≤◌, List, length, map, OnOk};
+ghost use Rattle.std.specs.Prelude.{◌≡◌, ◌≤◌, List, length, map, OnOk};
 ghost use Rattle.tla_tree.specs.Nesting.{greatest};
-ghost use Rattle.pcal_tree.specs.Algorithm.{Procedure, no_binds};
-ghost use Rattle.pcal_tree.specs.InMemory.{assignments_at, bind_at, binds_at, simple_at, statements_at, branches_at, past_assignment, past_bind, past_simple, past_stmt, past_statements, past_branches};
+ghost use Rattle.pcal_tree.specs.Algorithm.{Procedure};
+ghost use Rattle.pcal_tree.specs.InMemory.{assignments_at, binds_at, simple_at, statements_at, branches_at, past_assignment, past_bind, past_simple, past_stmt, past_statements, past_branches};
 ghost use Rattle.pcal_tree.specs.OffencesNames.{Calls, in_assignments, in_one, in_body, in_branches};
 ghost use Rattle.use_rules.specs.Finding.{Tells};
 ghost use Rattle.use_rules.specs.Calling.{Means};
-ghost use Rattle.use_rules.specs.Walking.{TellsBinds, TellsStmt};
+ghost use Rattle.use_rules.specs.Walking.{bind_name, bind_number, TellsBinds, TellsStmt};
 
 use crate::found::Found;
 use crate::macros::Callees;
@@ -15,6 +15,27 @@ use pcal_tree::algorithm::{Assignment, Bind, Simple, Stmt};
 use std::alloc::AllocError;
 use tla_pool::Pool;
 use tla_token::Place;
+use tla_tree::{NodeId, PlacedName};
+
+// The name that one of a `with` binds.
+fn named(bind: &Bind) -> &PlacedName
+    ensures { result.now ≡ bind_name bind.now }
+{
+    match bind {
+        Bind::Among(name, _) => name,
+        Bind::Is(name, _) => name,
+    }
+}
+
+// Its expression.
+fn expression(bind: &Bind) -> NodeId
+    ensures { result ≡ bind_number bind.now }
+{
+    match bind {
+        Bind::Among(_, e) => *e,
+        Bind::Is(_, e) => *e,
+    }
+}
 
 impl Found {
     // Left and right sides.
@@ -41,50 +62,33 @@ impl Found {
         ensures { OnOk result ((C : Calls) (ps : List Procedure) → Means callees.now C ps → Tells self.old self.new (in_one C ps place (simple_at pool.now simple.now))) }
     {
         match simple {
-            Simple::Assign(list) => self.assignments(pool, list)?,
-            Simple::Await(e) => self.expr(pool, false, *e)?,
-            Simple::Print(e) => self.expr(pool, false, *e)?,
-            Simple::Assert(e) => self.expr(pool, false, *e)?,
-            Simple::Skip => {}
-            Simple::Goto(_) => {}
+            Simple::Assign(list) => self.assignments(pool, list),
+            Simple::Await(e) => self.expr(pool, false, *e),
+            Simple::Print(e) => self.expr(pool, false, *e),
+            Simple::Assert(e) => self.expr(pool, false, *e),
+            Simple::Skip => Ok(()),
+            Simple::Goto(_) => Ok(()),
             Simple::Macro(name, es) => {
                 self.call_macro(pool, callees, place, name, es)?;
-                self.exprs(pool, es, 0)?;
+                self.exprs(pool, es, 0)
             }
             Simple::Call(name, es) => {
                 self.call_procedure(callees, place, name, es.len());
-                self.exprs(pool, es, 0)?;
+                self.exprs(pool, es, 0)
             }
-            Simple::Return => {}
+            Simple::Return => Ok(()),
         }
-        Ok(())
     }
 
-    // What a `with` names: its expression, and then it is bound.
-    fn bind(&mut self, pool: &Pool, bind: &Bind) -> Result<(), AllocError>
-        requires { past_bind bind.now ≤ length pool.now }
-        ensures { OnOk result (TellsBinds (bind_at pool.now bind.now no_binds) self.old self.new) }
-    {
-        match bind {
-            Bind::Among(name, e) => {
-                self.expr(pool, false, *e)?;
-                self.bound.add(&name.name)?;
-            }
-            Bind::Is(name, e) => {
-                self.expr(pool, false, *e)?;
-                self.bound.add(&name.name)?;
-            }
-        }
-        Ok(())
-    }
-
-    // All that a `with` names, each seen by those after it.
+    // All that a `with` names, each seen by those after it: its expression, and then it is bound.
     fn binds(&mut self, pool: &Pool, list: &[Bind]) -> Result<(), AllocError>
         requires { greatest (map past_bind list.now) ≤ length pool.now }
         ensures { OnOk result (TellsBinds (binds_at pool.now list.now) self.old self.new) }
     {
         for bind in list {
-            self.bind(pool, bind)?;
+            self.expr(pool, false, expression(bind))?;
+            let name = named(bind);
+            self.bound.add(&name.name)?;
         }
         Ok(())
     }
@@ -96,26 +100,26 @@ impl Found {
         ensures { OnOk result ((C : Calls) (ps : List Procedure) → Means callees.now C ps → TellsStmt C ps pool.now stmt.now self.old self.new) }
     {
         match stmt {
-            Stmt::Label(_, _) => {}
-            Stmt::Simple(span, simple) => self.simple(pool, callees, span.first, simple)?,
+            Stmt::Label(_, _) => Ok(()),
+            Stmt::Simple(span, simple) => self.simple(pool, callees, span.first, simple),
             Stmt::If(_, e, then, otherwise) => {
                 self.expr(pool, false, *e)?;
                 self.body(pool, callees, then)?;
-                self.body(pool, callees, otherwise)?;
+                self.body(pool, callees, otherwise)
             }
-            Stmt::Either(_, list) => self.branches(pool, callees, list)?,
+            Stmt::Either(_, list) => self.branches(pool, callees, list),
             Stmt::With(_, binds, body) => {
                 let around = self.bound.len();
                 self.binds(pool, binds)?;
                 self.body(pool, callees, body)?;
                 self.bound.truncate(around);
+                Ok(())
             }
             Stmt::While(_, e, body) => {
                 self.expr(pool, false, *e)?;
-                self.body(pool, callees, body)?;
+                self.body(pool, callees, body)
             }
         }
-        Ok(())
     }
 
     // Branches.

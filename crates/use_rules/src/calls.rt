@@ -12,10 +12,10 @@ ghost use Rattle.pcal_tree.specs.laws.MacroUses.{offences_as};
 ghost use Rattle.pcal_tree.specs.OffencesNames.{seeing_parameters, Calls, call_offences};
 ghost use Rattle.use_rules.specs.Telling.{use_as, looked};
 ghost use Rattle.use_rules.specs.Finding.{Tells};
-ghost use Rattle.use_rules.specs.Calling.{is_subscripted as is_subscripted_of, handed_from, use_through, use_through_first, parameter_number as parameter_number_of, called_offences, Means};
+ghost use Rattle.use_rules.specs.Calling.{is_subscripted as is_subscripted_of, handed_from, use_through, use_through_first, parameter_number as parameter_number_of, Means};
 
 use crate::found::Found;
-use crate::macros::{Callees, MacroUses};
+use crate::macros::Callees;
 use crate::using::{Kind, NameUse, Use, offence_as};
 use algorithm_limits::order::or_offence;
 use outside_sight::standard::is;
@@ -159,23 +159,6 @@ impl Found {
         Ok(())
     }
 
-    // A call of a macro, at a place, of which this is kept.
-    fn call_kept(
-        &mut self,
-        pool: &Pool,
-        kept: &MacroUses,
-        place: Place,
-        es: &[NodeId],
-    ) -> Result<(), AllocError>
-        requires { past_numbers es.now ≤ length pool.now }
-        ensures { OnOk result (Tells self.old self.new (called_offences kept.now place (trees_at pool.now es.now))) }
-    {
-        let wrong = kept.params.len() != es.len();
-        self.refuse(or_offence(None, wrong, Rule::Arity, place));
-        self.refuse(kept.first);
-        self.all_called(pool, &kept.params, es, kept.free.as_slice())
-    }
-
     /// A macro call, at a place.
     ///
     /// # Errors
@@ -193,7 +176,12 @@ impl Found {
         ensures { OnOk result ((C : Calls) (ps : List Procedure) → Means callees.now C ps → Tells self.old self.new (λ r. C r place name.now (trees_at pool.now es.now))) }
     {
         match callees.macros.get(name) {
-            Some(kept) => self.call_kept(pool, kept, place, es),
+            Some(kept) => {
+                let wrong = kept.params.len() != es.len();
+                self.refuse(or_offence(None, wrong, Rule::Arity, place));
+                self.refuse(kept.found.first);
+                self.all_called(pool, &kept.params, es, kept.found.free.as_slice())
+            }
             None => {
                 self.refuse(or_offence(None, true, Rule::Unknown, place));
                 Ok(())

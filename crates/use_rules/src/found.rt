@@ -1,6 +1,6 @@
 //! What was found: the first offence that rests on no name around, and the uses of names that are not bound.
 
-ghost use Rattle.std.specs.Prelude.{◌≡◌, ◌<◌, ◌≤◌, ◌+◌, ◌&&◌, nat_eq, List, [], ◌∷◌, length, drop, false, OnOk, None};
+ghost use Rattle.std.specs.Prelude.{◌≡◌, ◌<◌, ◌≤◌, ◌+◌, ◌&&◌, nat_eq, List, length, drop, false, OnOk};
 ghost use Rattle.tla_token.specs.declared.rule.Refusal.{Refusal as PureRefusal};
 ghost use Rattle.tla_tree.specs.Tree.{seen_names};
 ghost use Rattle.tla_tree.specs.Shapes.{Shaped};
@@ -11,7 +11,7 @@ ghost use Rattle.pcal_tree.specs.InMemory.{past_numbers};
 ghost use Rattle.pcal_tree.specs.Offences.{first};
 ghost use Rattle.pcal_tree.specs.OffencesNames.{form_offences, root_offences, in_tree, in_parts, in_each, in_left};
 ghost use Rattle.use_rules.specs.Telling.{used};
-ghost use Rattle.use_rules.specs.Finding.{Tells, TellsParts};
+ghost use Rattle.use_rules.specs.Finding.{IsNew, Tells, TellsParts};
 
 use crate::using::{Kind, NameUse, Use, offence_as};
 use algorithm_limits::bound::Bound;
@@ -43,15 +43,22 @@ fn is_last_of_member(form: &Form, part: usize, parts: usize) -> bool
 impl Found {
     /// Nothing was found, and no name is bound.
     pub fn new(alloc: Global) -> Found
-        ensures first { result.first ≡ None }
-        ensures free { result.free.keys ≡ [] }
-        ensures bound { result.bound ≡ [] }
+        ensures { IsNew result }
     {
         Found {
             first: None,
             free: IndexSet::new(alloc),
             bound: Bound::new(alloc),
         }
+    }
+
+    /// Nothing was found, and no name is bound, in place of what was.
+    pub fn restart(&mut self)
+        ensures { IsNew self.new }
+    {
+        self.first = None;
+        self.free.truncate(0);
+        self.bound.truncate(0);
     }
 
     /// An offence, whatever is known around, if there is one.

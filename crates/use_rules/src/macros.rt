@@ -1,22 +1,21 @@
 //! What is kept of macros and procedures: each body is gone through once.
 
-ghost use Rattle.std.specs.Prelude.{◌≡◌, ◌<◌, ◌≤◌, ◌^◌, List, length, map, IfOk, OnOk};
+ghost use Rattle.std.specs.Prelude.{◌≡◌, ◌<◌, ◌≤◌, ◌^◌, [], List, length, map, OnOk};
 ghost use Rattle.tla_tree.specs.Nesting.{greatest};
 ghost use Rattle.tla_tree.specs.Tree.{Tree};
 ghost use Rattle.pcal_tree.specs.Algorithm.{Procedure as PureProcedure};
 ghost use Rattle.pcal_tree.specs.InMemory.{past_macro};
 ghost use Rattle.pcal_tree.specs.OffencesNames.{Calls};
+ghost use Rattle.use_rules.specs.Finding.{IsNew};
 ghost use Rattle.use_rules.specs.Calling.{Means};
-ghost use Rattle.use_rules.specs.Keeping.{Keeps, AreProcedures, procedures_at, calls_at};
+ghost use Rattle.use_rules.specs.Keeping.{Keeps, MacroKept, AreProcedures, procedures_at, calls_at};
 
 use crate::found::Found;
-use crate::using::NameUse;
 use algorithm_limits::table::Table;
-use indexmap::{IndexMap, IndexSet};
+use indexmap::IndexMap;
 use pcal_tree::algorithm::{Declaration, Macro, Procedure};
 use std::alloc::{AllocError, Global};
 use tla_pool::Pool;
-use tla_token::Refusal;
 use tla_tree::{Name, PlacedName};
 
 /// What is kept of a macro: its parameters, the first offence of its body that rests on no name around, and the uses of names that
@@ -24,8 +23,7 @@ use tla_tree::{Name, PlacedName};
 #[derive(Drop)]
 pub struct MacroUses {
     pub params: Vec<PlacedName>,
-    pub first: Option<Refusal>,
-    pub free: IndexSet<NameUse>,
+    pub found: Found,
 }
 
 /// What is kept of the latest macro of each name, and one more than the number of parameters of the first procedure of each name.
@@ -35,16 +33,14 @@ pub struct Callees {
     pub procedures: Table,
 }
 
-// The same names once more.
-#[tactic(auto, using(crate::proofs::KeepLaws::names_more, crate::proofs::KeepLaws::names_all))]
-fn copied_names(alloc: Global, names: &[PlacedName]) -> Result<Vec<PlacedName>, AllocError>
-    ensures { IfOk result (λ ns. ns.items ≡ names.now) }
+// The same names once more, in a list with none.
+fn add_copies(list: &mut Vec<PlacedName>, names: &[PlacedName]) -> Result<(), AllocError>
+    ensures { OnOk result (list.old.items ≡ [] → list.new.items ≡ names.now) }
 {
-    let mut copy = Vec::new(alloc);
     for one in names {
-        copy.push(one.copied()?)?;
+        list.push(one.copied()?)?;
     }
-    Ok(copy)
+    Ok(())
 }
 
 // How many declarations these are.
@@ -55,60 +51,82 @@ fn how_many(list: &[Declaration]) -> usize
     list.len()
 }
 
-// One more than the number of parameters of each procedure, of the first of a name.
-fn arities(alloc: Global, procedures: &[Procedure]) -> Result<Table, AllocError>
-    ensures { IfOk result (λ t. (ts : List Tree) → AreProcedures t (procedures_at ts procedures.now)) }
+// One more than the number of parameters of each procedure, of the first of a name, in an empty table.
+fn add_arities(arities: &mut Table, procedures: &[Procedure]) -> Result<(), AllocError>
+    ensures { OnOk result (arities.old ≡ [] → (ts : List Tree) → AreProcedures arities.new (procedures_at ts procedures.now)) }
 {
-    let mut arities = Table::new(alloc);
     for i in 0..procedures.len() {
         let one = &procedures[procedures.len() - 1 - i];
         arities.set(one.name.name.copied()?, how_many(&one.params) + 1)?;
     }
-    Ok(arities)
+    Ok(())
 }
 
-// What is kept of a macro.
-fn macro_uses(
-    alloc: Global,
-    pool: &Pool,
-    callees: &Callees,
-    one: &Macro,
-) -> Result<MacroUses, AllocError>
-    requires { past_macro one.now ≤ length pool.now }
-    ensures { IfOk result (λ u. (C : Calls) (ps : List PureProcedure) → Means callees.now C ps → Keeps C ps pool.now one.now u) }
-{
-    let mut found = Found::new(alloc);
-    found.body(pool, callees, &one.body)?;
-    let params = copied_names(alloc, &one.params)?;
-    let Found { first, free, .. } = found;
-    Ok(MacroUses {
-        params,
-        first,
-        free,
-    })
-}
-
-/// What is kept of these macros, of which each calls those before it, and of these procedures.
-///
-/// # Errors
-///
-/// Only for want of memory.
-pub fn all_callees(
-    alloc: Global,
-    pool: &Pool,
-    macros: &[Macro],
-    procedures: &[Procedure],
-) -> Result<Callees, AllocError>
-    requires { greatest (map past_macro macros.now) ≤ length pool.now }
-    ensures { IfOk result (λ k. Means k (calls_at pool.now macros.now (procedures_at pool.now procedures.now)) (procedures_at pool.now procedures.now)) }
-{
-    let mut callees = Callees {
-        macros: IndexMap::new(alloc),
-        procedures: arities(alloc, procedures)?,
-    };
-    for one in macros {
-        let uses = macro_uses(alloc, pool, &callees, one)?;
-        callees.macros.insert(one.name.name.copied()?, uses)?;
+impl MacroUses {
+    // Nothing was found.
+    fn new(alloc: Global) -> MacroUses
+        ensures params { result.params.items ≡ [] }
+        ensures found { IsNew result.found }
+    {
+        MacroUses {
+            params: Vec::new(alloc),
+            found: Found::new(alloc),
+        }
     }
-    Ok(callees)
+
+    // What is kept of a macro, where nothing is yet.
+    fn fill(&mut self, pool: &Pool, callees: &Callees, one: &Macro) -> Result<(), AllocError>
+        requires { past_macro one.now ≤ length pool.now }
+        ensures { OnOk result ((C : Calls) (ps : List PureProcedure) → self.old.params.items ≡ [] → IsNew self.old.found → Means callees.now C ps → Keeps C ps pool.now one.now self.new) }
+    {
+        add_copies(&mut self.params, &one.params)?;
+        self.found.body(pool, callees, &one.body)
+    }
+}
+
+impl Callees {
+    /// None is known.
+    pub fn new(alloc: Global) -> Callees
+        ensures macros { result.macros.entries ≡ [] }
+        ensures procedures { result.procedures ≡ [] }
+    {
+        Callees {
+            macros: IndexMap::new(alloc),
+            procedures: Table::new(alloc),
+        }
+    }
+
+    // One more macro, which calls those before it.
+    fn add_macro(&mut self, alloc: Global, pool: &Pool, one: &Macro) -> Result<(), AllocError>
+        requires { past_macro one.now ≤ length pool.now }
+        ensures { OnOk result (MacroKept pool.now one.now self.old self.new) }
+    {
+        let name = one.name.name.copied()?;
+        let mut uses = MacroUses::new(alloc);
+        uses.fill(pool, self, one)?;
+        self.macros.insert(name, uses)?;
+        Ok(())
+    }
+
+    /// What is kept of these macros, of which each calls those before it, and of these procedures, where none was known.
+    ///
+    /// # Errors
+    ///
+    /// Only for want of memory.
+    pub fn fill(
+        &mut self,
+        alloc: Global,
+        pool: &Pool,
+        macros: &[Macro],
+        procedures: &[Procedure],
+    ) -> Result<(), AllocError>
+        requires { greatest (map past_macro macros.now) ≤ length pool.now }
+        ensures { OnOk result (self.old.macros.entries ≡ [] → self.old.procedures ≡ [] → Means self.new (calls_at pool.now macros.now (procedures_at pool.now procedures.now)) (procedures_at pool.now procedures.now)) }
+    {
+        add_arities(&mut self.procedures, procedures)?;
+        for one in macros {
+            self.add_macro(alloc, pool, one)?;
+        }
+        Ok(())
+    }
 }

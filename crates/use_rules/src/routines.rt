@@ -25,7 +25,7 @@ use crate::using::{Use, offence_as};
 use algorithm_limits::bound::Bound;
 use algorithm_limits::order::least;
 use pcal_tree::algorithm::{Declaration, Definition, Main, Procedure, Process, Start, Stmt};
-use std::alloc::{AllocError, Global};
+use std::alloc::AllocError;
 use tla_pool::Pool;
 use tla_token::Refusal;
 use tla_tree::{Name, NodeId, PlacedName};
@@ -83,191 +83,175 @@ fn use_within(sight: &Sight, own: &Bound, name: &Name) -> Use
     }
 }
 
-// The first offence of what was found, where these are variables besides.
-fn tell(found: &Found, sight: &Sight, own: &Bound) -> Option<Refusal>
-    ensures { (s : names.Sight) (xs : List Word) → Sees sight.now s → Binds own.now xs → result ≡ told found.now (names.seeing_variables xs s) }
+// The first offence of what was found, where names that are bound now are variables.
+fn tell(found: &Found, sight: &Sight) -> Option<Refusal>
+    ensures { (s : names.Sight) (xs : List Word) → Sees sight.now s → Binds found.now.bound xs → result ≡ told found.now (names.seeing_variables xs s) }
 {
     let uses = found.free.as_slice();
     let mut first = found.first;
     for i in 0..uses.len() {
         let one = &uses[i];
-        let known = use_within(sight, own, &one.name);
+        let known = use_within(sight, &found.bound, &one.name);
         first = least(first, offence_as(known, one.kind, one.place()));
     }
     first
 }
 
-// The first offence of a routine.
-fn routine(
-    alloc: Global,
-    pool: &Pool,
-    callees: &Callees,
-    sight: &Sight,
-    params: &[Declaration],
-    variables: &[Declaration],
-    body: &[Stmt],
-) -> Result<Option<Refusal>, AllocError>
-    requires params { past_declarations params.now ≤ length pool.now }
-    requires variables { past_declarations variables.now ≤ length pool.now }
-    requires body { past_statements body.now ≤ length pool.now }
-    ensures { IfOk result (λ r. (C : Calls) (ps : List PureProcedure) (s : names.Sight) → Means callees.now C ps → Sees sight.now s → r ≡ first (routine_offences C ps (declarations_at pool.now params.now ++ declarations_at pool.now variables.now) (statements_at pool.now body.now) s)) }
-{
-    let mut own = Bound::new(alloc);
-    add_declared(&mut own, params)?;
-    add_declared(&mut own, variables)?;
-    let mut found = Found::new(alloc);
-    found.declared(pool, params)?;
-    found.declared(pool, variables)?;
-    found.body(pool, callees, body)?;
-    Ok(tell(&found, sight, &own))
-}
-
-// The first offence of an expression, where these names are bound.
-fn whole(
-    alloc: Global,
-    pool: &Pool,
-    sight: &Sight,
-    params: &[PlacedName],
-    e: NodeId,
-) -> Result<Option<Refusal>, AllocError>
-    requires { e < length pool.now }
-    ensures { IfOk result (λ r. (s : names.Sight) → Sees sight.now s → r ≡ first (in_whole (at pool.now e) (names.seeing_plain (words params.now) s))) }
-{
-    let mut found = Found::new(alloc);
-    found.bound.add_all(params)?;
-    found.expr(pool, false, e)?;
-    let own = Bound::new(alloc);
-    Ok(tell(&found, sight, &own))
-}
-
-/// The first offence of the first values of globals.
-///
-/// # Errors
-///
-/// Only for want of memory.
-pub fn of_globals(
-    alloc: Global,
-    pool: &Pool,
-    sight: &Sight,
-    list: &[Declaration],
-) -> Result<Option<Refusal>, AllocError>
-    requires { past_declarations list.now ≤ length pool.now }
-    ensures { IfOk result (λ r. (s : names.Sight) → Sees sight.now s → r ≡ first (in_declared (declarations_at pool.now list.now) s)) }
-{
-    let mut found = Found::new(alloc);
-    found.declared(pool, list)?;
-    let own = Bound::new(alloc);
-    Ok(tell(&found, sight, &own))
-}
-
-/// The first offence of definitions, each of which sees those before it; they are known then.
-///
-/// # Errors
-///
-/// Only for want of memory.
-pub fn of_definitions(
-    alloc: Global,
-    pool: &Pool,
-    sight: &mut Sight,
-    list: &[Definition],
-) -> Result<Option<Refusal>, AllocError>
-    requires { past_definitions list.now ≤ length pool.now }
-    ensures first { IfOk result (λ r. (s : names.Sight) → Sees sight.old s → r ≡ first (in_definitions (definitions_at pool.now list.now) s)) }
-    ensures seen { OnOk result ((s : names.Sight) → Sees sight.old s → Sees sight.new (map defined_inside (reverse (definitions_at pool.now list.now)) ++ s)) }
-{
-    let mut found = None;
-    for i in 0..list.len() {
-        let one = &list[i];
-        let offence = whole(alloc, pool, sight, &one.params, one.body)?;
-        found = least(found, offence);
-        sight.set(&one.name.name, Use::Takes(how_many(&one.params)))?;
+impl Found {
+    // The first offence of a routine.
+    fn routine(
+        &mut self,
+        pool: &Pool,
+        callees: &Callees,
+        sight: &Sight,
+        params: &[Declaration],
+        variables: &[Declaration],
+        body: &[Stmt],
+    ) -> Result<Option<Refusal>, AllocError>
+        requires params { past_declarations params.now ≤ length pool.now }
+        requires variables { past_declarations variables.now ≤ length pool.now }
+        requires body { past_statements body.now ≤ length pool.now }
+        ensures { IfOk result (λ r. (C : Calls) (ps : List PureProcedure) (s : names.Sight) → Means callees.now C ps → Sees sight.now s → r ≡ first (routine_offences C ps (declarations_at pool.now params.now ++ declarations_at pool.now variables.now) (statements_at pool.now body.now) s)) }
+    {
+        self.restart();
+        self.declared(pool, params)?;
+        self.declared(pool, variables)?;
+        self.body(pool, callees, body)?;
+        add_declared(&mut self.bound, params)?;
+        add_declared(&mut self.bound, variables)?;
+        Ok(tell(self, sight))
     }
-    Ok(found)
-}
 
-/// The first offence of procedures.
-///
-/// # Errors
-///
-/// Only for want of memory.
-pub fn of_procedures(
-    alloc: Global,
-    pool: &Pool,
-    callees: &Callees,
-    sight: &Sight,
-    list: &[Procedure],
-) -> Result<Option<Refusal>, AllocError>
-    requires { greatest (map past_procedure list.now) ≤ length pool.now }
-    ensures { IfOk result (λ r. (C : Calls) (ps : List PureProcedure) (s : names.Sight) → Means callees.now C ps → Sees sight.now s → r ≡ first (flat_map (in_procedure C ps s) (map (procedure_at pool.now) list.now))) }
-{
-    let mut found = None;
-    for one in list {
-        let offence = routine(
-            alloc,
-            pool,
-            callees,
-            sight,
-            &one.params,
-            &one.variables,
-            &one.body,
-        )?;
-        found = least(found, offence);
+    // The first offence of an expression, where these names are bound.
+    fn whole(
+        &mut self,
+        pool: &Pool,
+        sight: &Sight,
+        params: &[PlacedName],
+        e: NodeId,
+    ) -> Result<Option<Refusal>, AllocError>
+        requires { e < length pool.now }
+        ensures { IfOk result (λ r. (s : names.Sight) → Sees sight.now s → r ≡ first (in_whole (at pool.now e) (names.seeing_plain (words params.now) s))) }
+    {
+        self.restart();
+        self.bound.add_all(params)?;
+        self.expr(pool, false, e)?;
+        self.bound.truncate(0);
+        Ok(tell(self, sight))
     }
-    Ok(found)
-}
 
-// The first offence of a process.
-fn of_process(
-    alloc: Global,
-    pool: &Pool,
-    callees: &Callees,
-    sight: &Sight,
-    one: &Process,
-) -> Result<Option<Refusal>, AllocError>
-    requires { past_process one.now ≤ length pool.now }
-    ensures { IfOk result (λ r. (C : Calls) (ps : List PureProcedure) (s : names.Sight) → Means callees.now C ps → Sees sight.now s → r ≡ first (in_process C ps s (process_at pool.now one.now))) }
-{
-    let head = whole(alloc, pool, sight, &[], one.identity)?;
-    let rest = routine(alloc, pool, callees, sight, &[], &one.variables, &one.body)?;
-    Ok(least(head, rest))
-}
-
-// The first offence of processes.
-fn of_processes(
-    alloc: Global,
-    pool: &Pool,
-    callees: &Callees,
-    sight: &Sight,
-    list: &[Process],
-) -> Result<Option<Refusal>, AllocError>
-    requires { greatest (map past_process list.now) ≤ length pool.now }
-    ensures { IfOk result (λ r. (C : Calls) (ps : List PureProcedure) (s : names.Sight) → Means callees.now C ps → Sees sight.now s → r ≡ first (flat_map (in_process C ps s) (map (process_at pool.now) list.now))) }
-{
-    let mut found = None;
-    for one in list {
-        let offence = of_process(alloc, pool, callees, sight, one)?;
-        found = least(found, offence);
+    /// The first offence of the first values of globals.
+    ///
+    /// # Errors
+    ///
+    /// Only for want of memory.
+    pub fn of_globals(
+        &mut self,
+        pool: &Pool,
+        sight: &Sight,
+        list: &[Declaration],
+    ) -> Result<Option<Refusal>, AllocError>
+        requires { past_declarations list.now ≤ length pool.now }
+        ensures { IfOk result (λ r. (s : names.Sight) → Sees sight.now s → r ≡ first (in_declared (declarations_at pool.now list.now) s)) }
+    {
+        self.restart();
+        self.declared(pool, list)?;
+        Ok(tell(self, sight))
     }
-    Ok(found)
-}
 
-/// The first offence of an algorithm's own statements, or of its processes.
-///
-/// # Errors
-///
-/// Only for want of memory.
-pub fn of_main(
-    alloc: Global,
-    pool: &Pool,
-    callees: &Callees,
-    sight: &Sight,
-    main: &Main,
-) -> Result<Option<Refusal>, AllocError>
-    requires { past_main main.now ≤ length pool.now }
-    ensures { IfOk result (λ r. (C : Calls) (ps : List PureProcedure) (s : names.Sight) → Means callees.now C ps → Sees sight.now s → r ≡ first (in_main C ps s (main_at pool.now main.now))) }
-{
-    match main {
-        Main::Alone(body) => routine(alloc, pool, callees, sight, &[], &[], body),
-        Main::Processes(list) => of_processes(alloc, pool, callees, sight, list),
+    /// The first offence of definitions, each of which sees those before it; they are known then.
+    ///
+    /// # Errors
+    ///
+    /// Only for want of memory.
+    pub fn of_definitions(
+        &mut self,
+        pool: &Pool,
+        sight: &mut Sight,
+        list: &[Definition],
+    ) -> Result<Option<Refusal>, AllocError>
+        requires { past_definitions list.now ≤ length pool.now }
+        ensures first { IfOk result (λ r. (s : names.Sight) → Sees sight.old s → r ≡ first (in_definitions (definitions_at pool.now list.now) s)) }
+        ensures seen { OnOk result ((s : names.Sight) → Sees sight.old s → Sees sight.new (map defined_inside (reverse (definitions_at pool.now list.now)) ++ s)) }
+    {
+        let mut found = None;
+        for i in 0..list.len() {
+            let one = &list[i];
+            let offence = self.whole(pool, sight, &one.params, one.body)?;
+            found = least(found, offence);
+            sight.set(&one.name.name, Use::Takes(how_many(&one.params)))?;
+        }
+        Ok(found)
+    }
+
+    /// The first offence of procedures.
+    ///
+    /// # Errors
+    ///
+    /// Only for want of memory.
+    pub fn of_procedures(
+        &mut self,
+        pool: &Pool,
+        callees: &Callees,
+        sight: &Sight,
+        list: &[Procedure],
+    ) -> Result<Option<Refusal>, AllocError>
+        requires { greatest (map past_procedure list.now) ≤ length pool.now }
+        ensures { IfOk result (λ r. (C : Calls) (ps : List PureProcedure) (s : names.Sight) → Means callees.now C ps → Sees sight.now s → r ≡ first (flat_map (in_procedure C ps s) (map (procedure_at pool.now) list.now))) }
+    {
+        let mut found = None;
+        for one in list {
+            let offence = self.routine(
+                pool,
+                callees,
+                sight,
+                &one.params,
+                &one.variables,
+                &one.body,
+            )?;
+            found = least(found, offence);
+        }
+        Ok(found)
+    }
+
+    // The first offence of processes.
+    fn of_processes(
+        &mut self,
+        pool: &Pool,
+        callees: &Callees,
+        sight: &Sight,
+        list: &[Process],
+    ) -> Result<Option<Refusal>, AllocError>
+        requires { greatest (map past_process list.now) ≤ length pool.now }
+        ensures { IfOk result (λ r. (C : Calls) (ps : List PureProcedure) (s : names.Sight) → Means callees.now C ps → Sees sight.now s → r ≡ first (flat_map (in_process C ps s) (map (process_at pool.now) list.now))) }
+    {
+        let mut found = None;
+        for one in list {
+            let head = self.whole(pool, sight, &[], one.identity)?;
+            let rest = self.routine(pool, callees, sight, &[], &one.variables, &one.body)?;
+            found = least(found, least(head, rest));
+        }
+        Ok(found)
+    }
+
+    /// The first offence of an algorithm's own statements, or of its processes.
+    ///
+    /// # Errors
+    ///
+    /// Only for want of memory.
+    pub fn of_main(
+        &mut self,
+        pool: &Pool,
+        callees: &Callees,
+        sight: &Sight,
+        main: &Main,
+    ) -> Result<Option<Refusal>, AllocError>
+        requires { past_main main.now ≤ length pool.now }
+        ensures { IfOk result (λ r. (C : Calls) (ps : List PureProcedure) (s : names.Sight) → Means callees.now C ps → Sees sight.now s → r ≡ first (in_main C ps s (main_at pool.now main.now))) }
+    {
+        match main {
+            Main::Alone(body) => self.routine(pool, callees, sight, &[], &[], body),
+            Main::Processes(list) => self.of_processes(pool, callees, sight, list),
+        }
     }
 }

@@ -58,8 +58,12 @@ fn always_use(modules: Modules, name: &[u8]) -> Use
     }
 }
 
-// The standard modules among these.
-fn modules_among(alloc: Global, extended: &[PlacedName]) -> Result<Modules, AllocError>
+/// The standard modules among these.
+///
+/// # Errors
+///
+/// Only for want of memory.
+pub fn modules_among(alloc: Global, extended: &[PlacedName]) -> Result<Modules, AllocError>
     ensures { IfOk result (λ m. AreModules m (words extended.now)) }
 {
     let sight = OutsideSight::new(alloc, extended, &[])?;
@@ -74,6 +78,17 @@ pub fn how_many(names: &[PlacedName]) -> usize
 }
 
 impl Sight {
+    /// Nothing is declared.
+    pub fn new(alloc: Global, modules: Modules) -> Sight
+        ensures uses { result.uses.entries ≡ [] }
+        ensures modules { result.modules ≡ modules }
+    {
+        Sight {
+            uses: IndexMap::new(alloc),
+            modules,
+        }
+    }
+
     /// What a name may be used as.
     pub fn look(&self, name: &Name) -> Use
         ensures { result ≡ use_in self.now name.now }
@@ -151,22 +166,17 @@ impl Sight {
         }
         Ok(())
     }
-}
 
-/// What is known of a module outside.
-///
-/// # Errors
-///
-/// Only for want of memory.
-pub fn seen_outside(alloc: Global, outside: &Outside) -> Result<Sight, AllocError>
-    ensures { IfOk result (λ v. (ts : List Tree) → Sees v (sight_outside (outside_at ts outside.now))) }
-{
-    let mut sight = Sight {
-        uses: IndexMap::new(alloc),
-        modules: modules_among(alloc, &outside.extended)?,
-    };
-    sight.set_read(&outside.definitions)?;
-    sight.set_placed(&outside.constants, Use::Takes(0))?;
-    sight.set_passed(&outside.opaque)?;
-    Ok(sight)
+    /// What is outside, where nothing is known yet.
+    ///
+    /// # Errors
+    ///
+    /// Only for want of memory.
+    pub fn set_outside(&mut self, outside: &Outside) -> Result<(), AllocError>
+        ensures { OnOk result ((ts : List Tree) → self.old.uses.entries ≡ [] → AreModules self.old.modules (words outside.now.extended.items) → Sees self.new (sight_outside (outside_at ts outside.now))) }
+    {
+        self.set_read(&outside.definitions)?;
+        self.set_placed(&outside.constants, Use::Takes(0))?;
+        self.set_passed(&outside.opaque)
+    }
 }

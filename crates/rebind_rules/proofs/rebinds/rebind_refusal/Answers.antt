@@ -1,15 +1,13 @@
 -- Proves that the first offence is found.
-use Rattle.std.proofs.Common.{List, subst}
+use Rattle.std.proofs.Common.{List, ◌∙◌, subst}
 use Rattle.std.proofs.lemmas.Result.{IfOk-weaker}
 use Rattle.tla_tree.specs.Tree.{Name, words}
 use Rattle.outside_sight.specs.ModulesIn.{AreModules}
-use Rattle.pcal_tree.specs.declared.algorithm.Macro.{Macro}
-use Rattle.rebind_rules.specs.Whole.{AreSights}
 use Rattle.rebind_rules.proofs.rebinds.rebind_refusal.Goals as goal
 
 pub returns : goal.returns
 returns c =
     let m = c.in_ok-modules.modules in
-    IfOk-weaker c.first_found.result _ _ (λ r h.
-    h m (subst (λ (ns : List Name). AreModules m (words ns)) c.deref.ensures.value c.in_ok-modules.ensures) (subst (λ (ds : List Macro). AreSights m ds c.in_ok-places.places) c.deref-2.ensures.value c.in_ok-places.ensures))
-    c.first_found.ensures
+    IfOk-weaker c.first_offence.result _ _ (λ r h.
+    h m (subst (λ (ns : List Name). AreModules m (words ns)) c.deref.ensures.value c.in_ok-modules.ensures) c.new-whole.ensures.sights
+    (record { process = c.new-whole.ensures.process ∙ c.in_ok-process.ensures; macros = c.new-whole.ensures.macros; procedures = c.new-whole.ensures.procedures }) c.new-whole.ensures.walk) c.first_offence.ensures

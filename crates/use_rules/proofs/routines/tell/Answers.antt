@@ -14,7 +14,7 @@ loop-i-init c = λ s xs h n. sym (joined_none c.args.found.now.first)
 pub loop-i-preserved : goal.loop-i-preserved
 loop-i-preserved c = λ s xs h n.
     let u = c.index-uses-i.result in
-    told_step c.args.sight.now c.args.own.now xs s c.args.found.now.first c.loop-i.first c.offence_as.result c.least-first.result c.as_slice-uses.result.now c.loop-i.i u h n c.index-uses-i.is c.loop-i-test.true
+    told_step c.args.sight.now c.args.found.now.bound xs s c.args.found.now.first c.loop-i.first c.offence_as.result c.least-first.result c.as_slice-uses.result.now c.loop-i.i u h n c.index-uses-i.is c.loop-i-test.true
     (c.offence_as.ensures u.name ∙ (λ z. first (offences_as (use_seen (c.use_within-known.ensures z)) (use_as u.kind u.name (c.place.ensures z)))))
     c.least-first.ensures (c.loop-i.invariant s xs h n)
 

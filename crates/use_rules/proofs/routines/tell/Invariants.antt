@@ -8,4 +8,4 @@ use Rattle.use_rules.specs.Seeing.{Sees}
 use Rattle.use_rules.proofs.routines.tell.Given as goal
 
 abbrev pub invariant-loop-i : goal.invariant-loop-i
-invariant-loop-i l = (s : names.Sight) (xs : List Word) → Sees l.sight s → Binds l.own xs → l.first ≡ told_by l.found.first (take l.i l.uses) (names.seeing_variables xs s)
+invariant-loop-i l = (s : names.Sight) (xs : List Word) → Sees l.sight s → Binds l.found.bound xs → l.first ≡ told_by l.found.first (take l.i l.uses) (names.seeing_variables xs s)

@@ -1,5 +1,6 @@
 -- Proves that what statements offend is found.
 use Rattle.std.proofs.Common.{ℕ, List, Vec, Global, take, map, refl, sym, ap, subst, ◌∙◌, arith}
+use Rattle.std.proofs.lemmas.Result.{on_ok_weaker}
 use Rattle.tla_tree.proofs.PoolNumbers.{past_at}
 use Rattle.pcal_tree.specs.declared.algorithm.Bind.{Bind}
 use Rattle.pcal_tree.specs.declared.algorithm.Stmt.{Stmt}
@@ -64,27 +65,33 @@ pub stmt-returns-in-Label : goal.stmt-returns-in-Label
 stmt-returns-in-Label t c = λ C ps h.
     subst (λ (z : Stmt). AddsStmt c.args.sight.now C ps c.args.pool.now z c.args.self.now c.args.self.now) (sym c.in-Label.is) (label_adds c.args.sight.now C ps c.args.pool.now c.args.self.now c.in-Label.field-0 c.in-Label.field-1)
 
-pub stmt-returns-in_ok-simple-in-Simple : goal.stmt-returns-in_ok-simple-in-Simple
-stmt-returns-in_ok-simple-in-Simple t c = λ C ps h.
+pub stmt-returns-in-Simple : goal.stmt-returns-in-Simple
+stmt-returns-in-Simple t c =
+    on_ok_weaker c.simple.result
+    (λ a C ps h.
     subst (λ (z : Stmt). AddsStmt c.args.sight.now C ps c.args.pool.now z c.args.self.now c.simple.new.self) (sym c.in-Simple.is)
-    (simple_adds c.args.sight.now C ps c.args.pool.now c.args.self.now c.simple.new.self c.in-Simple.field-0 c.in-Simple.simple (c.in_ok-simple-in-Simple.ensures C ps h))
+    (simple_adds c.args.sight.now C ps c.args.pool.now c.args.self.now c.simple.new.self c.in-Simple.field-0 c.in-Simple.simple (a C ps h))) c.simple.ensures
 
-pub stmt-returns-in_ok-body-in-If-2 : goal.stmt-returns-in_ok-body-in-If-2
-stmt-returns-in_ok-body-in-If-2 t c = λ C ps h.
+pub stmt-returns-in_ok-body-in-If : goal.stmt-returns-in_ok-body-in-If
+stmt-returns-in_ok-body-in-If t c =
+    on_ok_weaker c.body-in-If.result
+    (λ a C ps h.
     let ts = c.args.pool.now in
     let g = c.args.sight.now in
     subst (λ (z : Stmt). AddsStmt g C ps ts z c.args.self.now c.body-in-If.new.self) (sym c.in-If.is)
     (if_adds g C ps ts c.args.self.now c.expr.new.self c.body.new.self c.body-in-If.new.self c.in-If.field-0 c.in-If.e c.in-If.then c.in-If.otherwise (c.in_ok-expr-in-If.ensures any_name)
     (subst (λ (ys : List Stmt). Adds g any_name c.expr.new.self c.body.new.self (λ ms r. body_rebinds ms ps (C ms) (statements_at ts ys) r)) c.deref.ensures.value (c.in_ok-body-in-If.ensures C ps h))
-    (subst (λ (ys : List Stmt). Adds g any_name c.body.new.self c.body-in-If.new.self (λ ms r. body_rebinds ms ps (C ms) (statements_at ts ys) r)) c.deref-in-If.ensures.value (c.in_ok-body-in-If-2.ensures C ps h)))
+    (subst (λ (ys : List Stmt). Adds g any_name c.body.new.self c.body-in-If.new.self (λ ms r. body_rebinds ms ps (C ms) (statements_at ts ys) r)) c.deref-in-If.ensures.value (a C ps h)))) c.body-in-If.ensures
 
-pub stmt-returns-in_ok-branches-in-Either : goal.stmt-returns-in_ok-branches-in-Either
-stmt-returns-in_ok-branches-in-Either t c = λ C ps h.
+pub stmt-returns-in-Either : goal.stmt-returns-in-Either
+stmt-returns-in-Either t c =
+    on_ok_weaker c.branches.result
+    (λ a C ps h.
     let ts = c.args.pool.now in
     let g = c.args.sight.now in
     subst (λ (z : Stmt). AddsStmt g C ps ts z c.args.self.now c.branches.new.self) (sym c.in-Either.is)
     (either_adds g C ps ts c.args.self.now c.branches.new.self c.in-Either.field-0 c.in-Either.list
-    (subst (λ (ys : List (Vec Stmt Global)). Adds g any_name c.args.self.now c.branches.new.self (λ ms r. branches_rebind ms ps (C ms) (branches_at ts ys) r)) c.deref-in-Either.ensures.value (c.in_ok-branches-in-Either.ensures C ps h)))
+    (subst (λ (ys : List (Vec Stmt Global)). Adds g any_name c.args.self.now c.branches.new.self (λ ms r. branches_rebind ms ps (C ms) (branches_at ts ys) r)) c.deref-in-Either.ensures.value (a C ps h)))) c.branches.ensures
 
 pub stmt-returns-in_ok-body-in-With : goal.stmt-returns-in_ok-body-in-With
 stmt-returns-in_ok-body-in-With t c = λ C ps h.
@@ -98,10 +105,12 @@ stmt-returns-in_ok-body-in-With t c = λ C ps h.
     (subst (λ (ys : List Stmt). Adds g any_name c.binds.new.self c.body-in-With.new.self (λ ms r. body_rebinds ms ps (C ms) (statements_at ts ys) r)) c.deref-in-With-3.ensures.value (c.in_ok-body-in-With.ensures C ps h))
     refl refl (c.truncate.ensures ∙ ap (λ (k : ℕ). take k c.body-in-With.new.self.bound) c.len-around.ensures))
 
-pub stmt-returns-in_ok-body-in-While : goal.stmt-returns-in_ok-body-in-While
-stmt-returns-in_ok-body-in-While t c = λ C ps h.
+pub stmt-returns-in_ok-expr-in-While : goal.stmt-returns-in_ok-expr-in-While
+stmt-returns-in_ok-expr-in-While t c =
+    on_ok_weaker c.body-in-While.result
+    (λ a C ps h.
     let ts = c.args.pool.now in
     let g = c.args.sight.now in
     subst (λ (z : Stmt). AddsStmt g C ps ts z c.args.self.now c.body-in-While.new.self) (sym c.in-While.is)
     (while_adds g C ps ts c.args.self.now c.expr-in-While.new.self c.body-in-While.new.self c.in-While.field-0 c.in-While.e c.in-While.body (c.in_ok-expr-in-While.ensures any_name)
-    (subst (λ (ys : List Stmt). Adds g any_name c.expr-in-While.new.self c.body-in-While.new.self (λ ms r. body_rebinds ms ps (C ms) (statements_at ts ys) r)) c.deref-in-While.ensures.value (c.in_ok-body-in-While.ensures C ps h)))
+    (subst (λ (ys : List Stmt). Adds g any_name c.expr-in-While.new.self c.body-in-While.new.self (λ ms r. body_rebinds ms ps (C ms) (statements_at ts ys) r)) c.deref-in-While.ensures.value (a C ps h)))) c.body-in-While.ensures

@@ -10,8 +10,8 @@ loop-i-init c = λ k g. g
 pub loop-i-preserved : goal.loop-i-preserved
 loop-i-preserved c = λ k g.
     c.loop-i.invariant k
-    (list_then c.args.sight.now any_name (λ (d : Declaration) ms r. rebound ms r d.name) c.loop-i.self c.declares.new.self k c.args.list.now c.loop-i.i c.index-list-i.result c.index-list-i.is c.loop-i-test.true
-    c.in_ok-declares.ensures g)
+    (list_then c.args.sight.now any_name (λ (d : Declaration) ms r. rebound ms r d.name) c.loop-i.self c.name.new.self k c.args.list.now c.loop-i.i c.index-list-i.result c.index-list-i.is c.loop-i-test.true
+    (c.in_ok-name.ensures any_name) g)
 
 pub returns : goal.returns
 returns c =

@@ -1,4 +1,5 @@
 -- Proves that what a form offends without its parts is found.
+use Rattle.std.proofs.lemmas.Result.{on_ok_weaker}
 use Rattle.std.proofs.Common.{List, Vec, Global, sym, ap, subst}
 use Rattle.tla_tree.specs.Tree.{Name}
 use Rattle.tla_pool.specs.declared.form.Form.{Form}
@@ -9,16 +10,22 @@ use Rattle.rebind_rules.specs.Telling.{Adds}
 use Rattle.rebind_rules.proofs.ExprLaws.{binding_adds, local_adds}
 use Rattle.rebind_rules.proofs.walk.Walk.form.Goals as goal
 
-pub returns-in_ok-groups-in-Binding : goal.returns-in_ok-groups-in-Binding
-returns-in_ok-groups-in-Binding c = λ K.
+pub returns-in-Binding : goal.returns-in-Binding
+returns-in-Binding c =
+    on_ok_weaker c.groups.result
+    (λ a K.
     binding_adds c.args.sight.now K c.args.self.now c.groups.new.self (form_of c.args.form.now) c.in-Binding.field-0 (groups_of c.in-Binding.groups.items) (ap form_of c.in-Binding.is)
-    (subst (λ (gs : List (Vec Name Global)). Adds c.args.sight.now K c.args.self.now c.groups.new.self (λ ms r. rebound_all ms r (all_of (groups_of gs)))) c.deref.ensures.value (c.in_ok-groups-in-Binding.ensures K))
+    (subst (λ (gs : List (Vec Name Global)). Adds c.args.sight.now K c.args.self.now c.groups.new.self (λ ms r. rebound_all ms r (all_of (groups_of gs)))) c.deref.ensures.value (a K))) c.groups.ensures
 
-pub returns-in_ok-names-in-Local : goal.returns-in_ok-names-in-Local
-returns-in_ok-names-in-Local c = λ K.
+pub returns-in-Local : goal.returns-in-Local
+returns-in-Local c =
+    on_ok_weaker c.names.result
+    (λ a K.
     local_adds c.args.sight.now K c.args.self.now c.names.new.self (form_of c.args.form.now) c.in-Local.names.items (ap form_of c.in-Local.is)
-    (subst (λ (ns : List Name). Adds c.args.sight.now K c.args.self.now c.names.new.self (λ ms r. rebound_all ms r ns)) c.deref-in-Local.ensures.value (c.in_ok-names-in-Local.ensures K))
+    (subst (λ (ns : List Name). Adds c.args.sight.now K c.args.self.now c.names.new.self (λ ms r. rebound_all ms r ns)) c.deref-in-Local.ensures.value (a K))) c.names.ensures
 
-pub returns-in_ok-standing-in-Name : goal.returns-in_ok-standing-in-Name
-returns-in_ok-standing-in-Name c = λ K.
-    subst (λ (f : Form). Adds c.args.sight.now K c.args.self.now c.standing.new.self (λ ms r. form_rebinds ms K r (form_of f))) (sym c.in-Name.is) (c.in_ok-standing-in-Name.ensures K)
+pub returns-in-Name : goal.returns-in-Name
+returns-in-Name c =
+    on_ok_weaker c.standing.result
+    (λ a K.
+    subst (λ (f : Form). Adds c.args.sight.now K c.args.self.now c.standing.new.self (λ ms r. form_rebinds ms K r (form_of f))) (sym c.in-Name.is) (a K)) c.standing.ensures

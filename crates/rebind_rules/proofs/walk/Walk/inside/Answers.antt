@@ -1,4 +1,5 @@
 -- Proves that all but the definitions is looked at.
+use Rattle.std.proofs.lemmas.Result.{on_ok_weaker}
 use Rattle.std.proofs.Common.{List, [], map, reverse, subst}
 use Rattle.std.specs.List.{flat_map}
 use Rattle.tla_tree.specs.Tree.{Word}
@@ -15,7 +16,9 @@ use Rattle.rebind_rules.proofs.WholeLaws.{insides_told}
 use Rattle.rebind_rules.proofs.walk.Walk.inside.Goals as goal
 
 pub returns : goal.returns
-returns c = λ b.
+returns c =
+    on_ok_weaker c.main.result
+    (λ a b.
     insides_told c.args.sights.now c.args.pool.now c.args.algorithm.now c.args.calls.now b c.args.self.now c.starts.new.self c.macros.new.self c.procedures.new.self c.main.new.self c.macros.new.calls
     (subst (λ (es : List Declaration). Adds c.args.sights.now.near any_name c.args.self.now c.starts.new.self (λ ms r. starts_rebind ms any_name (declarations_at c.args.pool.now es) r)) c.deref.ensures.value (c.in_ok-starts.ensures any_name))
     (subst
@@ -24,4 +27,4 @@ returns c = λ b.
     (subst
     (λ (ds : List memory.Procedure). (C : List Word → Calls) (qs : List Procedure) → KnowsCalls c.args.sights.now.near c.macros.new.calls C qs
     → Adds c.args.sights.now.near any_name c.macros.new.self c.procedures.new.self (λ ms r. flat_map (procedure_rebinds ms qs (C ms) r) (map (procedure_at c.args.pool.now) ds))) c.deref-3.ensures.value c.in_ok-procedures.ensures)
-    c.in_ok-main.ensures
+    a) c.main.ensures

@@ -1,34 +1,26 @@
 -- Proves that macros are gone through.
-use Rattle.std.proofs.Common.{◌≡◌, List, map, reverse, refl, subst, arith}
+use Rattle.std.proofs.Common.{List, map, reverse, subst, arith}
 use Rattle.std.proofs.lemmas.List.{take_all}
-use Rattle.indexmap.specs.IndexMap.{insert_entry}
-use Rattle.tla_tree.specs.Tree.{Word}
 use Rattle.tla_tree.proofs.PoolNumbers.{past_at}
-use Rattle.algorithm_limits.proofs.Tables.{equal}
 use Rattle.pcal_tree.specs.declared.algorithm.Macro.{Macro}
 use Rattle.pcal_tree.specs.Algorithm as tree
 use Rattle.pcal_tree.specs.InMemory.{macro_at, past_macro}
-use Rattle.rebind_rules.specs.declared.kept.Calls.{Calls}
 use Rattle.rebind_rules.specs.Macros.{macro_names, MacrosAt}
 use Rattle.rebind_rules.proofs.MacroLaws.{macro_step, one_within, macros_taken}
 use Rattle.rebind_rules.proofs.walk.Walk.macros.Goals as goal
 
-pub macro_kept-requires : goal.macro_kept-requires
-macro_kept-requires c =
+pub one_macro-requires : goal.one_macro-requires
+one_macro-requires c =
     let less = past_at past_macro c.args.list.now c.loop-i.i c.index-list-i.result c.index-list-i.is c.loop-i-test.true in omega (arith, less, c.requires)
 
 pub loop-i-preserved : goal.loop-i-preserved
 loop-i-preserved c = λ ps h m.
     let ts = c.args.pool.now in
     let d = c.index-list-i.result in
-    let old = c.loop-i.calls.macros.kept.entries in
-    let new = c.add.new.self.kept.entries in
-    let next : Calls = record { alloc = c.loop-i.calls.alloc; macros = c.add.new.self; procedures = c.loop-i.calls.procedures } in
-    subst (λ (ds : List tree.Macro). MacrosAt c.args.near.now c.args.far.now ps c.args.self.now c.text.new.self c.args.calls.now next ds) (macros_taken ts c.args.list.now c.loop-i.i d c.index-list-i.is c.loop-i-test.true)
-    (macro_step c.args.near.now c.args.far.now ps c.args.self.now c.loop-i.self c.text.new.self c.args.calls.now c.loop-i.calls next (macro_names c.args.list.now) _ (macro_at ts d) c.in_ok-kept.kept h
-    (one_within c.args.far.now.stands c.args.list.now c.loop-i.i d c.index-list-i.is c.loop-i-test.true h.within) c.in_ok-kept.ensures.params c.in_ok-kept.ensures.tells c.in_ok-text.ensures
-    (subst (λ (e : Macro). new ≡ insert_entry equal old e.name.word c.in_ok-kept.kept) c.one.view_is (subst (λ (w : Word). new ≡ insert_entry equal old w c.in_ok-kept.kept) c.in_ok-copied.ensures c.in_ok-add.ensures)) refl
-    (c.loop-i.invariant ps h m))
+    let n = c.in_ok-one_macro.ensures in
+    subst (λ (ds : List tree.Macro). MacrosAt c.args.near.now c.args.far.now ps c.args.self.now c.one_macro.new.self c.args.calls.now c.one_macro.new.calls ds) (macros_taken ts c.args.list.now c.loop-i.i d c.index-list-i.is c.loop-i-test.true)
+    (macro_step c.args.near.now c.args.far.now ps c.args.self.now c.loop-i.self c.one_macro.new.self c.args.calls.now c.loop-i.calls c.one_macro.new.calls (macro_names c.args.list.now) _ (macro_at ts d) n.kept h
+    (one_within c.args.far.now.stands c.args.list.now c.loop-i.i d c.index-list-i.is c.loop-i-test.true h.within) n.params n.tells n.text n.puts n.procedures n.process (c.loop-i.invariant ps h m))
 
 pub returns : goal.returns
 returns c = λ ps h m.

@@ -1,15 +1,18 @@
 -- Proves that a name that is bound is looked at.
-use Rattle.std.proofs.Common.{subst}
-use Rattle.tla_tree.specs.Tree.{Word, Name}
+use Rattle.std.proofs.lemmas.Result.{on_ok_weaker}
+use Rattle.std.proofs.Common.{sym, ◌∙◌, subst}
+use Rattle.tla_tree.specs.Tree.{Name}
 use Rattle.pcal_tree.specs.OffencesRebind.{rebound}
 use Rattle.rebind_rules.specs.Telling.{Gains, Adds}
 use Rattle.rebind_rules.proofs.LeafLaws.{name_adds}
 use Rattle.rebind_rules.proofs.walk.Walk.name.Goals as goal
 
 pub returns : goal.returns
-returns c = λ K.
+returns c =
+    on_ok_weaker c.keep.result
+    (λ a K.
     let g = c.args.sight.now in
     let n : Name = record { word = c.name.inside.name; place = c.name.inside.place } in
     subst (λ (n : Name). Adds g K c.args.self.now c.keep.new.self (λ ms r. rebound ms r n)) c.name.view_is
     (name_adds g K c.args.self.now c.offence.new.self c.keep.new.self n c.has-bound.result c.rebinds.result c.has-bound.ensures c.rebinds.ensures c.offence.ensures
-    (subst (λ (w : Word). Gains c.offence.new.self c.keep.new.self (λ ms s. rebound ms s (record { word = w; place = c.name.inside.place }))) c.in_ok-copied.ensures c.in_ok-keep.ensures))
+    (subst (λ (m : Name). Gains c.offence.new.self c.keep.new.self (λ ms s. rebound ms s m)) (c.in_ok-copied.ensures ∙ sym c.name.view_is) a))) c.keep.ensures

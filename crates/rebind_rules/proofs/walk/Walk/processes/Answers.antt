@@ -1,24 +1,46 @@
 -- Proves that processes are looked at.
-use Rattle.std.proofs.Common.{arith}
+use Rattle.std.proofs.Common.{ℕ, List, [], ◌++◌, take, refl, ap, ◌∙◌, subst, arith}
 use Rattle.tla_tree.proofs.PoolNumbers.{past_at}
+use Rattle.pcal_tree.specs.declared.algorithm.Declaration.{Declaration}
 use Rattle.pcal_tree.specs.declared.algorithm.Process.{Process}
-use Rattle.pcal_tree.specs.InMemory.{process_at, past_process}
-use Rattle.pcal_tree.specs.OffencesRebind.{any_name, process_rebinds}
+use Rattle.pcal_tree.specs.InMemory.{declarations_at, process_at, past_declarations, past_process}
+use Rattle.pcal_tree.specs.OffencesRebind.{any_name, locals_rebind, process_rebinds}
+use Rattle.rebind_rules.specs.declared.walk.Walk.{Walk}
+use Rattle.rebind_rules.specs.Telling.{AddsNaming}
 use Rattle.rebind_rules.proofs.TellLaws.{adds_as, list_then, list_done, flat_mapped}
+use Rattle.rebind_rules.proofs.UnitLaws.{LocalWords}
+use Rattle.rebind_rules.proofs.ProcessLaws.{process_adds}
 use Rattle.rebind_rules.proofs.walk.Walk.processes.Goals as goal
 
 pub loop-i-init : goal.loop-i-init
 loop-i-init c = λ C ps s h o k g. g
 
-pub process-requires : goal.process-requires
-process-requires c =
+pub expr-requires : goal.expr-requires
+expr-requires c =
+    let less = past_at past_process c.args.list.now c.loop-i.i c.index-list-i.result c.index-list-i.is c.loop-i-test.true in omega (arith, less, c.requires)
+
+pub locals-requires : goal.locals-requires
+locals-requires c =
+    let less = past_at past_process c.args.list.now c.loop-i.i c.index-list-i.result c.index-list-i.is c.loop-i-test.true in record {
+      params = omega (arith);
+      variables = omega (arith, less, ap past_declarations c.deref.ensures.value, c.requires);
+    }
+
+pub process_body-requires : goal.process_body-requires
+process_body-requires c =
     let less = past_at past_process c.args.list.now c.loop-i.i c.index-list-i.result c.index-list-i.is c.loop-i-test.true in omega (arith, less, c.requires)
 
 pub loop-i-preserved : goal.loop-i-preserved
 loop-i-preserved c = λ C ps s h o k g.
+    let ts = c.args.pool.now in
+    let near = c.args.near.now in
+    let p = c.index-list-i.result in
+    let last : Walk = record { bound = c.truncate.new.self; first = c.process_body.new.self.first; free = c.process_body.new.self.free } in
     c.loop-i.invariant C ps s h o k
-    (list_then c.args.near.now any_name (λ (p : Process) ms r. process_rebinds ms ps (C ms) r (process_at c.args.pool.now p)) c.loop-i.self c.process.new.self k c.args.list.now c.loop-i.i c.index-list-i.result c.index-list-i.is c.loop-i-test.true
-    (c.in_ok-process.ensures C ps s h o) g)
+    (list_then near any_name (λ (p : Process) ms r. process_rebinds ms ps (C ms) r (process_at ts p)) c.loop-i.self last k c.args.list.now c.loop-i.i p c.index-list-i.is c.loop-i-test.true
+    (process_adds near C ps ts p c.loop-i.self c.expr.new.self c.locals.new.self c.process_body.new.self last s.alone (c.in_ok-expr.ensures any_name)
+    (subst (λ (ds : List Declaration). AddsNaming near any_name c.expr.new.self c.locals.new.self (LocalWords [] ds) (λ ms r. locals_rebind ms (declarations_at ts [] ++ declarations_at ts ds) r)) c.deref.ensures.value c.in_ok-locals.ensures)
+    (c.in_ok-process_body.ensures C ps s h o) refl refl (c.truncate.ensures ∙ ap (λ (k : ℕ). take k c.process_body.new.self.bound) c.len-around.ensures)) g)
 
 pub returns : goal.returns
 returns c = λ C ps s h o.

@@ -1,5 +1,6 @@
 -- Proves that statements are looked at, in the order of the text.
 use Rattle.std.proofs.Common.{ℕ, List, Vec, Global, take, refl, sym, ap, subst, ◌∙◌, arith}
+use Rattle.std.proofs.lemmas.Result.{on_ok_weaker}
 use Rattle.tla_tree.proofs.PoolNumbers.{past_at}
 use Rattle.pcal_tree.specs.declared.algorithm.Bind.{Bind}
 use Rattle.pcal_tree.specs.declared.algorithm.Stmt.{Stmt}
@@ -10,7 +11,7 @@ use Rattle.pcal_tree.proofs.StatementHeights.{height, heights, branch_heights, e
 use Rattle.use_rules.specs.declared.found.Found.{Found}
 use Rattle.use_rules.specs.Finding.{Tells}
 use Rattle.use_rules.specs.Walking.{TellsBinds, TellsStmt}
-use Rattle.use_rules.proofs.BodyLaws.{label_tells, if_tells, either_tells, with_tells, while_tells, body_then, body_done, branches_then, branches_over}
+use Rattle.use_rules.proofs.BodyLaws.{label_tells, simple_tells, if_tells, either_tells, with_tells, while_tells, body_then, body_done, branches_then, branches_over}
 use Rattle.use_rules.proofs.found.Found.+bodies.Goals as goal
 
 pub body-loop-stmt-init : goal.body-loop-stmt-init
@@ -57,20 +58,31 @@ pub stmt-returns-in-Label : goal.stmt-returns-in-Label
 stmt-returns-in-Label t c = λ C ps m.
     subst (λ (z : Stmt). TellsStmt C ps c.args.pool.now z c.args.self.now c.args.self.now) (sym c.in-Label.is) (label_tells C ps c.args.pool.now c.args.self.now c.in-Label.field-0 c.in-Label.field-1)
 
-pub stmt-returns-in_ok-body-in-If-2 : goal.stmt-returns-in_ok-body-in-If-2
-stmt-returns-in_ok-body-in-If-2 t c = λ C ps m.
+pub stmt-returns-in-Simple : goal.stmt-returns-in-Simple
+stmt-returns-in-Simple t c =
+    on_ok_weaker c.simple.result
+    (λ a C ps m.
+    subst (λ (z : Stmt). TellsStmt C ps c.args.pool.now z c.args.self.now c.simple.new.self) (sym c.in-Simple.is)
+    (simple_tells C ps c.args.pool.now c.args.self.now c.simple.new.self c.in-Simple.span c.in-Simple.simple (a C ps m))) c.simple.ensures
+
+pub stmt-returns-in_ok-body-in-If : goal.stmt-returns-in_ok-body-in-If
+stmt-returns-in_ok-body-in-If t c =
+    on_ok_weaker c.body-in-If.result
+    (λ a C ps m.
     let ts = c.args.pool.now in
     subst (λ (z : Stmt). TellsStmt C ps ts z c.args.self.now c.body-in-If.new.self) (sym c.in-If.is)
     (if_tells C ps ts c.args.self.now c.expr.new.self c.body.new.self c.body-in-If.new.self c.in-If.field-0 c.in-If.e c.in-If.then c.in-If.otherwise c.in_ok-expr-in-If.ensures
     (subst (λ (ys : List Stmt). Tells c.expr.new.self c.body.new.self (in_body C ps (statements_at ts ys))) c.deref.ensures.value (c.in_ok-body-in-If.ensures C ps m))
-    (subst (λ (ys : List Stmt). Tells c.body.new.self c.body-in-If.new.self (in_body C ps (statements_at ts ys))) c.deref-in-If.ensures.value (c.in_ok-body-in-If-2.ensures C ps m)))
+    (subst (λ (ys : List Stmt). Tells c.body.new.self c.body-in-If.new.self (in_body C ps (statements_at ts ys))) c.deref-in-If.ensures.value (a C ps m)))) c.body-in-If.ensures
 
-pub stmt-returns-in_ok-branches-in-Either : goal.stmt-returns-in_ok-branches-in-Either
-stmt-returns-in_ok-branches-in-Either t c = λ C ps m.
+pub stmt-returns-in-Either : goal.stmt-returns-in-Either
+stmt-returns-in-Either t c =
+    on_ok_weaker c.branches.result
+    (λ a C ps m.
     let ts = c.args.pool.now in
     subst (λ (z : Stmt). TellsStmt C ps ts z c.args.self.now c.branches.new.self) (sym c.in-Either.is)
     (either_tells C ps ts c.args.self.now c.branches.new.self c.in-Either.field-0 c.in-Either.list
-    (subst (λ (ys : List (Vec Stmt Global)). Tells c.args.self.now c.branches.new.self (in_branches C ps (branches_at ts ys))) c.deref-in-Either.ensures.value (c.in_ok-branches-in-Either.ensures C ps m)))
+    (subst (λ (ys : List (Vec Stmt Global)). Tells c.args.self.now c.branches.new.self (in_branches C ps (branches_at ts ys))) c.deref-in-Either.ensures.value (a C ps m)))) c.branches.ensures
 
 pub stmt-returns-in_ok-body-in-With : goal.stmt-returns-in_ok-body-in-With
 stmt-returns-in_ok-body-in-With t c = λ C ps m.
@@ -82,9 +94,11 @@ stmt-returns-in_ok-body-in-With t c = λ C ps m.
     (subst (λ (ys : List Stmt). Tells c.binds.new.self c.body-in-With.new.self (in_body C ps (statements_at ts ys))) c.deref-in-With-2.ensures.value (c.in_ok-body-in-With.ensures C ps m))
     refl refl (c.truncate.ensures ∙ ap (λ (k : ℕ). take k c.body-in-With.new.self.bound) c.len-around.ensures))
 
-pub stmt-returns-in_ok-body-in-While : goal.stmt-returns-in_ok-body-in-While
-stmt-returns-in_ok-body-in-While t c = λ C ps m.
+pub stmt-returns-in_ok-expr-in-While : goal.stmt-returns-in_ok-expr-in-While
+stmt-returns-in_ok-expr-in-While t c =
+    on_ok_weaker c.body-in-While.result
+    (λ a C ps m.
     let ts = c.args.pool.now in
     subst (λ (z : Stmt). TellsStmt C ps ts z c.args.self.now c.body-in-While.new.self) (sym c.in-While.is)
     (while_tells C ps ts c.args.self.now c.expr-in-While.new.self c.body-in-While.new.self c.in-While.field-0 c.in-While.e c.in-While.body c.in_ok-expr-in-While.ensures
-    (subst (λ (ys : List Stmt). Tells c.expr-in-While.new.self c.body-in-While.new.self (in_body C ps (statements_at ts ys))) c.deref-in-While.ensures.value (c.in_ok-body-in-While.ensures C ps m)))
+    (subst (λ (ys : List Stmt). Tells c.expr-in-While.new.self c.body-in-While.new.self (in_body C ps (statements_at ts ys))) c.deref-in-While.ensures.value (a C ps m)))) c.body-in-While.ensures
