@@ -5,15 +5,18 @@ use Rattle.std.specs.List.{list_any}
 use Rattle.std.specs.Map.{lookup}
 use Rattle.std.proofs.lemmas.Bool.{and_parts}
 use Rattle.std.proofs.lemmas.List.{take_more, take_all, map-append}
+use Rattle.std.proofs.lemmas.List.Elements.{filter-append}
 use Rattle.std.proofs.lemmas.Option.{get_or_from_slice_get}
 use Rattle.std.proofs.lemmas.List.Folds.{list_any-append}
 use Rattle.std.proofs.lemmas.Grind.{flat_map-append}
 use Rattle.std.proofs.Math.Bool.{or-false}
 use Rattle.indexmap.specs.IndexMap.{insert_entry}
 use Rattle.algorithm_limits.proofs.Tables.{equal, equal_is}
-use Rattle.pcal_tree.specs.laws.MacroSpots.{Use, Origin, earlier, assigned, Seen, Called, on_trail}
-use Rattle.pcal_tree.proofs.SetLaws.{Sound, any_flat}
-use Rattle.pcal_tree.proofs.SpotCalls.{LikeTrail, passes, SeenLike}
+use Rattle.tla_tree.specs.Tree.{Word}
+use Rattle.pcal_tree.specs.Algorithm.{Name}
+use Rattle.pcal_tree.specs.laws.MacroSpots.{Use, name_used, Origin, earlier, assigned, Trail, Seen, Called, on_trail}
+use Rattle.pcal_tree.proofs.SetLaws.{Sound, any_flat, any_none, any_same}
+use Rattle.pcal_tree.proofs.SpotCalls.{LikeTrail, met, passes, SeenLike}
 use Rattle.stale_rules.specs.declared.assigned.Assigned.{Assigned}
 use Rattle.stale_rules.specs.declared.once.Key.{Key}
 use Rattle.stale_rules.specs.declared.uses.Kind.{Kind}
@@ -23,9 +26,12 @@ use Rattle.stale_rules.specs.declared.walk.Group.{Group}
 use Rattle.stale_rules.specs.declared.walk.Walk.{Walk}
 use Rattle.stale_rules.specs.Joins.{Joins}
 use Rattle.stale_rules.specs.OnceIn.{Entry, entry_seen, entries_seen, key_use, Keeps}
+use Rattle.stale_rules.specs.Pruned.{only, pruned}
 use Rattle.stale_rules.specs.SeenIn.{group_seen, seen_of, IsWay}
 use Rattle.stale_rules.specs.Sets.{origins, trail_of}
 use Rattle.stale_rules.specs.UsesIn.{use_of, uses_of}
+use Rattle.stale_rules.proofs.ReadLaws.{any_filter}
+use Rattle.stale_rules.proofs.RefusalLaws.{name_kept}
 use Rattle.stale_rules.proofs.WalkLaws.{seen_append}
 use Rattle.stale_rules.specs.contracts.uses.KindPartialEq.TheImpl.{eq-value as kinds}
 use Rattle.stale_rules.specs.contracts.once.KeyPartialEq.TheImpl.{eq-value as same}
@@ -133,6 +139,11 @@ keeps_known es fs k n m v a w u e names before j l there is =
     same_some : (x y : Assigned) → Some x ≡ Some y → x ≡ y
     same_some x y h = cc
 
+-- ---- uses that may matter
+
+used_name : (T : Word → Bool) (u : memory.Use) → T (name_used (use_of u)).word ≡ T u.name.word
+used_name T u = ap (λ (n : Name). T n.word) (name_kept u.kind u.name)
+
 -- ---- one after another
 
 pub keeps_none : (es : List Entry) → Keeps es es []
@@ -145,28 +156,42 @@ keeps_then a b c ss rs h k K =
 keeps_as : (a b : List Entry) (ss rs : List Seen) → ss ≡ rs → Keeps a b ss → Keeps a b rs
 keeps_as a b ss rs e h = subst (λ (us : List Seen). Keeps a b us) e h
 
-pub uses_more : (os : List Origin) (old now new : List Entry) (us : List memory.Use) (i : ℕ) (u : memory.Use) → u ≡ get_or us i u → i < length us
-    → Keeps old now (on_trail (Some os) (uses_of (take i us))) → Keeps now new (on_trail (Some os) (use_of u ∷ [])) → Keeps old new (on_trail (Some os) (uses_of (take (i + 1) us)))
-uses_more os old now new us i u e l h k =
-    keeps_as old new _ _
-    (sym (ap (λ (vs : List memory.Use). on_trail (Some os) (uses_of vs)) (take_more us i u l ∙ ap (λ (z : memory.Use). take i us ++ z ∷ []) (sym e))
-    ∙ ap (on_trail (Some os)) (map-append use_of (take i us) (u ∷ [])) ∙ map-append (λ x. record { use_of = x; trail = Some os }) (uses_of (take i us)) (use_of u ∷ [])))
-    (keeps_then old now new (on_trail (Some os) (uses_of (take i us))) (on_trail (Some os) (use_of u ∷ [])) h k)
+pub keeps_skipped : (T : Word → Bool) (es : List Entry) (q : Trail) (u : memory.Use) → T u.name.word ≡ false → Keeps es es (only T (on_trail q (use_of u ∷ [])))
+keeps_skipped T es q u e = keeps_as es es [] (only T (on_trail q (use_of u ∷ []))) (λ i. cond (sym (used_name T u ∙ e) i) (record { use_of = use_of u; trail = q } ∷ []) []) (keeps_none es)
 
-pub uses_all : (os : List Origin) (old new : List Entry) (us : List memory.Use) (i : ℕ) → length us ≤ i → Keeps old new (on_trail (Some os) (uses_of (take i us))) → Keeps old new (on_trail (Some os) (uses_of us))
-uses_all os old new us i l h = keeps_as old new _ _ (ap (λ (vs : List memory.Use). on_trail (Some os) (uses_of vs)) (take_all i us l)) h
+pub keeps_wanted : (T : Word → Bool) (es fs : List Entry) (q : Trail) (u : memory.Use) → T u.name.word ≡ true → Keeps es fs (on_trail q (use_of u ∷ [])) → Keeps es fs (only T (on_trail q (use_of u ∷ [])))
+keeps_wanted T es fs q u e h =
+    keeps_as es fs (on_trail q (use_of u ∷ [])) (only T (on_trail q (use_of u ∷ []))) (λ i. cond (sym (used_name T u ∙ e) i) (record { use_of = use_of u; trail = q } ∷ []) []) h
+
+only_two : (T : Word → Bool) (xs ys : List Seen) → only T (xs ++ ys) ≡ only T xs ++ only T ys
+only_two T xs ys = filter-append (λ (s : Seen). T (name_used s.use_of).word) xs ys
+
+pub uses_more : (T : Word → Bool) (os : List Origin) (old now new : List Entry) (us : List memory.Use) (i : ℕ) (u : memory.Use) → u ≡ get_or us i u → i < length us
+    → Keeps old now (only T (on_trail (Some os) (uses_of (take i us)))) → Keeps now new (only T (on_trail (Some os) (use_of u ∷ []))) → Keeps old new (only T (on_trail (Some os) (uses_of (take (i + 1) us))))
+uses_more T os old now new us i u e l h k =
+    keeps_as old new _ _
+    (sym (ap (λ (vs : List memory.Use). only T (on_trail (Some os) (uses_of vs))) (take_more us i u l ∙ ap (λ (z : memory.Use). take i us ++ z ∷ []) (sym e))
+    ∙ ap (λ (vs : List Use). only T (on_trail (Some os) vs)) (map-append use_of (take i us) (u ∷ []))
+    ∙ ap (only T) (map-append (λ x. record { use_of = x; trail = Some os }) (uses_of (take i us)) (use_of u ∷ []))
+    ∙ only_two T (on_trail (Some os) (uses_of (take i us))) (on_trail (Some os) (use_of u ∷ []))))
+    (keeps_then old now new (only T (on_trail (Some os) (uses_of (take i us)))) (only T (on_trail (Some os) (use_of u ∷ []))) h k)
+
+pub uses_all : (T : Word → Bool) (os : List Origin) (old new : List Entry) (us : List memory.Use) (i : ℕ) → length us ≤ i
+    → Keeps old new (only T (on_trail (Some os) (uses_of (take i us)))) → Keeps old new (only T (on_trail (Some os) (uses_of us)))
+uses_all T os old new us i l h = keeps_as old new _ _ (ap (λ (vs : List memory.Use). only T (on_trail (Some os) (uses_of vs))) (take_all i us l)) h
 
 one_group : (gs : List Group) (i : ℕ) (g : Group) → g ≡ get_or gs i g → i < length gs → seen_of (take (i + 1) gs) ≡ seen_of (take i gs) ++ group_seen g
 one_group gs i g e l =
     ap seen_of (take_more gs i g l ∙ ap (λ (z : Group). take i gs ++ z ∷ []) (sym e))
     ∙ flat_map-append group_seen (take i gs) (g ∷ []) ∙ ap (λ (ss : List Seen). seen_of (take i gs) ++ ss) (append-nil (group_seen g))
 
-pub kept_more : (old now new : List Entry) (gs : List Group) (i : ℕ) (g : Group) → g ≡ get_or gs i g → i < length gs
-    → Keeps old now (seen_of (take i gs)) → Keeps now new (group_seen g) → Keeps old new (seen_of (take (i + 1) gs))
-kept_more old now new gs i g e l h k = keeps_as old new _ _ (sym (one_group gs i g e l)) (keeps_then old now new (seen_of (take i gs)) (group_seen g) h k)
+pub kept_more : (T : Word → Bool) (old now new : List Entry) (gs : List Group) (i : ℕ) (g : Group) → g ≡ get_or gs i g → i < length gs
+    → Keeps old now (only T (seen_of (take i gs))) → Keeps now new (only T (group_seen g)) → Keeps old new (only T (seen_of (take (i + 1) gs)))
+kept_more T old now new gs i g e l h k =
+    keeps_as old new _ _ (sym (ap (only T) (one_group gs i g e l) ∙ only_two T (seen_of (take i gs)) (group_seen g))) (keeps_then old now new (only T (seen_of (take i gs))) (only T (group_seen g)) h k)
 
-pub kept_all : (old new : List Entry) (gs : List Group) (i : ℕ) → length gs ≤ i → Keeps old new (seen_of (take i gs)) → Keeps old new (seen_of gs)
-kept_all old new gs i l h = keeps_as old new _ _ (ap seen_of (take_all i gs l)) h
+pub kept_all : (T : Word → Bool) (old new : List Entry) (gs : List Group) (i : ℕ) → length gs ≤ i → Keeps old new (only T (seen_of (take i gs))) → Keeps old new (only T (seen_of gs))
+kept_all T old new gs i l h = keeps_as old new _ _ (ap (λ (hs : List Group). only T (seen_of hs)) (take_all i gs l)) h
 
 -- ---- as groups again
 
@@ -199,11 +224,30 @@ groups_more old new g es i n m less is one h = by (slice_get es i) refl
 pub groups_all : (gs : List Group) (es : List Entry) (i n : ℕ) → n ≡ length es → n ≤ i → SeenLike (seen_of gs) (entries_seen (take i es)) → SeenLike (seen_of gs) (entries_seen es)
 groups_all gs es i n m l h = subst (λ (fs : List Entry). SeenLike (seen_of gs) (entries_seen fs)) (take_all i es (omega (arith, m, l))) h
 
--- ---- a walk with each use once
+-- ---- a walk with each use once that may matter
 
-pub way_kept : (w r : Walk) (old new : List Entry) (c : Called) → old ≡ [] → Keeps old new (seen_of w.seen.items) → SeenLike (seen_of r.seen.items) (entries_seen new)
-    → r.labelled ≡ w.labelled → r.path ≡ w.path → IsWay w c → IsWay r c
-way_kept w r old new c e k s l p h = record {
+met_wanted : (T : Word → Bool) (K : Origin → Use → Bool) (q : Trail) (u : Use) → (T (name_used u).word && met K q u) ≡ met (λ o v. T (name_used v).word && K o v) q u
+met_wanted T K None u = by (T (name_used u).word)
+  where
+    by : (b : Bool) → (b && false) ≡ false
+    by true = refl
+    by false = refl
+met_wanted T K (Some os) u = by (T (name_used u).word)
+  where
+    by : (b : Bool) → (b && list_any (λ o. K o u) os) ≡ list_any (λ o. b && K o u) os
+    by true = refl
+    by false = sym (any_none (λ (o : Origin). false) (λ o. refl) os)
+
+only_like : (T : Word → Bool) (xs ys : List Seen) → SeenLike xs ys → SeenLike (only T xs) (only T ys)
+only_like T xs ys l K =
+    let p : Seen → Bool = λ s. T (name_used s.use_of).word in
+    let H : Origin → Use → Bool = λ o v. T (name_used v).word && K o v in
+    let e : (s : Seen) → (p s && passes K s) ≡ passes H s = λ s. met_wanted T K s.trail s.use_of in
+    any_filter (passes K) p xs ∙ any_same (λ s. p s && passes K s) (passes H) e xs ∙ l H ∙ sym (any_filter (passes K) p ys ∙ any_same (λ s. p s && passes K s) (passes H) e ys)
+
+pub way_kept : (T : Word → Bool) (w r : Walk) (old new : List Entry) (c : Called) → old ≡ [] → Keeps old new (only T (seen_of w.seen.items)) → SeenLike (seen_of r.seen.items) (entries_seen new)
+    → r.labelled ≡ w.labelled → r.path ≡ w.path → IsWay w c → IsWay r (pruned T c)
+way_kept T w r old new c e k s l p h = record {
   end = (l ∙ h.end.0, subst (λ (q : Option Assigned). LikeTrail (trail_of q) c.end.trail) (sym p) h.end.1);
-  seen = λ K. s K ∙ k K ∙ ap (λ (es : List Entry). list_any (passes K) (entries_seen es ++ seen_of w.seen.items)) e ∙ h.seen K;
+  seen = λ K. s K ∙ k K ∙ ap (λ (es : List Entry). list_any (passes K) (entries_seen es ++ only T (seen_of w.seen.items))) e ∙ only_like T (seen_of w.seen.items) c.seen h.seen K;
 }

@@ -63,10 +63,10 @@ put_trail_like ps ts os us e (Some xs) (Some ys) l = λ f.
 put_trail_like ps ts os us e None (Some ys) l = absurd l
 put_trail_like ps ts os us e (Some xs) None l = absurd l
 
-abbrev put_test : Put → (Origin → Use → Bool) → Origin → Use → Bool
+abbrev pub put_test : Put → (Origin → Use → Bool) → Origin → Use → Bool
 put_test P K o u = list_any (λ v. list_any (λ r. K r v) (put_origin P o)) (put_use P u)
 
-put_passes : (P : Put) (K : Origin → Use → Bool) (q : Trail) (u : Use) → list_any (passes K) (on_trail (put_trail P q) (put_use P u)) ≡ met (put_test P K) q u
+pub put_passes : (P : Put) (K : Origin → Use → Bool) (q : Trail) (u : Use) → list_any (passes K) (on_trail (put_trail P q) (put_use P u)) ≡ met (put_test P K) q u
 put_passes P K None u = any_map (passes K) (λ v. record { use_of = v; trail = None }) (put_use P u) ∙ any_none (λ v. false) (λ v. refl) (put_use P u)
 put_passes P K (Some os) u =
     any_map (passes K) (λ v. record { use_of = v; trail = Some (flat_map (put_origin P) os) }) (put_use P u)

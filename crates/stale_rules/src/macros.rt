@@ -4,15 +4,18 @@ ghost use Rattle.std.specs.Prelude.{◌≡◌, ◌≤◌, List, length, map, rev
 ghost use Rattle.tla_tree.specs.Nesting.{greatest};
 ghost use Rattle.pcal_tree.specs.Algorithm.{Procedure};
 ghost use Rattle.pcal_tree.specs.InMemory.{macro_at, past_macro};
-ghost use Rattle.pcal_tree.specs.laws.MacroSpots.{MacroSeen, macros_seen};
+ghost use Rattle.pcal_tree.specs.laws.MacroSpots.{MacroSeen};
 ghost use Rattle.stale_rules.specs.KnownIn.{IsSummary, Knows};
 ghost use Rattle.stale_rules.specs.MacrosIn.{macro_seen};
+ghost use Rattle.stale_rules.specs.Pruned.{macro_pruned, macros_pruned};
+ghost use Rattle.stale_rules.specs.WantedIn.{wants};
 ghost use Rattle.stale_rules.specs.StepsIn.{AreJumps};
 
 use crate::known::{Known, Summary};
 use crate::once::both_once;
 use crate::steps::Jump;
 use crate::walk::Ways;
+use crate::wanted::Wanted;
 use algorithm_limits::table::Table;
 use pcal_tree::algorithm::Macro;
 use std::alloc::{AllocError, Global};
@@ -32,9 +35,15 @@ fn copied_names(alloc: Global, names: &[PlacedName]) -> Result<Vec<PlacedName>, 
 
 // What is seen in a macro, by what is known of the older ones. Each use is kept once, so that what is kept doesn't grow with
 // the number of ways on which macros call a macro.
-fn summary(alloc: Global, pool: &Pool, known: &Known, one: &Macro) -> Result<Summary, AllocError>
+fn summary(
+    alloc: Global,
+    pool: &Pool,
+    wanted: &Wanted,
+    known: &Known,
+    one: &Macro,
+) -> Result<Summary, AllocError>
     requires { past_macro one.now ≤ length pool.now }
-    ensures { IfOk result (λ r. (ms : List MacroSeen) (ps : List Procedure) → Knows known.now ms ps → IsSummary r (macro_seen ps ms (macro_at pool.now one.now))) }
+    ensures { IfOk result (λ r. (ms : List MacroSeen) (ps : List Procedure) → Knows known.now ms ps → IsSummary r (macro_pruned (wants wanted.now) (macro_seen ps ms (macro_at pool.now one.now)))) }
 {
     let mut plain = Ways::new(alloc, false);
     known.body(alloc, pool, &mut plain, &one.body)?;
@@ -42,8 +51,8 @@ fn summary(alloc: Global, pool: &Pool, known: &Known, one: &Macro) -> Result<Sum
     known.body(alloc, pool, &mut labelled, &one.body)?;
     Ok(Summary {
         params: copied_names(alloc, &one.params)?,
-        plain: both_once(alloc, plain)?,
-        labelled: both_once(alloc, labelled)?,
+        plain: both_once(alloc, wanted, plain)?,
+        labelled: both_once(alloc, wanted, labelled)?,
     })
 }
 
@@ -55,11 +64,12 @@ fn summary(alloc: Global, pool: &Pool, known: &Known, one: &Macro) -> Result<Sum
 pub fn known_macros(
     alloc: Global,
     pool: &Pool,
+    wanted: &Wanted,
     macros: &[Macro],
     jumps: Vec<Jump>,
 ) -> Result<Known, AllocError>
     requires { greatest (map past_macro macros.now) ≤ length pool.now }
-    ensures { IfOk result (λ r. (ps : List Procedure) → AreJumps jumps.items ps → Knows r (macros_seen ps (reverse (map (macro_at pool.now) macros.now))) ps) }
+    ensures { IfOk result (λ r. (ps : List Procedure) → AreJumps jumps.items ps → Knows r (macros_pruned (wants wanted.now) ps (reverse (map (macro_at pool.now) macros.now))) ps) }
 {
     let mut known = Known {
         numbers: Table::new(alloc),
@@ -67,7 +77,7 @@ pub fn known_macros(
         jumps,
     };
     for one in macros {
-        let summary = summary(alloc, pool, &known, one)?;
+        let summary = summary(alloc, pool, wanted, &known, one)?;
         known.summaries.push(summary)?;
         let summaries = known.summaries.as_slice();
         let number = summaries.len();

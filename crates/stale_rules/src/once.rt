@@ -4,6 +4,8 @@ ghost use Rattle.std.specs.Prelude.{◌≡◌, ◌<◌, [], ◌∷◌, Some, len
 ghost use Rattle.pcal_tree.specs.laws.MacroSpots.{Called, on_trail};
 ghost use Rattle.pcal_tree.proofs.SpotCalls.{SeenLike};
 ghost use Rattle.stale_rules.specs.KnownIn.{AreWays};
+ghost use Rattle.stale_rules.specs.Pruned.{only, pruned};
+ghost use Rattle.stale_rules.specs.WantedIn.{wants};
 ghost use Rattle.stale_rules.specs.OnceIn.{Entry, entry_seen, entries_seen, key_use, Keeps};
 ghost use Rattle.stale_rules.specs.SeenIn.{group_seen, seen_of, IsWay};
 ghost use Rattle.stale_rules.specs.Sets.{origins};
@@ -12,6 +14,7 @@ ghost use Rattle.stale_rules.specs.UsesIn.{use_of, uses_of};
 use crate::assigned::Assigned;
 use crate::uses::{Kind, Use};
 use crate::walk::{Group, Walk, Ways};
+use crate::wanted::Wanted;
 use indexmap::IndexMap;
 use std::alloc::{AllocError, Global};
 use tla_token::Place;
@@ -101,22 +104,50 @@ impl Kept {
         }
     }
 
+    // The same, where its name may matter.
+    fn keep_wanted(
+        &mut self,
+        alloc: Global,
+        wanted: &Wanted,
+        one: &Use,
+        after: &Assigned,
+    ) -> Result<(), AllocError>
+        ensures { OnOk result (Keeps self.old.uses.entries self.new.uses.entries (only (wants wanted.now) (on_trail (Some (origins after.now)) (use_of one.now ∷ [])))) }
+    {
+        if !wanted.has(&one.name.name) {
+            return Ok(());
+        }
+        self.keep(alloc, one, after)?;
+        Ok(())
+    }
+
     // Uses that are on one path.
-    fn keep_uses(&mut self, alloc: Global, uses: &[Use], after: &Assigned) -> Result<(), AllocError>
-        ensures { OnOk result (Keeps self.old.uses.entries self.new.uses.entries (on_trail (Some (origins after.now)) (uses_of uses.now))) }
+    fn keep_uses(
+        &mut self,
+        alloc: Global,
+        wanted: &Wanted,
+        uses: &[Use],
+        after: &Assigned,
+    ) -> Result<(), AllocError>
+        ensures { OnOk result (Keeps self.old.uses.entries self.new.uses.entries (only (wants wanted.now) (on_trail (Some (origins after.now)) (uses_of uses.now)))) }
     {
         for one in uses {
-            self.keep(alloc, one, after)?;
+            self.keep_wanted(alloc, wanted, one, after)?;
         }
         Ok(())
     }
 
     // All that is seen.
-    fn keep_groups(&mut self, alloc: Global, groups: &[Group]) -> Result<(), AllocError>
-        ensures { OnOk result (Keeps self.old.uses.entries self.new.uses.entries (seen_of groups.now)) }
+    fn keep_groups(
+        &mut self,
+        alloc: Global,
+        wanted: &Wanted,
+        groups: &[Group],
+    ) -> Result<(), AllocError>
+        ensures { OnOk result (Keeps self.old.uses.entries self.new.uses.entries (only (wants wanted.now) (seen_of groups.now))) }
     {
         for group in groups {
-            self.keep_uses(alloc, &group.uses, &group.after)?;
+            self.keep_uses(alloc, wanted, &group.uses, &group.after)?;
         }
         Ok(())
     }
@@ -142,9 +173,9 @@ impl Kept {
     }
 }
 
-// The same walk with each use once.
-fn walk_once(alloc: Global, walk: Walk) -> Result<Walk, AllocError>
-    ensures { IfOk result (λ r. (c : Called) → IsWay walk c → IsWay r c) }
+// The same walk with each use once that may matter.
+fn walk_once(alloc: Global, wanted: &Wanted, walk: Walk) -> Result<Walk, AllocError>
+    ensures { IfOk result (λ r. (c : Called) → IsWay walk c → IsWay r (pruned (wants wanted.now) c)) }
 {
     let Walk {
         seen,
@@ -152,7 +183,7 @@ fn walk_once(alloc: Global, walk: Walk) -> Result<Walk, AllocError>
         path,
     } = walk;
     let mut kept = Kept::new(alloc);
-    kept.keep_groups(alloc, &seen)?;
+    kept.keep_groups(alloc, wanted, &seen)?;
     Ok(Walk {
         seen: kept.groups(alloc)?,
         labelled,
@@ -160,17 +191,17 @@ fn walk_once(alloc: Global, walk: Walk) -> Result<Walk, AllocError>
     })
 }
 
-/// The same with each use once, on a path that has assigned what some path to it has.
+/// The same with each use once that may matter, on a path that has assigned what some path to it has.
 ///
 /// # Errors
 ///
 /// Only for want of memory.
-pub fn both_once(alloc: Global, ways: Ways) -> Result<Ways, AllocError>
-    ensures { IfOk result (λ r. (a b : Called) → AreWays ways a b → AreWays r a b) }
+pub fn both_once(alloc: Global, wanted: &Wanted, ways: Ways) -> Result<Ways, AllocError>
+    ensures { IfOk result (λ r. (a b : Called) → AreWays ways a b → AreWays r (pruned (wants wanted.now) a) (pruned (wants wanted.now) b)) }
 {
     let Ways { unreached, reached } = ways;
     Ok(Ways {
-        unreached: walk_once(alloc, unreached)?,
-        reached: walk_once(alloc, reached)?,
+        unreached: walk_once(alloc, wanted, unreached)?,
+        reached: walk_once(alloc, wanted, reached)?,
     })
 }

@@ -10,6 +10,7 @@ use crate::definitions::{all_reads, global_names};
 use crate::jumps::jumps;
 use crate::macros::known_macros;
 use crate::routines::{of_main, of_procedures};
+use crate::wanted::{Wanted, macro_names};
 use algorithm_limits::order::least;
 use pcal_tree::algorithm::Algorithm;
 use std::alloc::{AllocError, Global};
@@ -32,9 +33,11 @@ pub fn stale_refusal(
 {
     let globals = global_names(alloc, &algorithm.globals)?;
     let reads = all_reads(alloc, pool, &globals, &algorithm.definitions)?;
+    let names = macro_names(alloc, &algorithm.macros)?;
+    let wanted = Wanted { reads, names };
     let jumps = jumps(alloc, pool, &algorithm.procedures)?;
-    let known = known_macros(alloc, pool, &algorithm.macros, jumps)?;
-    let procedures = of_procedures(alloc, pool, &known, &reads, &algorithm.procedures)?;
-    let main = of_main(alloc, pool, &known, &reads, &algorithm.main)?;
+    let known = known_macros(alloc, pool, &wanted, &algorithm.macros, jumps)?;
+    let procedures = of_procedures(alloc, pool, &known, &wanted.reads, &algorithm.procedures)?;
+    let main = of_main(alloc, pool, &known, &wanted.reads, &algorithm.main)?;
     Ok(least(procedures, main))
 }
