@@ -127,7 +127,7 @@ plain_goes S ps ts p x s old new e d w = (plain_walks S ps ts p x s old.unreache
 branch_forks : (f : Going) (old one two new : Walk) (start before after : Option Assigned) → Moves old one start → Walks one two f → JoinsEnd two new before after → Forks old new start before after (λ q. f (unlabelled q))
 branch_forks f old one two new start before after m w j q l =
     let z = unlabelled q in
-    let k = like_then (trail_of one.path) (trail_of start) q m.path l in
+    let k = subst (λ (p : Option Assigned). LikeTrail (trail_of p) q) (sym m.path) l in
     let u = w z (m.labelled, k) in (
       like_then (trail_of after) (joined (trail_of before) (trail_of two.path)) (joined (trail_of before) (f z).end.trail) j.path
           (like_joined (trail_of before) (trail_of before) (trail_of two.path) (f z).end.trail (like_itself (trail_of before)) u.0.1),
@@ -194,7 +194,7 @@ forks_walk us f old mid two three new start after w e s h m z l =
     let k = subst (λ (t : Trail). LikeTrail (trail_of mid.path) t) (idle z.trail) u.0.1 in
     let v = h z.trail (subst (λ (p : Option Assigned). LikeTrail (trail_of p) z.trail) (sym e) k) in
     let more = (f z.trail).seen in (
-      (m.labelled, like_then (trail_of new.path) (trail_of after) (f z.trail).end.trail m.path v.0),
+      (m.labelled, subst (λ (p : Option Assigned). LikeTrail (trail_of p) (f z.trail).end.trail) (sym m.path) v.0),
       λ K.
           ap (λ (gs : List Group). list_any (passes K) (seen_of gs)) m.seen ∙ v.1 K ∙ ap (λ (gs : List Group). list_any (passes K) (seen_of gs ++ more)) s
           ∙ seen_append (seen_of mid.seen.items) more (seen_of old.seen.items ++ on_trail z.trail us) more u.1 (λ K. refl) K

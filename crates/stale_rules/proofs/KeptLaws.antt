@@ -100,41 +100,34 @@ keeps_put es k v ss some none K =
     ∙ ap (λ (b : Bool). b || list_any (passes K) ss) (sym (any_flat (passes K) entry_seen es))
     ∙ sym (list_any-append (passes K) (entries_seen es) ss)
 
-none_before : (f : Origin → Bool) (n : Assigned) → n.names ≡ [] → n.earlier ≡ false → list_any f (origins n) ≡ false
-none_before f n e k i = list_any f (cond (k i) (earlier ∷ []) [] ++ map assigned (e i))
-
 some≢none : {X : Type 0} (x : X) (o : Option X) → o ≡ Some x → o ≡ None → ⊥
 some≢none x o e h = cc
 
-pub keeps_new : (es fs : List Entry) (k : Key) (n v a : Assigned) (u : Use) → key_use k ≡ u → n.names ≡ [] → n.earlier ≡ false → Joins (origins n) (origins v) (origins a)
-    → lookup (same.it k) es ≡ None → fs ≡ insert_entry same.it es k v → Keeps es fs (on_trail (Some (origins a)) (u ∷ []))
-keeps_new es fs k n v a u e names before j absent is =
+pub keeps_new : (es fs : List Entry) (k : Key) (v a : Assigned) (u : Use) → key_use k ≡ u → v ≡ a → lookup (same.it k) es ≡ None → fs ≡ insert_entry same.it es k v
+    → Keeps es fs (on_trail (Some (origins a)) (u ∷ []))
+keeps_new es fs k v a u e same_path absent is =
     subst (λ (gs : List Entry). Keeps es gs (on_trail (Some (origins a)) (u ∷ []))) (sym is)
     (keeps_put es k v (on_trail (Some (origins a)) (u ∷ []))
     (λ K w h. absurd (some≢none w (lookup (same.it k) es) h absent))
-    (λ K h. (λ i. (j (λ o. K o (key_use k)) ∙ ap (λ (b : Bool). b || list_any (λ o. K o (key_use k)) (origins a)) (none_before (λ o. K o (key_use k)) n names before)) i || false)
-    ∙ ap (λ (x : Use). list_any (λ o. K o x) (origins a) || false) e))
+    (λ K h i. list_any (λ o. K o (e i)) (origins (same_path i)) || false))
 
-pub keeps_known : (es fs : List Entry) (k : Key) (n m v a w : Assigned) (u : Use) → key_use k ≡ u → n.names ≡ [] → n.earlier ≡ false
-    → Joins (origins n) (origins m) (origins a) → Joins (origins m) (origins v) (origins w)
+pub keeps_known : (es fs : List Entry) (k : Key) (n v a w : Assigned) (u : Use) → key_use k ≡ u → n ≡ w → Joins (origins n) (origins v) (origins a)
     → lookup (same.it k) es ≡ Some w → fs ≡ insert_entry same.it es k v → Keeps es fs (on_trail (Some (origins a)) (u ∷ []))
-keeps_known es fs k n m v a w u e names before j l there is =
+keeps_known es fs k n v a w u e copy l there is =
     subst (λ (gs : List Entry). Keeps es gs (on_trail (Some (origins a)) (u ∷ []))) (sym is)
     (keeps_put es k v (on_trail (Some (origins a)) (u ∷ []))
     (λ K x h.
     let f : Origin → Bool = λ o. K o (key_use k) in
     or-false (list_any f (origins v)) ∙ l f
-    ∙ ap (λ (b : Bool). b || list_any f (origins w)) (j f ∙ ap (λ (b : Bool). b || list_any f (origins a)) (none_before f n names before))
-    ∙ turned (list_any f (origins a)) (list_any f (origins w))
-    ∙ ap (λ (y : Assigned). (list_any f (origins y) || false) || (list_any f (origins a) || false)) (same_some w x (sym there ∙ h))
+    ∙ ap (λ (y : Assigned). list_any f (origins y) || list_any f (origins a)) (copy ∙ same_some w x (sym there ∙ h))
+    ∙ each (list_any f (origins x)) (list_any f (origins a))
     ∙ ap (λ (y : Use). (list_any f (origins x) || false) || (list_any (λ o. K o y) (origins a) || false)) e)
     (λ K h. absurd (some≢none w (lookup (same.it k) es) there h)))
   where
-    turned : (b c : Bool) → (b || c) ≡ ((c || false) || (b || false))
-    turned true true = refl
-    turned true false = refl
-    turned false true = refl
-    turned false false = refl
+    each : (b c : Bool) → (b || c) ≡ ((b || false) || (c || false))
+    each true c = refl
+    each false true = refl
+    each false false = refl
 
     same_some : (x y : Assigned) → Some x ≡ Some y → x ≡ y
     same_some x y h = cc
@@ -194,6 +187,9 @@ pub kept_all : (T : Word → Bool) (old new : List Entry) (gs : List Group) (i :
 kept_all T old new gs i l h = keeps_as old new _ _ (ap (λ (hs : List Group). only T (seen_of hs)) (take_all i gs l)) h
 
 -- ---- as groups again
+
+pub key_group : (k : Key) (g : Group) (a : Assigned) (u : memory.Use) → g.uses.items ≡ u ∷ [] → use_of u ≡ key_use k → g.after ≡ a → SeenLike (group_seen g) (entry_seen (k, a))
+key_group k g a u e h s K = λ i. list_any (passes K) (on_trail (Some (origins (s i))) ((ap uses_of e ∙ ap (λ (v : Use). v ∷ []) h) i))
 
 pub groups_none : (gs : List Group) (es : List Entry) → gs ≡ [] → SeenLike (seen_of gs) (entries_seen (take 0 es))
 groups_none gs [] e K = ap (λ (hs : List Group). list_any (passes K) (seen_of hs)) e

@@ -21,12 +21,6 @@ like_turned (Some xs) (Some ys) l = λ f. sym (l f)
 like_turned None (Some ys) l = absurd l
 like_turned (Some xs) None l = absurd l
 
-pub like_none : LikeTrail (trail_of None) (trail_of None)
-like_none = tt
-
-pub like_copy : (n c a : Assigned) → n.names ≡ [] → n.earlier ≡ false → Joins (origins n) (origins c) (origins a) → LikeTrail (trail_of (Some c)) (trail_of (Some a))
-like_copy n c a e h j f = j f ∙ (λ i. list_any f (cond (h i) (earlier ∷ []) [] ++ map assigned (e i)) || list_any f (origins a))
-
 pub like_join : (a b c : Assigned) → Joins (origins a) (origins c) (origins b) → LikeTrail (trail_of (Some c)) (joined (trail_of (Some a)) (trail_of (Some b)))
 like_join a b c j f = j f ∙ sym (list_any-append f (origins a) (origins b))
 

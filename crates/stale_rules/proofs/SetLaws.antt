@@ -43,6 +43,14 @@ joins_one old x = by (list_any (equal x) old) refl
     by true e f = or_known (list_any f old) (f x) (has_one f x old e)
     by false e f = list_any-append f old (x ∷ [])
 
+-- one that is there already
+pub joins_had : (old : List Word) (x : Word) → list_any (equal x) old ≡ true → Joins old old (x ∷ [])
+joins_had old x e f = or_known (list_any f old) (f x) (has_one f x old e)
+
+-- one more than in a copy
+pub joins_after : (old copy new : List Word) (x : Word) → Joins [] copy old → Joins copy new (x ∷ []) → Joins old new (x ∷ [])
+joins_after old copy new x h k f = k f ∙ ap (λ (t : Bool). t || list_any f (x ∷ [])) (h f)
+
 -- ---- in loops
 
 pub names_more : (old now new xs : List Word) (i : ℕ) (x : Word) → x ≡ get_or xs i x → i < length xs → Joins old now (take i xs) → Joins now new (x ∷ []) → Joins old new (take (i + 1) xs)

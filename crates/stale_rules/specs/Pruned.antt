@@ -1,8 +1,8 @@
 -- Macros of which only those uses are kept that may matter.
 use Rattle.std.specs.Prelude.{List, [], ◌∷◌, Bool, filter}
 use Rattle.tla_tree.specs.Tree.{Word}
-use Rattle.pcal_tree.specs.Algorithm.{Macro, Procedure}
-use Rattle.pcal_tree.specs.laws.MacroSpots.{Seen, Called, MacroSeen, name_used}
+use Rattle.pcal_tree.specs.Algorithm.{Macro, Procedure, Statements}
+use Rattle.pcal_tree.specs.laws.MacroSpots.{At, Seen, Called, MacroSeen, name_used, once, seen_in_body, seen_in_call}
 use Rattle.stale_rules.specs.MacrosIn.{macro_seen}
 
 -- uses of names that pass a test
@@ -11,6 +11,10 @@ only T ss = filter (λ s. T (name_used s.use_of).word) ss
 
 abbrev pub pruned : (Word → Bool) → Called → Called
 pruned T c = record { seen = only T c.seen; end = c.end }
+
+-- in a macro's body, each use once
+abbrev pub kept_from : (Word → Bool) → List MacroSeen → List Procedure → Statements → At → Called
+kept_from T ms ps b z = pruned T (once (seen_in_body (seen_in_call ms) ps b z))
 
 abbrev pub macro_pruned : (Word → Bool) → MacroSeen → MacroSeen
 macro_pruned T d = record {

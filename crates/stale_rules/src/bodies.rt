@@ -103,7 +103,7 @@ impl Known {
         requires { past_statements body.now ≤ length pool.now }
         ensures { IfOk result (λ r. (ms : List MacroSeen) (ps : List Procedure) → Knows self.now ms ps → Branches ways.old ways.new start.now before r (λ q. seen_in_body (seen_in_call ms) ps (statements_at pool.now body.now) (unlabelled q))) }
     {
-        ways.restart(alloc, start)?;
+        ways.restart(start)?;
         self.body(alloc, pool, ways, body)?;
         let ends = ways.join_ends(before)?;
         Ok(ends)

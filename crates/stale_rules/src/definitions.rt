@@ -10,7 +10,7 @@ ghost use Rattle.pcal_tree.proofs.SetLaws.{Same};
 ghost use Rattle.read_rules.specs.NumbersIn.{declared_in};
 ghost use Rattle.stale_rules.specs.Joins.{Joins};
 ghost use Rattle.algorithm_limits.specs.Numbers.{number_of};
-ghost use Rattle.stale_rules.specs.ReadsIn.{AreReads, read_with, reads_all, reads_at};
+ghost use Rattle.stale_rules.specs.ReadsIn.{AreReads, HasRead, read_with, reads_all, reads_at};
 ghost use Rattle.stale_rules.specs.WantedIn.{has_some};
 
 use crate::names::Names;
@@ -146,6 +146,19 @@ fn variables_of(
     Ok(variables)
 }
 
+impl Reads {
+    // These are the variables that a definition reads; it is newer than the others.
+    fn add_definition(&mut self, name: &Name, variables: Names) -> Result<(), AllocError>
+        ensures { OnOk result (HasRead self.old self.new name.now variables) }
+    {
+        self.lists.push(variables)?;
+        let lists = self.lists.as_slice();
+        let number = lists.len();
+        self.numbers.set(name.copied()?, number)?;
+        Ok(())
+    }
+}
+
 /// The variables that definitions read, where these are the variables.
 ///
 /// # Errors
@@ -166,10 +179,7 @@ pub fn all_reads(
     };
     for definition in definitions {
         let variables = variables_of(alloc, pool, &reads, globals, definition)?;
-        reads.lists.push(variables)?;
-        let lists = reads.lists.as_slice();
-        let number = lists.len();
-        reads.numbers.set(definition.name.name.copied()?, number)?;
+        reads.add_definition(&definition.name.name, variables)?;
     }
     Ok(reads)
 }

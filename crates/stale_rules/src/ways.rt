@@ -147,11 +147,11 @@ impl Ways {
     /// # Errors
     ///
     /// Only for want of memory.
-    pub fn restart(&mut self, alloc: Global, start: &Paths) -> Result<(), AllocError>
+    pub fn restart(&mut self, start: &Paths) -> Result<(), AllocError>
         ensures { OnOk result (Restarts self.old self.new start.now) }
     {
-        self.unreached.path = copied(alloc, &start.unreached)?;
-        self.reached.path = copied(alloc, &start.reached)?;
+        self.unreached.path = copied(&start.unreached)?;
+        self.reached.path = copied(&start.reached)?;
         self.unreached.labelled = false;
         self.reached.labelled = false;
         Ok(())
