@@ -61,8 +61,9 @@ impl Known {
                 add_uses(&mut uses, pool, *e)?;
                 ways.pass_uses(alloc, pool, uses)?;
                 let start = ways.take_paths();
-                let first = self.fork(alloc, pool, ways, &start, Paths::none(), then)?;
-                let ends = self.fork(alloc, pool, ways, &start, first, otherwise)?;
+                let mut ends = Paths::none();
+                self.fork(alloc, pool, ways, &start, &mut ends, then)?;
+                self.fork(alloc, pool, ways, &start, &mut ends, otherwise)?;
                 ways.end(ends);
             }
             Stmt::Either(_, list) => {
@@ -97,16 +98,16 @@ impl Known {
         pool: &Pool,
         ways: &mut Ways,
         start: &Paths,
-        before: Paths,
+        ends: &mut Paths,
         body: &[Stmt],
-    ) -> Result<Paths, AllocError>
+    ) -> Result<(), AllocError>
         requires { past_statements body.now ≤ length pool.now }
-        ensures { IfOk result (λ r. (ms : List MacroSeen) (ps : List Procedure) → Knows self.now ms ps → Branches ways.old ways.new start.now before r (λ q. seen_in_body (seen_in_call ms) ps (statements_at pool.now body.now) (unlabelled q))) }
+        ensures { OnOk result ((ms : List MacroSeen) (ps : List Procedure) → Knows self.now ms ps → Branches ways.old ways.new start.now ends.old ends.new (λ q. seen_in_body (seen_in_call ms) ps (statements_at pool.now body.now) (unlabelled q))) }
     {
         ways.restart(start)?;
         self.body(alloc, pool, ways, body)?;
-        let ends = ways.join_ends(before)?;
-        Ok(ends)
+        ways.join_ends(ends)?;
+        Ok(())
     }
 
     // All branches of a statement, and their ends.
@@ -124,7 +125,7 @@ impl Known {
     {
         let mut ends = Paths::none();
         for i in 0..list.len() {
-            ends = self.fork(alloc, pool, ways, start, ends, &list[i])?;
+            self.fork(alloc, pool, ways, start, &mut ends, &list[i])?;
         }
         Ok(ends)
     }

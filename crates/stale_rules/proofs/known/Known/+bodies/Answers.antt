@@ -37,8 +37,8 @@ body-returns t c = λ ms ps k.
 
 pub fork-returns : goal.fork-returns
 fork-returns t c = λ ms ps k.
-    branch_branches (λ z. seen_in_body (seen_in_call ms) ps (statements_at c.args.pool.now c.args.body.now) z) c.args.ways.now c.restart.new.self c.body.new.ways c.join_ends.new.self c.args.start.now c.args.before c.in_ok-ends.ends
-    c.in_ok-restart.ensures (c.in_ok-body.ensures ms ps k) c.in_ok-ends.ensures
+    branch_branches (λ z. seen_in_body (seen_in_call ms) ps (statements_at c.args.pool.now c.args.body.now) z) c.args.ways.now c.restart.new.self c.body.new.ways c.join_ends.new.self c.args.start.now c.args.ends.now c.join_ends.new.ends
+    c.in_ok-restart.ensures (c.in_ok-body.ensures ms ps k) c.in_ok-join_ends.ensures
 
 pub stmt-branches-requires : goal.stmt-branches-requires
 stmt-branches-requires t c = (
@@ -56,8 +56,8 @@ stmt-returns-in_ok-simple-in-Simple t c = λ ms ps k.
     subst (λ (z : Stmt). GoesStmt (seen_in_call ms) ps c.args.pool.now z c.args.ways.now c.simple.new.ways) (sym c.in-Simple.is)
     (simple_goes (seen_in_call ms) ps c.args.pool.now c.in-Simple.span c.in-Simple.simple c.args.ways.now c.simple.new.ways (c.in_ok-simple-in-Simple.ensures ms ps k))
 
-pub stmt-returns-in_ok-ends-in-If : goal.stmt-returns-in_ok-ends-in-If
-stmt-returns-in_ok-ends-in-If t c = λ ms ps k.
+pub stmt-returns-in_ok-fork-in-If-2 : goal.stmt-returns-in_ok-fork-in-If-2
+stmt-returns-in_ok-fork-in-If-2 t c = λ ms ps k.
     let S = seen_in_call ms in
     let ts = c.args.pool.now in
     let old = c.args.ways.now in
@@ -67,16 +67,16 @@ stmt-returns-in_ok-ends-in-If t c = λ ms ps k.
     let four = c.fork-in-If.new.ways in
     let new = c.end.new.self in
     let start = c.take_paths-start.result in
-    let first = c.in_ok-first-in-If.first in
-    let last = c.in_ok-ends-in-If.ends in
+    let first = c.fork.new.ends in
+    let last = c.fork-in-If.new.ends in
     let e = c.in-If.e in
     subst (λ (z : Stmt). GoesStmt S ps ts z old new) (sym c.in-If.is)
     (if_goes S ps ts c.in-If.field-0 e c.in-If.then c.in-If.otherwise old mid two three four new start first last
     (subst (λ (us : List Use). Goes old mid (stepping us [] false)) (c.in_ok-add_uses-in-If.ensures ∙ ap (λ (us : List memory.Use). uses_of us ++ uses (at ts e)) c.new-uses.ensures.items) c.in_ok-pass_uses-in-If.ensures)
     c.take_paths-start.ensures.unreached c.take_paths-start.ensures.reached (ap (λ (v : Vec Group Global). v.items) c.take_paths-start.ensures.seen) (ap (λ (v : Vec Group Global). v.items) c.take_paths-start.ensures.seen_reached)
     (subst (λ (ss : List Stmt). Branches two three start no_paths first (λ q. seen_in_body S ps (statements_at ts ss) (unlabelled q))) c.deref.ensures.value
-    (subst (λ (p : Paths). Branches two three start p first (λ q. seen_in_body S ps (statements_at ts c.deref.result.now) (unlabelled q))) c.none.ensures (c.in_ok-first-in-If.ensures ms ps k)))
-    (subst (λ (ss : List Stmt). Branches three four start first last (λ q. seen_in_body S ps (statements_at ts ss) (unlabelled q))) c.deref-in-If.ensures.value (c.in_ok-ends-in-If.ensures ms ps k)) c.end.ensures)
+    (subst (λ (p : Paths). Branches two three start p first (λ q. seen_in_body S ps (statements_at ts c.deref.result.now) (unlabelled q))) c.none-ends.ensures (c.in_ok-fork-in-If.ensures ms ps k)))
+    (subst (λ (ss : List Stmt). Branches three four start first last (λ q. seen_in_body S ps (statements_at ts ss) (unlabelled q))) c.deref-in-If.ensures.value (c.in_ok-fork-in-If-2.ensures ms ps k)) c.end.ensures)
 
 pub stmt-returns-in_ok-ends-in-Either : goal.stmt-returns-in_ok-ends-in-Either
 stmt-returns-in_ok-ends-in-Either t c = λ ms ps k.
@@ -138,9 +138,9 @@ branches-fork-requires t c =
 pub branches-loop-i-preserved : goal.branches-loop-i-preserved
 branches-loop-i-preserved t c = λ ms ps k w e g.
     c.loop-i.invariant ms ps k w e
-    (branches_more (seen_in_call ms) ps c.args.pool.now c.loop-i.ways c.fork.new.ways w c.args.start.now c.loop-i.ends c.in_ok-ends.ends e c.args.list.now c.loop-i.i c.index-list-i.result c.index-list-i.is c.loop-i-test.true
-    (subst (λ (ss : List Stmt). Branches c.loop-i.ways c.fork.new.ways c.args.start.now c.loop-i.ends c.in_ok-ends.ends (λ q. seen_in_body (seen_in_call ms) ps (statements_at c.args.pool.now ss) (unlabelled q))) c.deref.ensures.value
-    (c.in_ok-ends.ensures ms ps k)) g)
+    (branches_more (seen_in_call ms) ps c.args.pool.now c.loop-i.ways c.fork.new.ways w c.args.start.now c.loop-i.ends c.fork.new.ends e c.args.list.now c.loop-i.i c.index-list-i.result c.index-list-i.is c.loop-i-test.true
+    (subst (λ (ss : List Stmt). Branches c.loop-i.ways c.fork.new.ways c.args.start.now c.loop-i.ends c.fork.new.ends (λ q. seen_in_body (seen_in_call ms) ps (statements_at c.args.pool.now ss) (unlabelled q))) c.deref.ensures.value
+    (c.in_ok-fork.ensures ms ps k)) g)
 
 pub branches-returns : goal.branches-returns
 branches-returns t c = λ ms ps k.
