@@ -1,5 +1,5 @@
 -- Uses that are kept each once.
-use Rattle.std.proofs.Common.{◌≡◌, ℕ, zero, suc, arith, ◌+◌, ◌<◌, ◌≤◌, Bool, true, false, ◌&&◌, ◌||◌, List, [], ◌∷◌, ◌++◌, length, take, get_or, Option, Some, None, refl, sym, ap, ◌∙◌, subst, cond, map, append-nil, append_assoc, nat_eq, eqb-true, slice_get}
+use Rattle.std.proofs.Common.{◌≡◌, ℕ, zero, suc, arith, ◌+◌, ◌<◌, ◌≤◌, Bool, true, false, ◌&&◌, ◌||◌, List, [], ◌∷◌, ◌++◌, length, take, get_or, Option, Some, None, refl, sym, ap, ◌∙◌, subst, cond, append-nil, append_assoc, nat_eq, eqb-true, slice_get}
 use Rattle.std.specs.Prelude.{if◌then◌else◌}
 use Rattle.std.specs.List.{list_any}
 use Rattle.std.specs.Map.{lookup}
@@ -14,7 +14,7 @@ use Rattle.indexmap.specs.IndexMap.{insert_entry}
 use Rattle.algorithm_limits.proofs.Tables.{equal, equal_is}
 use Rattle.tla_tree.specs.Tree.{Word}
 use Rattle.pcal_tree.specs.Algorithm.{Name}
-use Rattle.pcal_tree.specs.laws.MacroSpots.{Use, name_used, Origin, earlier, assigned, Trail, Seen, Called, on_trail}
+use Rattle.pcal_tree.specs.laws.MacroSpots.{Use, name_used, Origin, Trail, Seen, Called, on_trail}
 use Rattle.pcal_tree.proofs.SetLaws.{Sound, any_flat, any_none, any_same}
 use Rattle.pcal_tree.proofs.SpotCalls.{LikeTrail, met, passes, SeenLike}
 use Rattle.stale_rules.specs.declared.assigned.Assigned.{Assigned}

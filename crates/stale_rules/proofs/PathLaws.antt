@@ -1,10 +1,9 @@
 -- Paths in memory, and what is seen on them: what no test tells apart.
-use Rattle.std.proofs.Common.{◌≡◌, false, ◌||◌, List, [], ◌∷◌, ◌++◌, Some, None, refl, sym, ap, ◌∙◌, cond, map, append_assoc}
-use Rattle.std.specs.List.{list_any}
+use Rattle.std.proofs.Common.{◌≡◌, List, Some, None, refl, sym, ap, ◌∙◌, append_assoc}
 use Rattle.std.proofs.lemmas.List.Folds.{list_any-append}
 use Rattle.pcal_tree.proofs.SetLaws.{same_both}
 use Rattle.pcal_tree.proofs.SpotCalls.{LikeTrail}
-use Rattle.pcal_tree.specs.laws.MacroSpots.{Origin, earlier, assigned, Trail, joined}
+use Rattle.pcal_tree.specs.laws.MacroSpots.{Origin, Trail, joined}
 use Rattle.stale_rules.specs.declared.assigned.Assigned.{Assigned}
 use Rattle.stale_rules.specs.Joins.{Joins}
 use Rattle.stale_rules.specs.Sets.{origins, trail_of}

@@ -40,12 +40,17 @@ nothing (x ∷ xs) e f = cc
 
 -- ---- names that don't matter
 
-pub harmless : (w : Wanted) (ds : List Reading) (es : List Macro) → AreReads w.reads ds → Same w.names (codes "self" ∷ params_in es) → Harmless (wants w) ds
-harmless w ds es a s x e =
-    let reads = reads_at w.reads.lists.items (number_of w.reads.numbers x) in
-    let h = or_parts (list_any (equal x) w.names) (has_some reads) e in
-    let k = or_parts (equal x (codes "self")) (list_any (equal x) (params_in es)) (sym (s (equal x)) ∙ h.0) in
-    (sym (same_test x (codes "self")) ∙ k.0, λ f. sym (a.reads x f) ∙ nothing reads h.1 f)
+-- a name that may not matter
+apart : (w : Wanted) (x : Word) → wants w x ≡ false
+    → (bytes_eq (codes "self") x ≡ false) × ((list_any (equal x) w.names ≡ false) × (has_some (reads_at w.reads.lists.items (number_of w.reads.numbers x)) ≡ false))
+apart w x e =
+    let some = has_some (reads_at w.reads.lists.items (number_of w.reads.numbers x)) in
+    let h = or_parts (bytes_eq (codes "self") x || list_any (equal x) w.names) some e in
+    let k = or_parts (bytes_eq (codes "self") x) (list_any (equal x) w.names) h.0 in
+    (k.0, (k.1, h.1))
+
+pub harmless : (w : Wanted) (ds : List Reading) → AreReads w.reads ds → Harmless (wants w) ds
+harmless w ds a x e = let h = apart w x e in (h.0, λ f. sym (a.reads x f) ∙ nothing (reads_at w.reads.lists.items (number_of w.reads.numbers x)) h.1.1 f)
 
 param_words : (ps : List Name) (x : Word) → is_among (words ps) x ≡ list_any (equal x) (names_in ps)
 param_words ps x =
@@ -53,11 +58,9 @@ param_words ps x =
     ∙ any_same (λ (p : Name). bytes_eq p.word x) (λ (p : Name). equal x p.word || false) (λ p. sym (or-false (equal x p.word) ∙ same_test x p.word)) ps
     ∙ sym (any_flat (equal x) (λ (p : Name). p.word ∷ []) ps)
 
-pub no_parameter : (ts : List Tree) (w : Wanted) (es : List Macro) → Same w.names (codes "self" ∷ params_in es) → NoParameter (wants w) (reverse (map (macro_at ts) es))
+pub no_parameter : (ts : List Tree) (w : Wanted) (es : List Macro) → Same w.names (params_in es) → NoParameter (wants w) (reverse (map (macro_at ts) es))
 no_parameter ts w es s x e =
-    let h = or_parts (list_any (equal x) w.names) (has_some (reads_at w.reads.lists.items (number_of w.reads.numbers x))) e in
-    let k = or_parts (equal x (codes "self")) (list_any (equal x) (params_in es)) (sym (s (equal x)) ∙ h.0) in
     any_reversed (λ (d : tree.Macro). is_among (words d.params) x) (map (macro_at ts) es)
     ∙ any_map (λ (d : tree.Macro). is_among (words d.params) x) (macro_at ts) es
     ∙ any_same (λ (d : Macro). is_among (words d.params.items) x) (λ (d : Macro). list_any (equal x) (names_in d.params.items)) (λ d. param_words d.params.items x) es
-    ∙ sym (any_flat (equal x) (λ (d : Macro). names_in d.params.items) es) ∙ k.1
+    ∙ sym (any_flat (equal x) (λ (d : Macro). names_in d.params.items) es) ∙ sym (s (equal x)) ∙ (apart w x e).1.0

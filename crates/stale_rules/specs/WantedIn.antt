@@ -1,5 +1,5 @@
 -- Names whose uses may matter, in memory.
-use Rattle.std.specs.Prelude.{List, [], ◌∷◌, Bool, true, false, ◌||◌, ◌==◌}
+use Rattle.std.specs.Prelude.{List, [], ◌∷◌, Bool, true, false, ◌||◌, ◌==◌, bytes_eq, codes}
 use Rattle.std.specs.Cmp.Lexicographic.{pointwise}
 use Rattle.std.specs.List.{list_any, flat_map}
 use Rattle.tla_tree.specs.Tree.{Word}
@@ -13,9 +13,9 @@ abbrev pub has_some : List Word → Bool
 has_some [] = false
 has_some (x ∷ xs) = true
 
--- one of the names, or a definition that reads a variable
+-- `self`, one of the names, or a definition that reads a variable
 abbrev pub wants : Wanted → Word → Bool
-wants w x = list_any (pointwise ◌==◌ x) w.names || has_some (reads_at w.reads.lists.items (number_of w.reads.numbers x))
+wants w x = bytes_eq (codes "self") x || list_any (pointwise ◌==◌ x) w.names || has_some (reads_at w.reads.lists.items (number_of w.reads.numbers x))
 
 abbrev pub names_in : List Name → List Word
 names_in ps = flat_map (λ p. p.word ∷ []) ps

@@ -1,22 +1,46 @@
 //! What is seen in statements.
 
-ghost use Rattle.std.specs.Prelude.{◌≤◌, List, length, IfOk, OnOk};
+ghost use Rattle.std.specs.Prelude.{◌≡◌, ◌<◌, ◌≤◌, List, length, map, IfOk, OnOk};
+ghost use Rattle.tla_tree.specs.Nesting.{greatest};
+ghost use Rattle.tla_tree.specs.Pool.{at};
 ghost use Rattle.pcal_tree.specs.Algorithm.{Procedure};
-ghost use Rattle.pcal_tree.specs.InMemory.{simple_at, statements_at, branches_at, past_simple, past_stmt, past_statements, past_branches};
-ghost use Rattle.pcal_tree.specs.laws.MacroSpots.{MacroSeen, seen_in_call, seen_in_body, unlabelled};
+ghost use Rattle.pcal_tree.specs.InMemory.{binds_at, simple_at, statements_at, branches_at, past_bind, past_simple, past_stmt, past_statements, past_branches};
+ghost use Rattle.pcal_tree.specs.laws.MacroSpots.{MacroSeen, seen_in_call, seen_in_body, unlabelled, uses, uses_of_binds};
 ghost use Rattle.stale_rules.specs.BodiesIn.{one, GoesStmt, in_some, no_paths};
 ghost use Rattle.stale_rules.specs.KnownIn.{Knows};
+ghost use Rattle.stale_rules.specs.UsesIn.{uses_of};
 ghost use Rattle.stale_rules.specs.WaysIn.{Goes, Branches};
 
 use crate::known::Known;
 use crate::steps::{add_binds, step};
-use crate::uses::add_uses;
+use crate::uses::{Use, add_uses};
 use crate::walk::Ways;
 use crate::ways::Paths;
-use pcal_tree::algorithm::{Simple, Stmt};
+use pcal_tree::algorithm::{Bind, Simple, Stmt};
 use std::alloc::{AllocError, Global};
 use tla_pool::Pool;
 use tla_token::Place;
+use tla_tree::NodeId;
+
+// What the test of a statement uses.
+fn test_uses(alloc: Global, pool: &Pool, e: NodeId) -> Result<Vec<Use>, AllocError>
+    requires { e < length pool.now }
+    ensures { IfOk result (λ r. uses_of r.items ≡ uses (at pool.now e)) }
+{
+    let mut list = Vec::new(alloc);
+    add_uses(&mut list, pool, e)?;
+    Ok(list)
+}
+
+// What the expressions of a `with` use.
+fn bind_uses(alloc: Global, pool: &Pool, binds: &[Bind]) -> Result<Vec<Use>, AllocError>
+    requires { greatest (map past_bind binds.now) ≤ length pool.now }
+    ensures { IfOk result (λ r. uses_of r.items ≡ uses_of_binds (binds_at pool.now binds.now)) }
+{
+    let mut list = Vec::new(alloc);
+    add_binds(&mut list, pool, binds)?;
+    Ok(list)
+}
 
 impl Known {
     // A statement that has none in it.
@@ -57,9 +81,7 @@ impl Known {
             Stmt::Label(_, _) => ways.begin(alloc),
             Stmt::Simple(span, simple) => self.simple(alloc, pool, ways, span.first, simple)?,
             Stmt::If(_, e, then, otherwise) => {
-                let mut uses = Vec::new(alloc);
-                add_uses(&mut uses, pool, *e)?;
-                ways.pass_uses(alloc, pool, uses)?;
+                ways.pass_uses(alloc, pool, test_uses(alloc, pool, *e)?)?;
                 let start = ways.take_paths();
                 let mut ends = Paths::none();
                 self.fork(alloc, pool, ways, &start, &mut ends, then)?;
@@ -73,17 +95,14 @@ impl Known {
                 ways.end(ends);
             }
             Stmt::With(_, binds, body) => {
-                let mut uses = Vec::new(alloc);
-                add_binds(&mut uses, pool, binds)?;
-                ways.pass_uses(alloc, pool, uses)?;
+                ways.pass_uses(alloc, pool, bind_uses(alloc, pool, binds)?)?;
                 self.body(alloc, pool, ways, body)?;
                 ways.unlabel();
             }
             Stmt::While(_, e, body) => {
-                let mut uses = Vec::new(alloc);
-                add_uses(&mut uses, pool, *e)?;
                 let mut inner = Ways::new(alloc, false);
                 self.body(alloc, pool, &mut inner, body)?;
+                let uses = test_uses(alloc, pool, *e)?;
                 ways.go_round(alloc, pool, &uses, &inner)?;
             }
         }

@@ -10,7 +10,7 @@ use crate::definitions::{all_reads, global_names};
 use crate::jumps::jumps;
 use crate::macros::known_macros;
 use crate::routines::{of_main, of_procedures};
-use crate::wanted::{Wanted, macro_names};
+use crate::wanted::{Wanted, all_params};
 use algorithm_limits::order::least;
 use pcal_tree::algorithm::Algorithm;
 use std::alloc::{AllocError, Global};
@@ -33,7 +33,7 @@ pub fn stale_refusal(
 {
     let globals = global_names(alloc, &algorithm.globals)?;
     let reads = all_reads(alloc, pool, &globals, &algorithm.definitions)?;
-    let names = macro_names(alloc, &algorithm.macros)?;
+    let names = all_params(alloc, &algorithm.macros)?;
     let wanted = Wanted { reads, names };
     let jumps = jumps(alloc, pool, &algorithm.procedures)?;
     let known = known_macros(alloc, pool, &wanted, &algorithm.macros, jumps)?;

@@ -1,12 +1,13 @@
 //! The names whose uses may matter: definitions that read a variable, parameters of macros, and `self`.
 
-ghost use Rattle.std.specs.Prelude.{◌≡◌, ◌∷◌, codes, IfOk, OnOk};
+ghost use Rattle.std.specs.Prelude.{◌≡◌, IfOk, OnOk};
 ghost use Rattle.pcal_tree.proofs.SetLaws.{Same};
 ghost use Rattle.stale_rules.specs.Joins.{Joins};
 ghost use Rattle.stale_rules.specs.WantedIn.{names_in, params_in, wants};
 
 use crate::definitions::Reads;
 use crate::names::Names;
+use crate::refusals::is_self;
 use pcal_tree::algorithm::Macro;
 use std::alloc::{AllocError, Global};
 use tla_tree::{Name, PlacedName};
@@ -16,7 +17,7 @@ use tla_tree::{Name, PlacedName};
 pub struct Wanted {
     /// The variables that definitions read.
     pub reads: Reads,
-    /// Other names.
+    /// The parameters of macros.
     pub names: Names,
 }
 
@@ -25,7 +26,7 @@ impl Wanted {
     pub fn has(&self, name: &Name) -> bool
         ensures { result ≡ wants self.now name.now }
     {
-        self.names.has(name) || self.reads.has_some(name)
+        is_self(name) || self.names.has(name) || self.reads.has_some(name)
     }
 }
 
@@ -49,16 +50,15 @@ fn add_all_params(names: &mut Names, macros: &[Macro]) -> Result<(), AllocError>
     Ok(())
 }
 
-/// `self`, and the parameters of macros.
+/// The parameters of macros.
 ///
 /// # Errors
 ///
 /// Only for want of memory.
-pub fn macro_names(alloc: Global, macros: &[Macro]) -> Result<Names, AllocError>
-    ensures { IfOk result (λ r. Same r (codes "self" ∷ params_in macros.now)) }
+pub fn all_params(alloc: Global, macros: &[Macro]) -> Result<Names, AllocError>
+    ensures { IfOk result (λ r. Same r (params_in macros.now)) }
 {
     let mut names = Names::new(alloc);
-    names.add(&Name::new(Vec::from_slice(alloc, b"self")?))?;
     add_all_params(&mut names, macros)?;
     Ok(names)
 }

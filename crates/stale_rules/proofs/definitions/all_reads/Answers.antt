@@ -2,7 +2,7 @@
 use Rattle.std.proofs.Common.{List, ◌+◌, refl, sym, ap, subst, ◌∙◌, arith, length, take, reverse, filter}
 use Rattle.std.proofs.lemmas.List.{take_all}
 use Rattle.tla_tree.proofs.PoolNumbers.{past_at}
-use Rattle.tla_tree.specs.Tree.{Word, words}
+use Rattle.tla_tree.specs.Tree.{words}
 use Rattle.tla_tree.specs.Pool.{at}
 use Rattle.pcal_tree.specs.declared.algorithm.Definition.{Definition}
 use Rattle.pcal_tree.specs.InMemory.{definitions_at, past_definition}

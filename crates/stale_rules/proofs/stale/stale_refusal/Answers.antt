@@ -1,5 +1,5 @@
 -- Proves that the first offence of an algorithm is found.
-use Rattle.std.proofs.Common.{List, ◌∷◌, codes, map, reverse, sym, ap, ◌∙◌, subst}
+use Rattle.std.proofs.Common.{List, map, reverse, sym, ap, ◌∙◌, subst}
 use Rattle.std.specs.List.{flat_map}
 use Rattle.tla_tree.specs.Tree.{Word}
 use Rattle.pcal_tree.specs.declared.algorithm.Definition.{Definition}
@@ -40,11 +40,11 @@ returns c =
     let L = looking ms ps in
     let globals = subst (λ (ws : List Word). Same c.in_ok-globals.globals ws) (ap declared_in c.deref.ensures.value ∙ sym (declared_is ts c.args.algorithm.now.globals.items)) c.in_ok-globals.ensures in
     let read = subst (λ (ds : List Definition). AreReads c.in_ok-reads.reads (readings gs (reverse (definitions_at ts ds)))) c.deref-2.ensures.value (c.in_ok-reads.ensures gs globals) in
-    let names = subst (λ (ds : List Macro). Same c.in_ok-names.names (codes "self" ∷ params_in ds)) c.deref-3.ensures.value c.in_ok-names.ensures in
+    let names = subst (λ (ds : List Macro). Same c.in_ok-names.names (params_in ds)) c.deref-3.ensures.value c.in_ok-names.ensures in
     let jumps = subst (λ (qs : List Procedure). AreJumps c.in_ok-jumps.jumps.items (map (procedure_at ts) qs)) c.deref-4.ensures.value c.in_ok-jumps.ensures in
     let known = subst (λ (ds : List Macro). Knows c.in_ok-known.known (macros_pruned T ps (reverse (map (macro_at ts) ds))) ps) c.deref-5.ensures.value (c.in_ok-known.ensures ps jumps) in
     let procedures =
     c.in_ok-procedures.ensures ms ps rs known read ∙ ap (λ (qs : List Procedure). first (flat_map (stale_in_procedure (looking ms ps) rs) (map (procedure_at ts) qs))) c.deref-6.ensures.value in
     let main = c.in_ok-main.ensures ms ps rs known read in
     c.least.ensures ∙ (λ i. joined (procedures i) (main i)) ∙ sym (first_append (flat_map (stale_in_procedure L rs) ps) (stale_in_main L rs a.main))
-    ∙ pruned_first T a (no_parameter ts w c.args.algorithm.now.macros.items names) (harmless w rs c.args.algorithm.now.macros.items read names)
+    ∙ pruned_first T a (no_parameter ts w c.args.algorithm.now.macros.items names) (harmless w rs read)

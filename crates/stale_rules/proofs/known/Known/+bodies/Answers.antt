@@ -1,10 +1,10 @@
 -- Proves what is seen in statements.
-use Rattle.std.proofs.Common.{false, List, [], ◌++◌, Vec, Global, sym, ap, subst, ◌∙◌, arith}
-use Rattle.tla_tree.specs.Pool.{at}
+use Rattle.std.proofs.Common.{false, List, [], Vec, Global, sym, ap, subst, ◌∙◌, arith}
 use Rattle.tla_tree.proofs.PoolNumbers.{past_at}
+use Rattle.pcal_tree.specs.declared.algorithm.Bind.{Bind}
 use Rattle.pcal_tree.specs.declared.algorithm.Stmt.{Stmt}
 use Rattle.pcal_tree.specs.InMemory.{binds_at, statements_at, branches_at, past_stmt, past_statements, past_branches}
-use Rattle.pcal_tree.specs.laws.MacroSpots.{Use, uses, uses_of_binds, Trail, Called, seen_in_call, seen_in_body, unlabelled}
+use Rattle.pcal_tree.specs.laws.MacroSpots.{Use, uses_of_binds, Trail, Called, seen_in_call, seen_in_body, unlabelled}
 use Rattle.pcal_tree.proofs.InMemoryEach.{past_either}
 use Rattle.pcal_tree.proofs.StatementHeights.{height, heights, branch_heights, either_height}
 use Rattle.stale_rules.specs.declared.uses.Use as memory
@@ -72,7 +72,7 @@ stmt-returns-in_ok-fork-in-If-2 t c = λ ms ps k.
     let e = c.in-If.e in
     subst (λ (z : Stmt). GoesStmt S ps ts z old new) (sym c.in-If.is)
     (if_goes S ps ts c.in-If.field-0 e c.in-If.then c.in-If.otherwise old mid two three four new start first last
-    (subst (λ (us : List Use). Goes old mid (stepping us [] false)) (c.in_ok-add_uses-in-If.ensures ∙ ap (λ (us : List memory.Use). uses_of us ++ uses (at ts e)) c.new-uses.ensures.items) c.in_ok-pass_uses-in-If.ensures)
+    (subst (λ (us : List Use). Goes old mid (stepping us [] false)) c.in_ok-test_uses-in-If.ensures c.in_ok-pass_uses-in-If.ensures)
     c.take_paths-start.ensures.unreached c.take_paths-start.ensures.reached (ap (λ (v : Vec Group Global). v.items) c.take_paths-start.ensures.seen) (ap (λ (v : Vec Group Global). v.items) c.take_paths-start.ensures.seen_reached)
     (subst (λ (ss : List Stmt). Branches two three start no_paths first (λ q. seen_in_body S ps (statements_at ts ss) (unlabelled q))) c.deref.ensures.value
     (subst (λ (p : Paths). Branches two three start p first (λ q. seen_in_body S ps (statements_at ts c.deref.result.now) (unlabelled q))) c.none-ends.ensures (c.in_ok-fork-in-If.ensures ms ps k)))
@@ -107,7 +107,7 @@ stmt-returns-in_ok-body-in-With t c = λ ms ps k.
     subst (λ (z : Stmt). GoesStmt S ps ts z old new) (sym c.in-With.is)
     (with_stands S ps ts c.in-With.field-0 c.in-With.binds c.in-With.body old mid two new
     (subst (λ (us : List Use). Goes old mid (stepping us [] false))
-    (c.in_ok-add_binds-in-With.ensures ∙ (λ i. uses_of (c.new-uses-in-With.ensures.items i) ++ uses_of_binds (binds_at ts (c.deref-in-With.ensures.value i)))) c.in_ok-pass_uses-in-With.ensures)
+    (c.in_ok-bind_uses-in-With.ensures ∙ ap (λ (bs : List Bind). uses_of_binds (binds_at ts bs)) c.deref-in-With.ensures.value) c.in_ok-pass_uses-in-With.ensures)
     (subst (λ (ss : List Stmt). Goes mid two (λ z. seen_in_body S ps (statements_at ts ss) z)) c.deref-in-With-2.ensures.value (c.in_ok-body-in-With.ensures ms ps k)) c.unlabel.ensures)
 
 pub stmt-returns-in_ok-go_round-in-While : goal.stmt-returns-in_ok-go_round-in-While
@@ -124,7 +124,7 @@ stmt-returns-in_ok-go_round-in-While t c = λ ms ps k.
     subst (λ (z : Stmt). GoesStmt S ps ts z old new) (sym c.in-While.is)
     (while_goes S ps ts c.in-While.field-0 e b old new
     (subst (λ (us : List Use). Goes old new (looping us g))
-    (ap uses_of c.deref-in-While-2.ensures.value ∙ c.in_ok-add_uses-in-While.ensures ∙ ap (λ (us : List memory.Use). uses_of us ++ uses (at ts e)) c.new-uses-in-While.ensures.items)
+    (ap uses_of c.deref-in-While-2.ensures.value ∙ c.in_ok-uses-in-While.ensures)
     (c.in_ok-go_round-in-While.ensures g
     (is_loop ms ps (statements_at ts b.items) first inner c.new-inner.ensures.unreached c.new-inner.ensures.reached
     (subst (λ (ss : List Stmt). Goes first inner (λ z. seen_in_body S ps (statements_at ts ss) z)) c.deref-in-While.ensures.value (c.in_ok-body-in-While.ensures ms ps k))))))
