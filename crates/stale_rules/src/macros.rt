@@ -92,10 +92,7 @@ pub fn known_macros(
     };
     for one in macros {
         let summary = summary(alloc, pool, wanted, &known, one)?;
-        known.summaries.push(summary)?;
-        let summaries = known.summaries.as_slice();
-        let number = summaries.len();
-        known.numbers.set(one.name.name.copied()?, number)?;
+        known.add_macro(&one.name.name, summary)?;
     }
     Ok(known)
 }
