@@ -1,14 +1,11 @@
 -- Proves what is known of macros.
-use Rattle.std.proofs.Common.{List, [], ◌∷◌, ◌+◌, length, refl, sym, ap, subst, ◌∙◌, arith, map, take, reverse}
+use Rattle.std.proofs.Common.{List, ◌+◌, length, refl, sym, ap, subst, ◌∙◌, arith, map, take, reverse}
 use Rattle.std.proofs.lemmas.List.{take_all}
 use Rattle.tla_tree.proofs.PoolNumbers.{past_at}
 use Rattle.pcal_tree.specs.declared.algorithm.Macro.{Macro}
 use Rattle.pcal_tree.specs.InMemory.{macro_at, past_macro}
 use Rattle.pcal_tree.specs.laws.MacroSpots.{MacroSeen}
-use Rattle.tla_tree.specs.Tree.{Word}
 use Rattle.algorithm_limits.specs.Numbers.{with_number}
-use Rattle.stale_rules.specs.declared.known.Known.{Known}
-use Rattle.stale_rules.specs.declared.known.Summary.{Summary}
 use Rattle.stale_rules.specs.KnownIn.{Knows}
 use Rattle.stale_rules.specs.MacrosIn.{macro_seen}
 use Rattle.stale_rules.specs.Pruned.{macro_pruned, macros_pruned}

@@ -1,5 +1,5 @@
 -- Proves what tells whether uses may matter.
-use Rattle.std.proofs.Common.{List, map, reverse, sym, ap, ◌∙◌, subst}
+use Rattle.std.proofs.Common.{List, reverse, sym, ap, ◌∙◌, subst}
 use Rattle.tla_tree.specs.Tree.{Word}
 use Rattle.pcal_tree.specs.declared.algorithm.Definition.{Definition}
 use Rattle.pcal_tree.specs.declared.algorithm.Macro.{Macro}

@@ -14,6 +14,6 @@ returns c =
     record {
       lists = c.in_ok-push.ensures.items;
       numbers =
-      c.in_ok-set.ensures ∙ ap (λ (x : Word). with_number r.numbers x n) c.in_ok-copied.ensures
-      ∙ ap (λ (m : ℕ). with_number r.numbers c.args.name.now m) (ap (λ (ls : List Names). length ls) c.as_slice-lists.ensures.value ∙ ap (λ (ls : List Names). length ls) c.in_ok-push.ensures.items ∙ length-append r.lists.items (s ∷ []));
+          c.in_ok-set.ensures ∙ ap (λ (x : Word). with_number r.numbers x n) c.in_ok-copied.ensures
+          ∙ ap (λ (m : ℕ). with_number r.numbers c.args.name.now m) (ap (λ (ls : List Names). length ls) c.as_slice-lists.ensures.value ∙ ap (λ (ls : List Names). length ls) c.in_ok-push.ensures.items ∙ length-append r.lists.items (s ∷ []));
     }

@@ -15,7 +15,7 @@ returns c =
     record {
       summaries = c.in_ok-push.ensures.items;
       numbers =
-      c.in_ok-set.ensures ∙ ap (λ (x : Word). with_number k.numbers x n) c.in_ok-copied.ensures
-      ∙ ap (λ (m : ℕ). with_number k.numbers c.args.name.now m) (ap (λ (ss : List Summary). length ss) c.as_slice-summaries.ensures.value ∙ ap (λ (ss : List Summary). length ss) c.in_ok-push.ensures.items ∙ length-append k.summaries.items (s ∷ []));
+          c.in_ok-set.ensures ∙ ap (λ (x : Word). with_number k.numbers x n) c.in_ok-copied.ensures
+          ∙ ap (λ (m : ℕ). with_number k.numbers c.args.name.now m) (ap (λ (ss : List Summary). length ss) c.as_slice-summaries.ensures.value ∙ ap (λ (ss : List Summary). length ss) c.in_ok-push.ensures.items ∙ length-append k.summaries.items (s ∷ []));
       jumps = refl {A = List Jump};
     }
