@@ -8,16 +8,15 @@ use Rattle.tla_tree.specs.Tree.{Word, Tree}
 use Rattle.tla_tree.specs.Pool.{at}
 use Rattle.pcal_tree.specs.declared.mark.Mark.{Mark}
 use Rattle.pcal_tree.specs.declared.algorithm.Span.{Span}
-use Rattle.pcal_tree.specs.declared.algorithm.Bind.{Bind}
 use Rattle.pcal_tree.specs.declared.algorithm.Simple as declared_simple
 use Rattle.pcal_tree.specs.declared.algorithm.Simple.TheVariants as simple
 use Rattle.pcal_tree.specs.declared.algorithm.Stmt.{Stmt}
-use Rattle.pcal_tree.specs.declared.algorithm.Stmt.TheVariants.{Label, Simple, If, Either, With, While}
-use Rattle.pcal_tree.specs.Algorithm.{Name, branch, either, with, while, Statement, Statements, then, Branches, no_branches, or, Procedure}
-use Rattle.pcal_tree.specs.InMemory.{span_of, simple_at, binds_at, Before, stmt_at, statements_at, branches_at}
-use Rattle.pcal_tree.specs.laws.MacroSpots.{Use, earlier, assigned, Trail, At, unlabelled, at_label, Seen, on_trail, Called, CallSeen, joined, uses, uses_of_binds, end_of, end_of_some, seen_in, seen_in_some, seen_in_body, seen_in_call, MacroSeen, starting}
+use Rattle.pcal_tree.specs.declared.algorithm.Stmt.TheVariants.{Label, Simple}
+use Rattle.pcal_tree.specs.Algorithm.{Name, branch, either, Statement, Statements, then, Branches, no_branches, or, Procedure}
+use Rattle.pcal_tree.specs.InMemory.{span_of, simple_at, Before, stmt_at, statements_at, branches_at}
+use Rattle.pcal_tree.specs.laws.MacroSpots.{Use, earlier, assigned, Trail, At, unlabelled, at_label, Seen, on_trail, Called, CallSeen, joined, uses, end_of, end_of_some, seen_in, seen_in_some, seen_in_body, seen_in_call, MacroSeen, starting}
 use Rattle.pcal_tree.proofs.SetLaws.{any_map}
-use Rattle.pcal_tree.proofs.InMemoryEach.{label_at, simple_in_list_at, if_at, either_at, with_at, while_at}
+use Rattle.pcal_tree.proofs.InMemoryEach.{label_at, simple_in_list_at}
 use Rattle.pcal_tree.proofs.SpotCalls.{LikeTrail, Like, passes, SeenLike, like_then}
 use Rattle.stale_rules.specs.declared.assigned.Assigned.{Assigned}
 use Rattle.stale_rules.specs.declared.walk.Group.{Group}
@@ -28,7 +27,7 @@ use Rattle.stale_rules.specs.declared.ways.Paths.{Paths}
 use Rattle.stale_rules.specs.BodiesIn.{one, GoesStmt, in_some, no_paths}
 use Rattle.stale_rules.specs.Joins.{Joins}
 use Rattle.stale_rules.specs.PlainPuts.{Going, after}
-use Rattle.stale_rules.specs.SeenIn.{seen_of, at_of, IsWay, Walks, trail_stepped, stepping, IsLoop, looping}
+use Rattle.stale_rules.specs.SeenIn.{seen_of, at_of, IsWay, Walks, trail_stepped, stepping, IsLoop}
 use Rattle.stale_rules.specs.Sets.{trail_of}
 use Rattle.stale_rules.specs.StepsIn.{simple_uses, simple_roots, simple_stops, DoesSimple}
 use Rattle.stale_rules.specs.UsesIn.{uses_of}
@@ -127,7 +126,7 @@ plain_goes S ps ts p x s old new e d w = (plain_walks S ps ts p x s old.unreache
 branch_forks : (f : Going) (old one two new : Walk) (start before after : Option Assigned) → Moves old one start → Walks one two f → JoinsEnd two new before after → Forks old new start before after (λ q. f (unlabelled q))
 branch_forks f old one two new start before after m w j q l =
     let z = unlabelled q in
-    let k = like_then (trail_of one.path) (trail_of start) q m.path l in
+    let k = subst (λ (p : Option Assigned). LikeTrail (trail_of p) q) (sym m.path) l in
     let u = w z (m.labelled, k) in (
       like_then (trail_of after) (joined (trail_of before) (trail_of two.path)) (joined (trail_of before) (f z).end.trail) j.path
           (like_joined (trail_of before) (trail_of before) (trail_of two.path) (f z).end.trail (like_itself (trail_of before)) u.0.1),
@@ -194,7 +193,7 @@ forks_walk us f old mid two three new start after w e s h m z l =
     let k = subst (λ (t : Trail). LikeTrail (trail_of mid.path) t) (idle z.trail) u.0.1 in
     let v = h z.trail (subst (λ (p : Option Assigned). LikeTrail (trail_of p) z.trail) (sym e) k) in
     let more = (f z.trail).seen in (
-      (m.labelled, like_then (trail_of new.path) (trail_of after) (f z.trail).end.trail m.path v.0),
+      (m.labelled, subst (λ (p : Option Assigned). LikeTrail (trail_of p) (f z.trail).end.trail) (sym m.path) v.0),
       λ K.
           ap (λ (gs : List Group). list_any (passes K) (seen_of gs)) m.seen ∙ v.1 K ∙ ap (λ (gs : List Group). list_any (passes K) (seen_of gs ++ more)) s
           ∙ seen_append (seen_of mid.seen.items) more (seen_of old.seen.items ++ on_trail z.trail us) more u.1 (λ K. refl) K
@@ -239,7 +238,7 @@ is_loop ms ps b old new u r g = record {
 
 -- ---- each kind of statement
 
-standing : (S : CallSeen) (ps : List Procedure) (ts : List Tree) (s : Stmt) (at : Span) (st : Statement) (old new : Ways) → stmt_at ts s ≡ then (span_of at) st → Goes old new (one S ps at.first st) → GoesStmt S ps ts s old new
+pub standing : (S : CallSeen) (ps : List Procedure) (ts : List Tree) (s : Stmt) (at : Span) (st : Statement) (old new : Ways) → stmt_at ts s ≡ then (span_of at) st → Goes old new (one S ps at.first st) → GoesStmt S ps ts s old new
 standing S ps ts s at st old new e g = record {
   these = one S ps at.first st;
   ahead = λ rest z. ap (λ (f : Before). seen_in_body S ps (f rest) z) e;
@@ -256,15 +255,14 @@ label_goes S ps ts x m old new g = record {
 pub simple_goes : (S : CallSeen) (ps : List Procedure) (ts : List Tree) (at : Span) (x : declared_simple.Simple) (old new : Ways) → Goes old new (one S ps at.first (simple_at ts x)) → GoesStmt S ps ts (Simple at x) old new
 simple_goes S ps ts at x old new g = standing S ps ts (Simple at x) at (simple_at ts x) old new (simple_in_list_at ts at x) g
 
-pub if_goes : (S : CallSeen) (ps : List Procedure) (ts : List Tree) (sp : Span) (e : ℕ) (a b : Vec Stmt Global) (old mid two three four new : Ways) (start first after : Paths)
+pub if_goes : (S : CallSeen) (ps : List Procedure) (ts : List Tree) (p : Place) (e : ℕ) (a b : List Stmt) (old mid two three four new : Ways) (start first after : Paths)
     → Goes old mid (stepping (uses (at ts e)) [] false) → start.unreached ≡ mid.unreached.path → start.reached ≡ mid.reached.path
     → two.unreached.seen.items ≡ mid.unreached.seen.items → two.reached.seen.items ≡ mid.reached.seen.items
-    → Branching two three start no_paths first (λ q. seen_in_body S ps (statements_at ts a.items) (unlabelled q)) → Branching three four start first after (λ q. seen_in_body S ps (statements_at ts b.items) (unlabelled q))
-    → Ends four new after → GoesStmt S ps ts (If sp e a b) old new
-if_goes S ps ts sp e a b old mid two three four new start first after w p r s t f g m =
-    standing S ps ts (If sp e a b) sp (branch (at ts e) (statements_at ts a.items) (statements_at ts b.items)) old new (if_at ts sp e a b)
-    (branches_goes (uses (at ts e)) (together (λ q. seen_in_body S ps (statements_at ts a.items) (unlabelled q)) (λ q. seen_in_body S ps (statements_at ts b.items) (unlabelled q))) old mid two four new start after w p r s t
-    (branches_then two three four start no_paths first after (λ q. seen_in_body S ps (statements_at ts a.items) (unlabelled q)) (λ q. seen_in_body S ps (statements_at ts b.items) (unlabelled q)) f g) m)
+    → Branching two three start no_paths first (λ q. seen_in_body S ps (statements_at ts a) (unlabelled q)) → Branching three four start first after (λ q. seen_in_body S ps (statements_at ts b) (unlabelled q))
+    → Ends four new after → Goes old new (one S ps p (branch (at ts e) (statements_at ts a) (statements_at ts b)))
+if_goes S ps ts p e a b old mid two three four new start first after w l r s t f g m =
+    branches_goes (uses (at ts e)) (together (λ q. seen_in_body S ps (statements_at ts a) (unlabelled q)) (λ q. seen_in_body S ps (statements_at ts b) (unlabelled q))) old mid two four new start after w l r s t
+    (branches_then two three four start no_paths first after (λ q. seen_in_body S ps (statements_at ts a) (unlabelled q)) (λ q. seen_in_body S ps (statements_at ts b) (unlabelled q)) f g) m
 
 -- branches don't look at the label before them
 some_inside : (S : CallSeen) (ps : List Procedure) (p : Place) (bs : Branches) (z : At) → in_some S ps bs z.trail ≡ one S ps p (either bs) z
@@ -278,25 +276,14 @@ some_inside S ps p bs z = λ i. record { seen = seen_some bs i; end = unlabelled
     end_some no_branches = refl
     end_some (or b bs) = ap (λ (q : Trail). joined (end_of S b (unlabelled z.trail)).trail q) (end_some bs)
 
-pub either_goes : (S : CallSeen) (ps : List Procedure) (ts : List Tree) (sp : Span) (bs : Vec (Vec Stmt Global) Global) (old mid two three new : Ways) (start last : Paths)
+pub either_goes : (S : CallSeen) (ps : List Procedure) (ts : List Tree) (p : Place) (bs : List (Vec Stmt Global)) (old mid two three new : Ways) (start last : Paths)
     → Goes old mid (stepping [] [] false) → start.unreached ≡ mid.unreached.path → start.reached ≡ mid.reached.path
     → two.unreached.seen.items ≡ mid.unreached.seen.items → two.reached.seen.items ≡ mid.reached.seen.items
-    → Branching two three start no_paths last (in_some S ps (branches_at ts bs.items)) → Ends three new last → GoesStmt S ps ts (Either sp bs) old new
-either_goes S ps ts sp bs old mid two three new start last w p r s t f m =
-    standing S ps ts (Either sp bs) sp (either (branches_at ts bs.items)) old new (either_at ts sp bs)
-    (goes_as old new (λ z. record { seen = (in_some S ps (branches_at ts bs.items) z.trail).seen; end = unlabelled (in_some S ps (branches_at ts bs.items) z.trail).end.trail }) (one S ps sp.first (either (branches_at ts bs.items)))
-    (λ z. some_inside S ps sp.first (branches_at ts bs.items) z)
-    (branches_goes [] (in_some S ps (branches_at ts bs.items)) old mid two three new start last w p r s t f m))
-
-pub with_stands : (S : CallSeen) (ps : List Procedure) (ts : List Tree) (sp : Span) (bs : Vec Bind Global) (b : Vec Stmt Global) (old mid two new : Ways) → Goes old mid (stepping (uses_of_binds (binds_at ts bs.items)) [] false)
-    → Goes mid two (λ z. seen_in_body S ps (statements_at ts b.items) z) → Goes two new (λ z. record { seen = []; end = unlabelled z.trail }) → GoesStmt S ps ts (With sp bs b) old new
-with_stands S ps ts sp bs b old mid two new u v w =
-    standing S ps ts (With sp bs b) sp (with (binds_at ts bs.items) (statements_at ts b.items)) old new (with_at ts sp bs b)
-    (with_goes (uses_of_binds (binds_at ts bs.items)) (λ z. seen_in_body S ps (statements_at ts b.items) z) old mid two new u v w)
-
-pub while_goes : (S : CallSeen) (ps : List Procedure) (ts : List Tree) (sp : Span) (e : ℕ) (b : Vec Stmt Global) (old new : Ways)
-    → Goes old new (looping (uses (at ts e)) (λ q. seen_in_body S ps (statements_at ts b.items) (unlabelled q))) → GoesStmt S ps ts (While sp e b) old new
-while_goes S ps ts sp e b old new g = standing S ps ts (While sp e b) sp (while (at ts e) (statements_at ts b.items)) old new (while_at ts sp e b) g
+    → Branching two three start no_paths last (in_some S ps (branches_at ts bs)) → Ends three new last → Goes old new (one S ps p (either (branches_at ts bs)))
+either_goes S ps ts p bs old mid two three new start last w l r s t f m =
+    goes_as old new (λ z. record { seen = (in_some S ps (branches_at ts bs) z.trail).seen; end = unlabelled (in_some S ps (branches_at ts bs) z.trail).end.trail }) (one S ps p (either (branches_at ts bs)))
+    (λ z. some_inside S ps p (branches_at ts bs) z)
+    (branches_goes [] (in_some S ps (branches_at ts bs)) old mid two three new start last w l r s t f m)
 
 -- ---- lists
 

@@ -1,19 +1,22 @@
 -- Uses that are kept each once.
-use Rattle.std.proofs.Common.{◌≡◌, ℕ, zero, suc, arith, ◌+◌, ◌<◌, ◌≤◌, Bool, true, false, ◌&&◌, ◌||◌, List, [], ◌∷◌, ◌++◌, length, take, get_or, Option, Some, None, refl, sym, ap, ◌∙◌, subst, cond, map, append-nil, append_assoc, nat_eq, eqb-true, slice_get}
+use Rattle.std.proofs.Common.{◌≡◌, ℕ, zero, suc, arith, ◌+◌, ◌<◌, ◌≤◌, Bool, true, false, ◌&&◌, ◌||◌, List, [], ◌∷◌, ◌++◌, length, take, get_or, Option, Some, None, refl, sym, ap, ◌∙◌, subst, cond, append-nil, append_assoc, nat_eq, eqb-true, slice_get}
 use Rattle.std.specs.Prelude.{if◌then◌else◌}
 use Rattle.std.specs.List.{list_any}
 use Rattle.std.specs.Map.{lookup}
 use Rattle.std.proofs.lemmas.Bool.{and_parts}
 use Rattle.std.proofs.lemmas.List.{take_more, take_all, map-append}
+use Rattle.std.proofs.lemmas.List.Elements.{filter-append}
 use Rattle.std.proofs.lemmas.Option.{get_or_from_slice_get}
 use Rattle.std.proofs.lemmas.List.Folds.{list_any-append}
 use Rattle.std.proofs.lemmas.Grind.{flat_map-append}
 use Rattle.std.proofs.Math.Bool.{or-false}
 use Rattle.indexmap.specs.IndexMap.{insert_entry}
 use Rattle.algorithm_limits.proofs.Tables.{equal, equal_is}
-use Rattle.pcal_tree.specs.laws.MacroSpots.{Use, Origin, earlier, assigned, Seen, Called, on_trail}
-use Rattle.pcal_tree.proofs.SetLaws.{Sound, any_flat}
-use Rattle.pcal_tree.proofs.SpotCalls.{LikeTrail, passes, SeenLike}
+use Rattle.tla_tree.specs.Tree.{Word}
+use Rattle.pcal_tree.specs.Algorithm.{Name}
+use Rattle.pcal_tree.specs.laws.MacroSpots.{Use, name_used, Origin, Trail, Seen, Called, on_trail}
+use Rattle.pcal_tree.proofs.SetLaws.{Sound, any_flat, any_none, any_same}
+use Rattle.pcal_tree.proofs.SpotCalls.{LikeTrail, met, passes, SeenLike}
 use Rattle.stale_rules.specs.declared.assigned.Assigned.{Assigned}
 use Rattle.stale_rules.specs.declared.once.Key.{Key}
 use Rattle.stale_rules.specs.declared.uses.Kind.{Kind}
@@ -23,9 +26,12 @@ use Rattle.stale_rules.specs.declared.walk.Group.{Group}
 use Rattle.stale_rules.specs.declared.walk.Walk.{Walk}
 use Rattle.stale_rules.specs.Joins.{Joins}
 use Rattle.stale_rules.specs.OnceIn.{Entry, entry_seen, entries_seen, key_use, Keeps}
+use Rattle.stale_rules.specs.Pruned.{only, pruned}
 use Rattle.stale_rules.specs.SeenIn.{group_seen, seen_of, IsWay}
 use Rattle.stale_rules.specs.Sets.{origins, trail_of}
 use Rattle.stale_rules.specs.UsesIn.{use_of, uses_of}
+use Rattle.stale_rules.proofs.ReadLaws.{any_filter}
+use Rattle.stale_rules.proofs.RefusalLaws.{name_kept}
 use Rattle.stale_rules.proofs.WalkLaws.{seen_append}
 use Rattle.stale_rules.specs.contracts.uses.KindPartialEq.TheImpl.{eq-value as kinds}
 use Rattle.stale_rules.specs.contracts.once.KeyPartialEq.TheImpl.{eq-value as same}
@@ -94,44 +100,42 @@ keeps_put es k v ss some none K =
     ∙ ap (λ (b : Bool). b || list_any (passes K) ss) (sym (any_flat (passes K) entry_seen es))
     ∙ sym (list_any-append (passes K) (entries_seen es) ss)
 
-none_before : (f : Origin → Bool) (n : Assigned) → n.names ≡ [] → n.earlier ≡ false → list_any f (origins n) ≡ false
-none_before f n e k i = list_any f (cond (k i) (earlier ∷ []) [] ++ map assigned (e i))
-
 some≢none : {X : Type 0} (x : X) (o : Option X) → o ≡ Some x → o ≡ None → ⊥
 some≢none x o e h = cc
 
-pub keeps_new : (es fs : List Entry) (k : Key) (n v a : Assigned) (u : Use) → key_use k ≡ u → n.names ≡ [] → n.earlier ≡ false → Joins (origins n) (origins v) (origins a)
-    → lookup (same.it k) es ≡ None → fs ≡ insert_entry same.it es k v → Keeps es fs (on_trail (Some (origins a)) (u ∷ []))
-keeps_new es fs k n v a u e names before j absent is =
+pub keeps_new : (es fs : List Entry) (k : Key) (v a : Assigned) (u : Use) → key_use k ≡ u → v ≡ a → lookup (same.it k) es ≡ None → fs ≡ insert_entry same.it es k v
+    → Keeps es fs (on_trail (Some (origins a)) (u ∷ []))
+keeps_new es fs k v a u e same_path absent is =
     subst (λ (gs : List Entry). Keeps es gs (on_trail (Some (origins a)) (u ∷ []))) (sym is)
     (keeps_put es k v (on_trail (Some (origins a)) (u ∷ []))
     (λ K w h. absurd (some≢none w (lookup (same.it k) es) h absent))
-    (λ K h. (λ i. (j (λ o. K o (key_use k)) ∙ ap (λ (b : Bool). b || list_any (λ o. K o (key_use k)) (origins a)) (none_before (λ o. K o (key_use k)) n names before)) i || false)
-    ∙ ap (λ (x : Use). list_any (λ o. K o x) (origins a) || false) e))
+    (λ K h i. list_any (λ o. K o (e i)) (origins (same_path i)) || false))
 
-pub keeps_known : (es fs : List Entry) (k : Key) (n m v a w : Assigned) (u : Use) → key_use k ≡ u → n.names ≡ [] → n.earlier ≡ false
-    → Joins (origins n) (origins m) (origins a) → Joins (origins m) (origins v) (origins w)
+pub keeps_known : (es fs : List Entry) (k : Key) (n v a w : Assigned) (u : Use) → key_use k ≡ u → n ≡ w → Joins (origins n) (origins v) (origins a)
     → lookup (same.it k) es ≡ Some w → fs ≡ insert_entry same.it es k v → Keeps es fs (on_trail (Some (origins a)) (u ∷ []))
-keeps_known es fs k n m v a w u e names before j l there is =
+keeps_known es fs k n v a w u e copy l there is =
     subst (λ (gs : List Entry). Keeps es gs (on_trail (Some (origins a)) (u ∷ []))) (sym is)
     (keeps_put es k v (on_trail (Some (origins a)) (u ∷ []))
     (λ K x h.
     let f : Origin → Bool = λ o. K o (key_use k) in
     or-false (list_any f (origins v)) ∙ l f
-    ∙ ap (λ (b : Bool). b || list_any f (origins w)) (j f ∙ ap (λ (b : Bool). b || list_any f (origins a)) (none_before f n names before))
-    ∙ turned (list_any f (origins a)) (list_any f (origins w))
-    ∙ ap (λ (y : Assigned). (list_any f (origins y) || false) || (list_any f (origins a) || false)) (same_some w x (sym there ∙ h))
+    ∙ ap (λ (y : Assigned). list_any f (origins y) || list_any f (origins a)) (copy ∙ same_some w x (sym there ∙ h))
+    ∙ each (list_any f (origins x)) (list_any f (origins a))
     ∙ ap (λ (y : Use). (list_any f (origins x) || false) || (list_any (λ o. K o y) (origins a) || false)) e)
     (λ K h. absurd (some≢none w (lookup (same.it k) es) there h)))
   where
-    turned : (b c : Bool) → (b || c) ≡ ((c || false) || (b || false))
-    turned true true = refl
-    turned true false = refl
-    turned false true = refl
-    turned false false = refl
+    each : (b c : Bool) → (b || c) ≡ ((b || false) || (c || false))
+    each true c = refl
+    each false true = refl
+    each false false = refl
 
     same_some : (x y : Assigned) → Some x ≡ Some y → x ≡ y
     same_some x y h = cc
+
+-- ---- uses that may matter
+
+used_name : (T : Word → Bool) (u : memory.Use) → T (name_used (use_of u)).word ≡ T u.name.word
+used_name T u = ap (λ (n : Name). T n.word) (name_kept u.kind u.name)
 
 -- ---- one after another
 
@@ -145,30 +149,47 @@ keeps_then a b c ss rs h k K =
 keeps_as : (a b : List Entry) (ss rs : List Seen) → ss ≡ rs → Keeps a b ss → Keeps a b rs
 keeps_as a b ss rs e h = subst (λ (us : List Seen). Keeps a b us) e h
 
-pub uses_more : (os : List Origin) (old now new : List Entry) (us : List memory.Use) (i : ℕ) (u : memory.Use) → u ≡ get_or us i u → i < length us
-    → Keeps old now (on_trail (Some os) (uses_of (take i us))) → Keeps now new (on_trail (Some os) (use_of u ∷ [])) → Keeps old new (on_trail (Some os) (uses_of (take (i + 1) us)))
-uses_more os old now new us i u e l h k =
-    keeps_as old new _ _
-    (sym (ap (λ (vs : List memory.Use). on_trail (Some os) (uses_of vs)) (take_more us i u l ∙ ap (λ (z : memory.Use). take i us ++ z ∷ []) (sym e))
-    ∙ ap (on_trail (Some os)) (map-append use_of (take i us) (u ∷ [])) ∙ map-append (λ x. record { use_of = x; trail = Some os }) (uses_of (take i us)) (use_of u ∷ [])))
-    (keeps_then old now new (on_trail (Some os) (uses_of (take i us))) (on_trail (Some os) (use_of u ∷ [])) h k)
+pub keeps_skipped : (T : Word → Bool) (es : List Entry) (q : Trail) (u : memory.Use) → T u.name.word ≡ false → Keeps es es (only T (on_trail q (use_of u ∷ [])))
+keeps_skipped T es q u e = keeps_as es es [] (only T (on_trail q (use_of u ∷ []))) (λ i. cond (sym (used_name T u ∙ e) i) (record { use_of = use_of u; trail = q } ∷ []) []) (keeps_none es)
 
-pub uses_all : (os : List Origin) (old new : List Entry) (us : List memory.Use) (i : ℕ) → length us ≤ i → Keeps old new (on_trail (Some os) (uses_of (take i us))) → Keeps old new (on_trail (Some os) (uses_of us))
-uses_all os old new us i l h = keeps_as old new _ _ (ap (λ (vs : List memory.Use). on_trail (Some os) (uses_of vs)) (take_all i us l)) h
+pub keeps_wanted : (T : Word → Bool) (es fs : List Entry) (q : Trail) (u : memory.Use) → T u.name.word ≡ true → Keeps es fs (on_trail q (use_of u ∷ [])) → Keeps es fs (only T (on_trail q (use_of u ∷ [])))
+keeps_wanted T es fs q u e h =
+    keeps_as es fs (on_trail q (use_of u ∷ [])) (only T (on_trail q (use_of u ∷ []))) (λ i. cond (sym (used_name T u ∙ e) i) (record { use_of = use_of u; trail = q } ∷ []) []) h
+
+only_two : (T : Word → Bool) (xs ys : List Seen) → only T (xs ++ ys) ≡ only T xs ++ only T ys
+only_two T xs ys = filter-append (λ (s : Seen). T (name_used s.use_of).word) xs ys
+
+pub uses_more : (T : Word → Bool) (os : List Origin) (old now new : List Entry) (us : List memory.Use) (i : ℕ) (u : memory.Use) → u ≡ get_or us i u → i < length us
+    → Keeps old now (only T (on_trail (Some os) (uses_of (take i us)))) → Keeps now new (only T (on_trail (Some os) (use_of u ∷ []))) → Keeps old new (only T (on_trail (Some os) (uses_of (take (i + 1) us))))
+uses_more T os old now new us i u e l h k =
+    keeps_as old new _ _
+    (sym (ap (λ (vs : List memory.Use). only T (on_trail (Some os) (uses_of vs))) (take_more us i u l ∙ ap (λ (z : memory.Use). take i us ++ z ∷ []) (sym e))
+    ∙ ap (λ (vs : List Use). only T (on_trail (Some os) vs)) (map-append use_of (take i us) (u ∷ []))
+    ∙ ap (only T) (map-append (λ x. record { use_of = x; trail = Some os }) (uses_of (take i us)) (use_of u ∷ []))
+    ∙ only_two T (on_trail (Some os) (uses_of (take i us))) (on_trail (Some os) (use_of u ∷ []))))
+    (keeps_then old now new (only T (on_trail (Some os) (uses_of (take i us)))) (only T (on_trail (Some os) (use_of u ∷ []))) h k)
+
+pub uses_all : (T : Word → Bool) (os : List Origin) (old new : List Entry) (us : List memory.Use) (i : ℕ) → length us ≤ i
+    → Keeps old new (only T (on_trail (Some os) (uses_of (take i us)))) → Keeps old new (only T (on_trail (Some os) (uses_of us)))
+uses_all T os old new us i l h = keeps_as old new _ _ (ap (λ (vs : List memory.Use). only T (on_trail (Some os) (uses_of vs))) (take_all i us l)) h
 
 one_group : (gs : List Group) (i : ℕ) (g : Group) → g ≡ get_or gs i g → i < length gs → seen_of (take (i + 1) gs) ≡ seen_of (take i gs) ++ group_seen g
 one_group gs i g e l =
     ap seen_of (take_more gs i g l ∙ ap (λ (z : Group). take i gs ++ z ∷ []) (sym e))
     ∙ flat_map-append group_seen (take i gs) (g ∷ []) ∙ ap (λ (ss : List Seen). seen_of (take i gs) ++ ss) (append-nil (group_seen g))
 
-pub kept_more : (old now new : List Entry) (gs : List Group) (i : ℕ) (g : Group) → g ≡ get_or gs i g → i < length gs
-    → Keeps old now (seen_of (take i gs)) → Keeps now new (group_seen g) → Keeps old new (seen_of (take (i + 1) gs))
-kept_more old now new gs i g e l h k = keeps_as old new _ _ (sym (one_group gs i g e l)) (keeps_then old now new (seen_of (take i gs)) (group_seen g) h k)
+pub kept_more : (T : Word → Bool) (old now new : List Entry) (gs : List Group) (i : ℕ) (g : Group) → g ≡ get_or gs i g → i < length gs
+    → Keeps old now (only T (seen_of (take i gs))) → Keeps now new (only T (group_seen g)) → Keeps old new (only T (seen_of (take (i + 1) gs)))
+kept_more T old now new gs i g e l h k =
+    keeps_as old new _ _ (sym (ap (only T) (one_group gs i g e l) ∙ only_two T (seen_of (take i gs)) (group_seen g))) (keeps_then old now new (only T (seen_of (take i gs))) (only T (group_seen g)) h k)
 
-pub kept_all : (old new : List Entry) (gs : List Group) (i : ℕ) → length gs ≤ i → Keeps old new (seen_of (take i gs)) → Keeps old new (seen_of gs)
-kept_all old new gs i l h = keeps_as old new _ _ (ap seen_of (take_all i gs l)) h
+pub kept_all : (T : Word → Bool) (old new : List Entry) (gs : List Group) (i : ℕ) → length gs ≤ i → Keeps old new (only T (seen_of (take i gs))) → Keeps old new (only T (seen_of gs))
+kept_all T old new gs i l h = keeps_as old new _ _ (ap (λ (hs : List Group). only T (seen_of hs)) (take_all i gs l)) h
 
 -- ---- as groups again
+
+pub key_group : (k : Key) (g : Group) (a : Assigned) (u : memory.Use) → g.uses.items ≡ u ∷ [] → use_of u ≡ key_use k → g.after ≡ a → SeenLike (group_seen g) (entry_seen (k, a))
+key_group k g a u e h s K = λ i. list_any (passes K) (on_trail (Some (origins (s i))) ((ap uses_of e ∙ ap (λ (v : Use). v ∷ []) h) i))
 
 pub groups_none : (gs : List Group) (es : List Entry) → gs ≡ [] → SeenLike (seen_of gs) (entries_seen (take 0 es))
 groups_none gs [] e K = ap (λ (hs : List Group). list_any (passes K) (seen_of hs)) e
@@ -199,11 +220,30 @@ groups_more old new g es i n m less is one h = by (slice_get es i) refl
 pub groups_all : (gs : List Group) (es : List Entry) (i n : ℕ) → n ≡ length es → n ≤ i → SeenLike (seen_of gs) (entries_seen (take i es)) → SeenLike (seen_of gs) (entries_seen es)
 groups_all gs es i n m l h = subst (λ (fs : List Entry). SeenLike (seen_of gs) (entries_seen fs)) (take_all i es (omega (arith, m, l))) h
 
--- ---- a walk with each use once
+-- ---- a walk with each use once that may matter
 
-pub way_kept : (w r : Walk) (old new : List Entry) (c : Called) → old ≡ [] → Keeps old new (seen_of w.seen.items) → SeenLike (seen_of r.seen.items) (entries_seen new)
-    → r.labelled ≡ w.labelled → r.path ≡ w.path → IsWay w c → IsWay r c
-way_kept w r old new c e k s l p h = record {
+met_wanted : (T : Word → Bool) (K : Origin → Use → Bool) (q : Trail) (u : Use) → (T (name_used u).word && met K q u) ≡ met (λ o v. T (name_used v).word && K o v) q u
+met_wanted T K None u = by (T (name_used u).word)
+  where
+    by : (b : Bool) → (b && false) ≡ false
+    by true = refl
+    by false = refl
+met_wanted T K (Some os) u = by (T (name_used u).word)
+  where
+    by : (b : Bool) → (b && list_any (λ o. K o u) os) ≡ list_any (λ o. b && K o u) os
+    by true = refl
+    by false = sym (any_none (λ (o : Origin). false) (λ o. refl) os)
+
+only_like : (T : Word → Bool) (xs ys : List Seen) → SeenLike xs ys → SeenLike (only T xs) (only T ys)
+only_like T xs ys l K =
+    let p : Seen → Bool = λ s. T (name_used s.use_of).word in
+    let H : Origin → Use → Bool = λ o v. T (name_used v).word && K o v in
+    let e : (s : Seen) → (p s && passes K s) ≡ passes H s = λ s. met_wanted T K s.trail s.use_of in
+    any_filter (passes K) p xs ∙ any_same (λ s. p s && passes K s) (passes H) e xs ∙ l H ∙ sym (any_filter (passes K) p ys ∙ any_same (λ s. p s && passes K s) (passes H) e ys)
+
+pub way_kept : (T : Word → Bool) (w r : Walk) (old new : List Entry) (c : Called) → old ≡ [] → Keeps old new (only T (seen_of w.seen.items)) → SeenLike (seen_of r.seen.items) (entries_seen new)
+    → r.labelled ≡ w.labelled → r.path ≡ w.path → IsWay w c → IsWay r (pruned T c)
+way_kept T w r old new c e k s l p h = record {
   end = (l ∙ h.end.0, subst (λ (q : Option Assigned). LikeTrail (trail_of q) c.end.trail) (sym p) h.end.1);
-  seen = λ K. s K ∙ k K ∙ ap (λ (es : List Entry). list_any (passes K) (entries_seen es ++ seen_of w.seen.items)) e ∙ h.seen K;
+  seen = λ K. s K ∙ k K ∙ ap (λ (es : List Entry). list_any (passes K) (entries_seen es ++ only T (seen_of w.seen.items))) e ∙ only_like T (seen_of w.seen.items) c.seen h.seen K;
 }

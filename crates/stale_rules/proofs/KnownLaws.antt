@@ -9,7 +9,7 @@ use Rattle.pcal_tree.specs.declared.algorithm.Macro.{Macro}
 use Rattle.pcal_tree.specs.Algorithm.{Name, Procedure}
 use Rattle.pcal_tree.specs.Algorithm as tree
 use Rattle.pcal_tree.specs.InMemory.{macro_at}
-use Rattle.pcal_tree.specs.laws.MacroSpots.{At, Trail, Called, MacroSeen, macros_seen, seen_in_call, before_on, put_called, seen_from, unlabelled}
+use Rattle.pcal_tree.specs.laws.MacroSpots.{At, Trail, Called, MacroSeen, seen_in_call, before_on, put_called, seen_from, unlabelled}
 use Rattle.pcal_tree.proofs.SpotCalls.{Like, SeenLike}
 use Rattle.pcal_tree.proofs.SpotGrafts.{putting}
 use Rattle.algorithm_limits.specs.Numbers.{Numbers, number_of, with_number}
@@ -20,6 +20,7 @@ use Rattle.stale_rules.specs.declared.steps.Jump.{Jump}
 use Rattle.stale_rules.specs.declared.walk.Walk.{Walk}
 use Rattle.stale_rules.specs.KnownIn.{IsSummary, find_seen, seen_by_found, IsFound, AreMacros, Knows}
 use Rattle.stale_rules.specs.MacrosIn.{macro_seen}
+use Rattle.stale_rules.specs.Pruned.{macro_pruned, macros_pruned}
 use Rattle.stale_rules.specs.PlainPuts.{way}
 use Rattle.stale_rules.specs.SeenIn.{seen_of, at_of, Walks}
 use Rattle.stale_rules.specs.StepsIn.{AreJumps}
@@ -118,10 +119,11 @@ knows_none k ps e j = record {
 }
 
 -- the newest comes first
-pub newest_seen : (ts : List Tree) (ps : List Procedure) (ds : List Macro) (i : ℕ) (d : Macro) → d ≡ get_or ds i d → i < length ds
-    → macros_seen ps (reverse (map (macro_at ts) (take (i + 1) ds))) ≡ macro_seen ps (macros_seen ps (reverse (map (macro_at ts) (take i ds)))) (macro_at ts d) ∷ macros_seen ps (reverse (map (macro_at ts) (take i ds)))
-newest_seen ts ps ds i d e l =
-    ap (macros_seen ps)
+pub newest_kept : (T : Word → Bool) (ts : List Tree) (ps : List Procedure) (ds : List Macro) (i : ℕ) (d : Macro) → d ≡ get_or ds i d → i < length ds
+    → macros_pruned T ps (reverse (map (macro_at ts) (take (i + 1) ds)))
+    ≡ macro_pruned T (macro_seen ps (macros_pruned T ps (reverse (map (macro_at ts) (take i ds)))) (macro_at ts d)) ∷ macros_pruned T ps (reverse (map (macro_at ts) (take i ds)))
+newest_kept T ts ps ds i d e l =
+    ap (macros_pruned T ps)
     (ap (λ (es : List Macro). reverse (map (macro_at ts) es)) (take_more ds i d l ∙ ap (λ (z : Macro). take i ds ++ z ∷ []) (sym e))
     ∙ ap (λ (es : List tree.Macro). reverse es) (map-append (macro_at ts) (take i ds) (d ∷ []))
     ∙ reverse-append (map (macro_at ts) (take i ds)) (macro_at ts d ∷ []))

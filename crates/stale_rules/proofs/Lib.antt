@@ -14,3 +14,5 @@ pub mod KnownLaws
 pub mod JumpLaws
 pub mod ReadLaws
 pub mod RefusalLaws
+pub mod PruneLaws
+pub mod WantedLaws

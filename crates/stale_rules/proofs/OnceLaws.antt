@@ -42,7 +42,7 @@ pairs_pass K (Some os) u =
     any_same (λ o. K o u) (λ o. K o u || false) (λ o. sym (or-false (K o u))) os
     ∙ sym (any_map (λ p. passes K (seen_pair p)) (λ o. record { use_of = u; origin = o }) os)
 
-once_seen : (c : Called) → SeenLike c.seen (once c).seen
+pub once_seen : (c : Called) → SeenLike c.seen (once c).seen
 once_seen c K =
     any_same (passes K) (λ s. list_any one (pairs_on s.trail s.use_of)) (λ s. pairs_pass K s.trail s.use_of) c.seen
     ∙ sym (any_flat one (λ s. pairs_on s.trail s.use_of) c.seen)

@@ -1,10 +1,9 @@
 -- Paths in memory, and what is seen on them: what no test tells apart.
-use Rattle.std.proofs.Common.{◌≡◌, false, ◌||◌, List, [], ◌∷◌, ◌++◌, Some, None, refl, sym, ap, ◌∙◌, cond, map, append_assoc}
-use Rattle.std.specs.List.{list_any}
+use Rattle.std.proofs.Common.{◌≡◌, List, Some, None, refl, sym, ap, ◌∙◌, append_assoc}
 use Rattle.std.proofs.lemmas.List.Folds.{list_any-append}
 use Rattle.pcal_tree.proofs.SetLaws.{same_both}
 use Rattle.pcal_tree.proofs.SpotCalls.{LikeTrail}
-use Rattle.pcal_tree.specs.laws.MacroSpots.{Origin, earlier, assigned, Trail, joined}
+use Rattle.pcal_tree.specs.laws.MacroSpots.{Origin, Trail, joined}
 use Rattle.stale_rules.specs.declared.assigned.Assigned.{Assigned}
 use Rattle.stale_rules.specs.Joins.{Joins}
 use Rattle.stale_rules.specs.Sets.{origins, trail_of}
@@ -20,12 +19,6 @@ like_turned None None l = tt
 like_turned (Some xs) (Some ys) l = λ f. sym (l f)
 like_turned None (Some ys) l = absurd l
 like_turned (Some xs) None l = absurd l
-
-pub like_none : LikeTrail (trail_of None) (trail_of None)
-like_none = tt
-
-pub like_copy : (n c a : Assigned) → n.names ≡ [] → n.earlier ≡ false → Joins (origins n) (origins c) (origins a) → LikeTrail (trail_of (Some c)) (trail_of (Some a))
-like_copy n c a e h j f = j f ∙ (λ i. list_any f (cond (h i) (earlier ∷ []) [] ++ map assigned (e i)) || list_any f (origins a))
 
 pub like_join : (a b c : Assigned) → Joins (origins a) (origins c) (origins b) → LikeTrail (trail_of (Some c)) (joined (trail_of (Some a)) (trail_of (Some b)))
 like_join a b c j f = j f ∙ sym (list_any-append f (origins a) (origins b))

@@ -112,13 +112,13 @@ before_put : (f : Origin → Bool) (ps : List Name) (ts : Trees) (q : Trail) (b 
 before_put f ps ts q true = ap (list_any f) (sym (append-nil (before_on q)))
 before_put f ps ts q false = refl
 
-pub assigned_put : (ps : List Name) (ts : Trees) (q : Trail) (n b c from : Assigned) → n.names ≡ [] → n.earlier ≡ false → Joins (origins n) (origins b) (before_if from.earlier q)
+pub assigned_put : (ps : List Name) (ts : Trees) (q : Trail) (b c from : Assigned) → Same (origins b) (before_if from.earlier q)
     → Joins b.names c.names (words_put ps ts from.names) → c.earlier ≡ b.earlier → Same (origins c) (flat_map (put_origin (putting ps ts (before_on q))) (origins from))
-assigned_put ps ts q n b c from e h j k g f =
+assigned_put ps ts q b c from j k g f =
     let P = put_origin (putting ps ts (before_on q)) in
     let more = list_any (λ x. f (assigned x)) (words_put ps ts from.names) in
     origins_any f c ∙ (λ i. (g i && f earlier) || k (λ x. f (assigned x)) i)
     ∙ sym (or_both (b.earlier && f earlier) (list_any (λ x. f (assigned x)) b.names) more)
-    ∙ ap (λ (t : Bool). t || more) (sym (origins_any f b) ∙ j f ∙ (λ i. list_any f (cond (h i) (earlier ∷ []) [] ++ map assigned (e i)) || list_any f (before_if from.earlier q)))
+    ∙ ap (λ (t : Bool). t || more) (sym (origins_any f b) ∙ j f)
     ∙ (λ i. before_put f ps ts q from.earlier i || sym (names_put f ps ts (before_on q) from.names) i)
     ∙ sym (ap (list_any f) (flat_map-append P (cond from.earlier (earlier ∷ []) []) (map assigned from.names)) ∙ list_any-append f (flat_map P (cond from.earlier (earlier ∷ []) [])) (flat_map P (map assigned from.names)))

@@ -38,7 +38,7 @@ meets_none r ds names x a e = meets_same names names [] (through ds x) (λ f. re
 pub number_past : (r : Reads) (ds : List Reading) (x : Word) → AreReads r ds → length r.lists.items < number_of r.numbers x → {A : Type 0} → A
 number_past r ds x a less = let w = a.within x in absurd (omega (arith, less, w))
 
-reads_there : (r : Reads) (x : Word) (i : ℕ) (s : List Word) → number_of r.numbers x ≡ suc i → s ≡ get_or r.lists.items i s → i < length r.lists.items → reads_at r.lists.items (number_of r.numbers x) ≡ s
+pub reads_there : (r : Reads) (x : Word) (i : ℕ) (s : List Word) → number_of r.numbers x ≡ suc i → s ≡ get_or r.lists.items i s → i < length r.lists.items → reads_at r.lists.items (number_of r.numbers x) ≡ s
 reads_there r x i s e is less =
     ap (reads_at r.lists.items) e ∙ ap (λ (o : Option (List Word)). unwrap_or o []) (slice_get_read r.lists.items (length r.lists.items) i s refl less is)
 
@@ -83,7 +83,7 @@ declared_all new ds i l h f = h f ∙ ap (λ (es : List Declaration). list_any f
 
 -- ---- as the definitions say it
 
-any_filter : {X : Type 0} (f p : X → Bool) (xs : List X) → list_any f (filter p xs) ≡ list_any (λ x. p x && f x) xs
+pub any_filter : {X : Type 0} (f p : X → Bool) (xs : List X) → list_any f (filter p xs) ≡ list_any (λ x. p x && f x) xs
 any_filter f p [] = refl
 any_filter f p (x ∷ xs) = by (p x) (any_filter f p xs)
   where

@@ -37,7 +37,7 @@ origins_words a = by a.earlier
     by true = assigned_words a.names
     by false = assigned_words a.names
 
-name_kept : (k : Kind) (n : Name) → name_used (of_kind k n) ≡ n
+pub name_kept : (k : Kind) (n : Name) → name_used (of_kind k n) ≡ n
 name_kept kind.Value n = refl
 name_kept kind.Left n = refl
 name_kept kind.Other n = refl

@@ -1,10 +1,11 @@
 -- Sets as lists that no test tells apart.
-use Rattle.std.proofs.Common.{◌≡◌, ℕ, ◌+◌, ◌<◌, ◌≤◌, Bool, true, false, ◌&&◌, ◌||◌, List, [], ◌∷◌, ◌++◌, length, take, get_or, refl, sym, ap, ◌∙◌, cond, map}
+use Rattle.std.proofs.Common.{◌≡◌, ℕ, ◌+◌, ◌<◌, ◌≤◌, Bool, true, false, ◌&&◌, ◌||◌, List, [], ◌∷◌, ◌++◌, length, take, get_or, append-nil, refl, sym, ap, ◌∙◌, cond, map}
 use Rattle.std.specs.Prelude.{if◌then◌else◌}
-use Rattle.std.specs.List.{list_any}
+use Rattle.std.specs.List.{list_any, flat_map}
 use Rattle.std.proofs.lemmas.Bool.{or_left, or_right}
 use Rattle.std.proofs.lemmas.List.{take_more, take_all}
 use Rattle.std.proofs.lemmas.List.Folds.{list_any-append}
+use Rattle.std.proofs.lemmas.Grind.{flat_map-append}
 use Rattle.std.proofs.Math.Bool.{or-false}
 use Rattle.indexmap.specs.IndexSet.{insert_key}
 use Rattle.tla_tree.specs.Tree.{Word}
@@ -42,6 +43,14 @@ joins_one old x = by (list_any (equal x) old) refl
     by true e f = or_known (list_any f old) (f x) (has_one f x old e)
     by false e f = list_any-append f old (x ∷ [])
 
+-- one that is there already
+pub joins_had : (old : List Word) (x : Word) → list_any (equal x) old ≡ true → Joins old old (x ∷ [])
+joins_had old x e f = or_known (list_any f old) (f x) (has_one f x old e)
+
+-- one more than in a copy
+pub joins_after : (old copy new : List Word) (x : Word) → Joins [] copy old → Joins copy new (x ∷ []) → Joins old new (x ∷ [])
+joins_after old copy new x h k f = k f ∙ ap (λ (t : Bool). t || list_any f (x ∷ [])) (h f)
+
 -- ---- in loops
 
 pub names_more : (old now new xs : List Word) (i : ℕ) (x : Word) → x ≡ get_or xs i x → i < length xs → Joins old now (take i xs) → Joins now new (x ∷ []) → Joins old new (take (i + 1) xs)
@@ -51,6 +60,16 @@ names_more old now new xs i x e l h k f =
 
 pub names_all : (old new xs : List Word) (i : ℕ) → length xs ≤ i → Joins old new (take i xs) → Joins old new xs
 names_all old new xs i l h f = h f ∙ ap (λ (ys : List Word). list_any f old || list_any f ys) (take_all i xs l)
+
+pub joins_more : {X : Type 0} (g : X → List Word) (old now new : List Word) (xs : List X) (i : ℕ) (x : X) → x ≡ get_or xs i x → i < length xs → Joins old now (flat_map g (take i xs)) → Joins now new (g x)
+    → Joins old new (flat_map g (take (i + 1) xs))
+joins_more {X = X} g old now new xs i x e l h k f =
+    joins_then old now new (flat_map g (take i xs)) (g x) h k f
+    ∙ ap (λ (ys : List Word). list_any f old || list_any f ys)
+    (sym (ap (flat_map g) (take_more xs i x l ∙ ap (λ (z : X). take i xs ++ z ∷ []) (sym e)) ∙ flat_map-append g (take i xs) (x ∷ []) ∙ ap (λ (ys : List Word). flat_map g (take i xs) ++ ys) (append-nil (g x))))
+
+pub joins_all : {X : Type 0} (g : X → List Word) (old new : List Word) (xs : List X) (i : ℕ) → length xs ≤ i → Joins old new (flat_map g (take i xs)) → Joins old new (flat_map g xs)
+joins_all {X = X} g old new xs i l h f = h f ∙ ap (λ (ys : List X). list_any f old || list_any f (flat_map g ys)) (take_all i xs l)
 
 -- ---- what paths have assigned
 

@@ -19,10 +19,10 @@ use Rattle.pcal_tree.proofs.SpotCalls.{met, passes, SeenLike}
 use Rattle.pcal_tree.proofs.SpotMacros.{any_turned}
 
 -- a name as a use after x was assigned
-abbrev one_test : List Reading → (Refusal → Bool) → Name → Word → Bool
+abbrev pub one_test : List Reading → (Refusal → Bool) → Name → Word → Bool
 one_test ds f k x = is_among (through ds k.word) x && f (record { rule = DefinedStale; place = k.place })
 
-abbrev stale_test : List Reading → List Name → (Refusal → Bool) → Origin → Use → Bool
+abbrev pub stale_test : List Reading → List Name → (Refusal → Bool) → Origin → Use → Bool
 stale_test ds ns f o u = list_any (λ x. list_any (λ k. one_test ds f k x) (stands_for ns (name_used u))) (word_of o)
 
 pub any_and : {X : Type 0} (g : X → Bool) (c : Bool) (xs : List X) → (list_any g xs && c) ≡ list_any (λ x. g x && c) xs
@@ -66,7 +66,7 @@ one_seen ds ns f (Some os) u =
         ∙ ap (λ (b : Bool). b && f (record { rule = DefinedStale; place = k.place })) (met_by xs (through ds k.word))
         ∙ any_and (λ x. is_among (through ds k.word) x) (f (record { rule = DefinedStale; place = k.place })) xs
 
-all_seen : (ds : List Reading) (ns : List Name) (f : Refusal → Bool) (ss : List Seen) → list_any f (flat_map (stale_at ds ns) (map spot_of ss)) ≡ list_any (passes (stale_test ds ns f)) ss
+pub all_seen : (ds : List Reading) (ns : List Name) (f : Refusal → Bool) (ss : List Seen) → list_any f (flat_map (stale_at ds ns) (map spot_of ss)) ≡ list_any (passes (stale_test ds ns f)) ss
 all_seen ds ns f ss =
     any_flat f (stale_at ds ns) (map spot_of ss) ∙ any_map (λ s. list_any f (stale_at ds ns s)) spot_of ss
     ∙ any_same (λ s. list_any f (stale_at ds ns (spot_of s))) (passes (stale_test ds ns f)) (λ s. one_seen ds ns f s.trail s.use_of) ss

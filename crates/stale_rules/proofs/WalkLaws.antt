@@ -18,7 +18,7 @@ use Rattle.stale_rules.specs.declared.walk.Walk.{Walk}
 use Rattle.stale_rules.specs.declared.walk.Ways.{Ways}
 use Rattle.stale_rules.specs.Joins.{Joins}
 use Rattle.stale_rules.specs.PlainPuts.{plain, way}
-use Rattle.stale_rules.specs.SeenIn.{group_seen, seen_of, at_of, Sees, IsWay, Walks, trail_stepped, stepping, IsLoop, rounds_of, looping}
+use Rattle.stale_rules.specs.SeenIn.{group_seen, seen_of, at_of, Gains, Sees, IsWay, Walks, trail_stepped, stepping, IsLoop, rounds_of, looping}
 use Rattle.stale_rules.specs.Sets.{origins, trail_of}
 use Rattle.stale_rules.specs.UsesIn.{uses_of}
 use Rattle.stale_rules.proofs.PathLaws.{like_itself, like_joined}
@@ -63,10 +63,10 @@ put_trail_like ps ts os us e (Some xs) (Some ys) l = λ f.
 put_trail_like ps ts os us e None (Some ys) l = absurd l
 put_trail_like ps ts os us e (Some xs) None l = absurd l
 
-abbrev put_test : Put → (Origin → Use → Bool) → Origin → Use → Bool
+abbrev pub put_test : Put → (Origin → Use → Bool) → Origin → Use → Bool
 put_test P K o u = list_any (λ v. list_any (λ r. K r v) (put_origin P o)) (put_use P u)
 
-put_passes : (P : Put) (K : Origin → Use → Bool) (q : Trail) (u : Use) → list_any (passes K) (on_trail (put_trail P q) (put_use P u)) ≡ met (put_test P K) q u
+pub put_passes : (P : Put) (K : Origin → Use → Bool) (q : Trail) (u : Use) → list_any (passes K) (on_trail (put_trail P q) (put_use P u)) ≡ met (put_test P K) q u
 put_passes P K None u = any_map (passes K) (λ v. record { use_of = v; trail = None }) (put_use P u) ∙ any_none (λ v. false) (λ v. refl) (put_use P u)
 put_passes P K (Some os) u =
     any_map (passes K) (λ v. record { use_of = v; trail = Some (flat_map (put_origin P) os) }) (put_use P u)
@@ -110,9 +110,6 @@ put_seen_like ps ts os us e xs ys l K =
 
 -- ---- one after another
 
-pub sees_none : (w : Walk) → Sees w w []
-sees_none w = record { labelled = refl; path = refl; seen = λ K. ap (list_any (passes K)) (sym (append-nil (seen_of w.seen.items))) }
-
 pub sees_nowhere : (w : Walk) (us : List Use) → w.path ≡ None → Sees w w (on_trail (trail_of w.path) us)
 sees_nowhere w us e = record {
   labelled = refl;
@@ -123,59 +120,47 @@ sees_nowhere w us e = record {
       (λ K. sym ((λ i. list_any (passes K) (on_trail (trail_of (e i)) us)) ∙ none_seen us K)) K;
 }
 
-pub sees_then : (a b c : Walk) (ss rs : List Seen) → Sees a b ss → Sees b c rs → Sees a c (ss ++ rs)
-sees_then a b c ss rs h k = record {
-  labelled = k.labelled ∙ h.labelled;
-  path = k.path ∙ h.path;
-  seen = λ K.
-      k.seen K ∙ seen_append (seen_of b.seen.items) rs (seen_of a.seen.items ++ ss) rs h.seen (λ K. refl) K ∙ ap (list_any (passes K)) (append_assoc (seen_of a.seen.items) ss rs);
-}
-
 pub sees_as : (a b : Walk) (ss rs : List Seen) → ss ≡ rs → Sees a b ss → Sees a b rs
 sees_as a b ss rs e h = subst (λ (us : List Seen). Sees a b us) e h
 
-pub groups_more : (P : Put) (old now new : Walk) (gs : List Group) (i : ℕ) (g : Group) → g ≡ get_or gs i g → i < length gs
-    → Sees old now (flat_map (put_seen P) (seen_of (take i gs))) → Sees now new (flat_map (put_seen P) (group_seen g)) → Sees old new (flat_map (put_seen P) (seen_of (take (i + 1) gs)))
-groups_more P old now new gs i g e l h k =
-    sees_as old new _ _
+-- one more group
+gains_one : (old new : List Group) (g : Group) (ss : List Seen) → new ≡ old ++ g ∷ [] → SeenLike (group_seen g) ss → Gains old new ss
+gains_one old new g ss s e K =
+    ap (list_any (passes K)) (ap seen_of s ∙ flat_map-append group_seen old (g ∷ []) ∙ ap (λ (rs : List Seen). seen_of old ++ rs) (append-nil (group_seen g)))
+    ∙ seen_append (seen_of old) (group_seen g) (seen_of old) ss (λ K. refl) e K
+
+pub sees_group : (old new : Walk) (g : Group) (ss : List Seen) → new.labelled ≡ old.labelled → new.path ≡ old.path → new.seen.items ≡ old.seen.items ++ g ∷ [] → SeenLike (group_seen g) ss → Sees old new ss
+sees_group old new g ss l p s e = record { labelled = l; path = p; seen = gains_one old.seen.items new.seen.items g ss s e }
+
+pub gains_none : (gs : List Group) → Gains gs gs []
+gains_none gs K = ap (list_any (passes K)) (sym (append-nil (seen_of gs)))
+
+pub gains_more : (P : Put) (old now new gs : List Group) (i : ℕ) (g h : Group) → g ≡ get_or gs i g → i < length gs → new ≡ now ++ h ∷ []
+    → Gains old now (flat_map (put_seen P) (seen_of (take i gs))) → SeenLike (group_seen h) (flat_map (put_seen P) (group_seen g)) → Gains old new (flat_map (put_seen P) (seen_of (take (i + 1) gs)))
+gains_more P old now new gs i g h e l s a k K =
+    let us = flat_map (put_seen P) (seen_of (take i gs)) in
+    let vs = flat_map (put_seen P) (group_seen g) in
+    gains_one now new h vs s k K ∙ seen_append (seen_of now) vs (seen_of old ++ us) vs a (λ K. refl) K ∙ ap (list_any (passes K)) (append_assoc (seen_of old) us vs)
+    ∙ ap (λ (rs : List Seen). list_any (passes K) (seen_of old ++ rs))
     (sym (ap (λ (hs : List Group). flat_map (put_seen P) (seen_of hs)) (take_more gs i g l ∙ ap (λ (z : Group). take i gs ++ z ∷ []) (sym e))
     ∙ ap (flat_map (put_seen P)) (flat_map-append group_seen (take i gs) (g ∷ []) ∙ ap (λ (ss : List Seen). seen_of (take i gs) ++ ss) (append-nil (group_seen g)))
     ∙ flat_map-append (put_seen P) (seen_of (take i gs)) (group_seen g)))
-    (sees_then old now new (flat_map (put_seen P) (seen_of (take i gs))) (flat_map (put_seen P) (group_seen g)) h k)
 
-pub groups_all : (P : Put) (old new : Walk) (gs : List Group) (i : ℕ) → length gs ≤ i → Sees old new (flat_map (put_seen P) (seen_of (take i gs))) → Sees old new (flat_map (put_seen P) (seen_of gs))
-groups_all P old new gs i l h = sees_as old new _ _ (ap (λ (hs : List Group). flat_map (put_seen P) (seen_of hs)) (take_all i gs l)) h
+pub gains_all : (P : Put) (old new gs : List Group) (i : ℕ) → length gs ≤ i → Gains old new (flat_map (put_seen P) (seen_of (take i gs))) → Gains old new (flat_map (put_seen P) (seen_of gs))
+gains_all P old new gs i l h = subst (λ (hs : List Group). Gains old new (flat_map (put_seen P) (seen_of hs))) (take_all i gs l) h
 
--- one more group
-sees_group : (old new : Walk) (g : Group) (ss : List Seen) → new.labelled ≡ old.labelled → new.path ≡ old.path → new.seen.items ≡ old.seen.items ++ g ∷ [] → SeenLike (group_seen g) ss → Sees old new ss
-sees_group old new g ss l p s e = record {
-  labelled = l;
-  path = p;
-  seen = λ K.
-      ap (list_any (passes K)) (ap seen_of s ∙ flat_map-append group_seen old.seen.items (g ∷ []) ∙ ap (λ (rs : List Seen). seen_of old.seen.items ++ rs) (append-nil (group_seen g)))
-      ∙ seen_append (seen_of old.seen.items) (group_seen g) (seen_of old.seen.items) ss (λ K. refl) e K;
-}
-
-pub sees_put : (ps : List Name) (ts : Trees) (os : List Origin) (old new : Walk) (g h : Group) → new.labelled ≡ old.labelled → new.path ≡ old.path → new.seen.items ≡ old.seen.items ++ h ∷ []
-    → uses_of h.uses.items ≡ flat_map (put_use (putting ps ts [])) (uses_of g.uses.items) → Same (origins h.after) (flat_map (put_origin (putting ps ts os)) (origins g.after))
-    → Sees old new (flat_map (put_seen (putting ps ts os)) (group_seen g))
-sees_put ps ts os old new g h l p s u e =
+pub put_like : (ps : List Name) (ts : Trees) (os : List Origin) (g h : Group) → uses_of h.uses.items ≡ flat_map (put_use (putting ps ts [])) (uses_of g.uses.items)
+    → Same (origins h.after) (flat_map (put_origin (putting ps ts os)) (origins g.after)) → SeenLike (group_seen h) (flat_map (put_seen (putting ps ts os)) (group_seen g))
+put_like ps ts os g h u e K =
     let us = uses_of g.uses.items in
     let P = putting ps ts os in
     let q : Trail = Some (origins g.after) in
-    sees_group old new h (flat_map (put_seen P) (group_seen g)) l p s
-    (λ K. on_like (Some (origins h.after)) (put_trail P q) e (uses_of h.uses.items) K
+    on_like (Some (origins h.after)) (put_trail P q) e (uses_of h.uses.items) K
     ∙ ap (λ (vs : List Use). list_any (passes K) (on_trail (put_trail P q) vs)) (u ∙ uses_same ps ts [] os us)
-    ∙ ap (list_any (passes K)) (sym (seen_put P q us)))
+    ∙ ap (list_any (passes K)) (sym (seen_put P q us))
 
-pub sees_here : (old new : Walk) (all n after : Assigned) (h : Group) (us : List Use) → old.path ≡ Some all → h.after ≡ after → n.names ≡ [] → n.earlier ≡ false → Joins (origins n) (origins after) (origins all)
-    → uses_of h.uses.items ≡ flat_map (put_use (putting [] no_trees [])) us → new.labelled ≡ old.labelled → new.path ≡ old.path → new.seen.items ≡ old.seen.items ++ h ∷ []
-    → Sees old new (on_trail (trail_of old.path) us)
-sees_here old new all n after h us w a e k j u l p s =
-    sees_group old new h (on_trail (trail_of old.path) us) l p s
-    (λ K. ap (λ (b : Assigned). list_any (passes K) (on_trail (Some (origins b)) (uses_of h.uses.items))) a
-    ∙ on_like (Some (origins after)) (Some (origins all)) (λ f. j f ∙ (λ i. list_any f (cond (k i) (earlier ∷ []) [] ++ map assigned (e i)) || list_any f (origins all))) (uses_of h.uses.items) K
-    ∙ (λ i. list_any (passes K) (on_trail (trail_of (sym w i)) ((u ∙ uses_kept [] us) i))))
+pub here_like : (a : Assigned) (h : Group) (us : List Use) → h.after ≡ a → uses_of h.uses.items ≡ flat_map (put_use (putting [] no_trees [])) us → SeenLike (group_seen h) (on_trail (Some (origins a)) us)
+here_like a h us e u K = λ i. list_any (passes K) (on_trail (Some (origins (e i))) ((u ∙ uses_kept [] us) i))
 
 -- ---- a statement with none in it
 
@@ -314,7 +299,7 @@ taken_loop inner g h (Some os) = h.after_any os
 
 pub loop_walks : (inner : Ways) (g : Trail → Called) → (h : IsLoop inner g) → (us : List Use) (old one two three new : Walk) → one.seen.items ≡ old.seen.items
     → LikeTrail (trail_of one.path) (cond old.labelled (trail_of old.path) (rounds_of g (trail_of old.path))) → Sees one two (on_trail (trail_of one.path) us)
-    → LikeTrail (trail_of new.path) (trail_of two.path) → Walks two three (λ z. put_called (plain (before_on z.trail)) (way (g None) h.symbol z.trail))
+    → new.path ≡ two.path → Walks two three (λ z. put_called (plain (before_on z.trail)) (way (g None) h.symbol z.trail))
     → new.seen.items ≡ three.seen.items → new.labelled ≡ false → Walks old new (looping us g)
 loop_walks inner g h us old one two three new s l k c m t n z a =
     let r = cond z.labelled z.trail (rounds_of g z.trail) in
@@ -322,7 +307,7 @@ loop_walks inner g h us old one two three new s l k c m t n z a =
     let p = like_then (trail_of one.path) (cond old.labelled (trail_of old.path) (rounds_of g (trail_of old.path))) r l d in
     let w = subst (λ (q : Option Assigned). LikeTrail (trail_of q) r) (sym k.path) p in
     let v = (m (record { labelled = two.labelled; trail = r }) (refl, w)).1 in (
-      (n, like_then (trail_of new.path) (trail_of two.path) r c w),
+      (n, subst (λ (q : Option Assigned). LikeTrail (trail_of q) r) (sym c) w),
       λ K.
           ap (λ (gs : List Group). list_any (passes K) (seen_of gs)) t ∙ v K
           ∙ ap (λ (x : Called). list_any (passes K) (seen_of two.seen.items ++ x.seen)) (taken_loop inner g h r)

@@ -1,13 +1,14 @@
 -- What is known of macros and procedures, in memory.
-use Rattle.std.specs.Prelude.{◌≡◌, ℕ, zero, suc, List, [], ◌∷◌, Option, Some, None, cond, bytes_eq, slice_get}
+use Rattle.std.specs.Prelude.{◌≡◌, ℕ, zero, suc, ◌+◌, List, [], ◌∷◌, ◌++◌, length, reverse, Bool, Option, Some, None, cond, bytes_eq, slice_get}
 use Rattle.tla_tree.specs.Tree.{Word, Trees}
-use Rattle.pcal_tree.specs.Algorithm.{Procedure}
+use Rattle.pcal_tree.specs.Algorithm.{Procedure, Algorithm}
 use Rattle.pcal_tree.specs.laws.MacroSpots.{At, Called, MacroSeen, before_on, put_called, seen_from, unlabelled}
 use Rattle.pcal_tree.proofs.SpotGrafts.{putting}
-use Rattle.algorithm_limits.specs.Numbers.{number_of}
+use Rattle.algorithm_limits.specs.Numbers.{number_of, with_number}
 use Rattle.stale_rules.specs.declared.known.Known.{Known}
 use Rattle.stale_rules.specs.declared.known.Summary.{Summary}
 use Rattle.stale_rules.specs.declared.walk.Ways.{Ways}
+use Rattle.stale_rules.specs.Pruned.{macros_pruned}
 use Rattle.stale_rules.specs.SeenIn.{IsWay}
 use Rattle.stale_rules.specs.StepsIn.{AreJumps}
 
@@ -41,3 +42,13 @@ AreMacros k ms = (m : Word) → IsFound k.summaries.items (number_of k.numbers m
 pub record Knows (k : Known) (ms : List MacroSeen) (ps : List Procedure) : Type 0 where
   pub macros : AreMacros k ms
   pub jumps : AreJumps k.jumps.items ps
+
+-- all macros of an algorithm, with those uses that pass a test
+abbrev pub KnowsAll : (Word → Bool) → Known → Algorithm → Type 0
+KnowsAll T k a = Knows k (macros_pruned T a.procedures (reverse a.macros)) a.procedures
+
+-- a newer macro of a name is this
+pub record HasMacro (old new : Known) (x : Word) (s : Summary) : Type 0 where
+  pub summaries : new.summaries.items ≡ old.summaries.items ++ s ∷ []
+  pub numbers : new.numbers ≡ with_number old.numbers x (length old.summaries.items + 1)
+  pub jumps : new.jumps.items ≡ old.jumps.items

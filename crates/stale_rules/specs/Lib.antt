@@ -11,6 +11,8 @@ pub mod KnownIn
 pub mod BodiesIn
 pub mod OnceIn
 pub mod MacrosIn
+pub mod Pruned
+pub mod WantedIn
 pub mod JumpsIn
 pub mod ReadsIn
 pub mod RefusalsIn

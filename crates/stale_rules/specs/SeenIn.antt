@@ -22,11 +22,15 @@ seen_of gs = flat_map group_seen gs
 abbrev pub at_of : Walk → At
 at_of w = record { labelled = w.labelled; trail = trail_of w.path }
 
+-- this is seen too
+abbrev pub Gains : List Group → List Group → List Seen → Type 0
+Gains old new ss = SeenLike (seen_of new) (seen_of old ++ ss)
+
 -- this is seen too, and nothing else changes
 pub record Sees (old new : Walk) (ss : List Seen) : Type 0 where
   pub labelled : new.labelled ≡ old.labelled
   pub path : new.path ≡ old.path
-  pub seen : SeenLike (seen_of new.seen.items) (seen_of old.seen.items ++ ss)
+  pub seen : Gains old.seen.items new.seen.items ss
 
 -- this was seen in a body from its beginning
 pub record IsWay (w : Walk) (c : Called) : Type 0 where

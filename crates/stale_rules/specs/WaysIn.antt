@@ -23,7 +23,7 @@ pub record Begins (w : Walk) (z : At) : Type 0 where
 pub record Moves (old new : Walk) (to : Option Assigned) : Type 0 where
   pub seen : new.seen.items ≡ old.seen.items
   pub labelled : new.labelled ≡ false
-  pub path : LikeTrail (trail_of new.path) (trail_of to)
+  pub path : new.path ≡ to
 
 abbrev pub Restarts : Ways → Ways → Paths → Type 0
 Restarts old new start = Moves old.unreached new.unreached start.unreached × Moves old.reached new.reached start.reached

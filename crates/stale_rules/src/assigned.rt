@@ -37,6 +37,20 @@ impl Assigned {
         }
     }
 
+    /// The same once more.
+    ///
+    /// # Errors
+    ///
+    /// Only for want of memory.
+    pub fn copied(&self) -> Result<Assigned, AllocError>
+        ensures { IfOk result (λ r. r ≡ self.now) }
+    {
+        Ok(Assigned {
+            earlier: self.earlier,
+            names: self.names.copied()?,
+        })
+    }
+
     /// What others have assigned too.
     ///
     /// # Errors
@@ -57,17 +71,12 @@ impl Assigned {
 /// # Errors
 ///
 /// Only for want of memory.
-#[tactic(auto, using(crate::proofs::PathLaws::like_copy, crate::proofs::PathLaws::like_none))]
-pub fn copied(alloc: Global, path: &Option<Assigned>) -> Result<Option<Assigned>, AllocError>
-    ensures { IfOk result (λ r. LikeTrail (trail_of r) (trail_of path.now)) }
+pub fn copied(path: &Option<Assigned>) -> Result<Option<Assigned>, AllocError>
+    ensures { IfOk result (λ r. r ≡ path.now) }
 {
     match path {
         None => Ok(None),
-        Some(all) => {
-            let mut copy = Assigned::new(alloc, false);
-            copy.add_all(all)?;
-            Ok(Some(copy))
-        }
+        Some(all) => Ok(Some(all.copied()?)),
     }
 }
 

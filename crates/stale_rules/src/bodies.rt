@@ -1,22 +1,47 @@
 //! What is seen in statements.
 
-ghost use Rattle.std.specs.Prelude.{◌≤◌, List, length, IfOk, OnOk};
-ghost use Rattle.pcal_tree.specs.Algorithm.{Procedure};
-ghost use Rattle.pcal_tree.specs.InMemory.{simple_at, statements_at, branches_at, past_simple, past_stmt, past_statements, past_branches};
-ghost use Rattle.pcal_tree.specs.laws.MacroSpots.{MacroSeen, seen_in_call, seen_in_body, unlabelled};
+ghost use Rattle.std.specs.Prelude.{◌≡◌, ◌<◌, ◌≤◌, List, length, map, IfOk, OnOk};
+ghost use Rattle.tla_tree.specs.Nesting.{greatest};
+ghost use Rattle.tla_tree.specs.Pool.{at};
+ghost use Rattle.pcal_tree.specs.Algorithm.{branch, either, with, while, Procedure};
+ghost use Rattle.tla_token.specs.declared.place.Place.{Place};
+ghost use Rattle.pcal_tree.specs.InMemory.{binds_at, simple_at, statements_at, branches_at, past_bind, past_simple, past_stmt, past_statements, past_branches};
+ghost use Rattle.pcal_tree.specs.laws.MacroSpots.{MacroSeen, seen_in_call, seen_in_body, unlabelled, uses, uses_of_binds};
 ghost use Rattle.stale_rules.specs.BodiesIn.{one, GoesStmt, in_some, no_paths};
 ghost use Rattle.stale_rules.specs.KnownIn.{Knows};
+ghost use Rattle.stale_rules.specs.UsesIn.{uses_of};
 ghost use Rattle.stale_rules.specs.WaysIn.{Goes, Branches};
 
 use crate::known::Known;
 use crate::steps::{add_binds, step};
-use crate::uses::add_uses;
+use crate::uses::{Use, add_uses};
 use crate::walk::Ways;
 use crate::ways::Paths;
-use pcal_tree::algorithm::{Simple, Stmt};
+use pcal_tree::algorithm::{Bind, Simple, Stmt};
 use std::alloc::{AllocError, Global};
 use tla_pool::Pool;
 use tla_token::Place;
+use tla_tree::NodeId;
+
+// What the test of a statement uses.
+fn test_uses(alloc: Global, pool: &Pool, e: NodeId) -> Result<Vec<Use>, AllocError>
+    requires { e < length pool.now }
+    ensures { IfOk result (λ r. uses_of r.items ≡ uses (at pool.now e)) }
+{
+    let mut list = Vec::new(alloc);
+    add_uses(&mut list, pool, e)?;
+    Ok(list)
+}
+
+// What the expressions of a `with` use.
+fn bind_uses(alloc: Global, pool: &Pool, binds: &[Bind]) -> Result<Vec<Use>, AllocError>
+    requires { greatest (map past_bind binds.now) ≤ length pool.now }
+    ensures { IfOk result (λ r. uses_of r.items ≡ uses_of_binds (binds_at pool.now binds.now)) }
+{
+    let mut list = Vec::new(alloc);
+    add_binds(&mut list, pool, binds)?;
+    Ok(list)
+}
 
 impl Known {
     // A statement that has none in it.
@@ -57,35 +82,97 @@ impl Known {
             Stmt::Label(_, _) => ways.begin(alloc),
             Stmt::Simple(span, simple) => self.simple(alloc, pool, ways, span.first, simple)?,
             Stmt::If(_, e, then, otherwise) => {
-                let mut uses = Vec::new(alloc);
-                add_uses(&mut uses, pool, *e)?;
-                ways.pass_uses(alloc, pool, uses)?;
-                let start = ways.take_paths();
-                let first = self.fork(alloc, pool, ways, &start, Paths::none(), then)?;
-                let ends = self.fork(alloc, pool, ways, &start, first, otherwise)?;
-                ways.end(ends);
+                self.choice(alloc, pool, ways, *e, then, otherwise)?;
             }
-            Stmt::Either(_, list) => {
-                ways.pass_uses(alloc, pool, Vec::new(alloc))?;
-                let start = ways.take_paths();
-                let ends = self.branches(alloc, pool, ways, &start, list)?;
-                ways.end(ends);
-            }
-            Stmt::With(_, binds, body) => {
-                let mut uses = Vec::new(alloc);
-                add_binds(&mut uses, pool, binds)?;
-                ways.pass_uses(alloc, pool, uses)?;
-                self.body(alloc, pool, ways, body)?;
-                ways.unlabel();
-            }
-            Stmt::While(_, e, body) => {
-                let mut uses = Vec::new(alloc);
-                add_uses(&mut uses, pool, *e)?;
-                let mut inner = Ways::new(alloc, false);
-                self.body(alloc, pool, &mut inner, body)?;
-                ways.go_round(alloc, pool, &uses, &inner)?;
-            }
+            Stmt::Either(_, list) => self.either(alloc, pool, ways, list)?,
+            Stmt::With(_, binds, body) => self.with(alloc, pool, ways, binds, body)?,
+            Stmt::While(_, e, body) => self.repeat(alloc, pool, ways, *e, body)?,
         }
+        Ok(())
+    }
+
+    // An `if`.
+    #[cycle(bodies)]
+    fn choice(
+        &self,
+        alloc: Global,
+        pool: &Pool,
+        ways: &mut Ways,
+        e: NodeId,
+        then: &[Stmt],
+        otherwise: &[Stmt],
+    ) -> Result<(), AllocError>
+        requires test { e < length pool.now }
+        requires first { past_statements then.now ≤ length pool.now }
+        requires second { past_statements otherwise.now ≤ length pool.now }
+        ensures { OnOk result ((ms : List MacroSeen) (ps : List Procedure) (p : Place) → Knows self.now ms ps → Goes ways.old ways.new (one (seen_in_call ms) ps p (branch (at pool.now e) (statements_at pool.now then.now) (statements_at pool.now otherwise.now)))) }
+    {
+        ways.pass_uses(alloc, pool, test_uses(alloc, pool, e)?)?;
+        let start = ways.take_paths();
+        let mut ends = Paths::none();
+        self.fork(alloc, pool, ways, &start, &mut ends, then)?;
+        self.fork(alloc, pool, ways, &start, &mut ends, otherwise)?;
+        ways.end(ends);
+        Ok(())
+    }
+
+    // An `either`.
+    #[cycle(bodies)]
+    fn either(
+        &self,
+        alloc: Global,
+        pool: &Pool,
+        ways: &mut Ways,
+        list: &[Vec<Stmt>],
+    ) -> Result<(), AllocError>
+        requires { past_branches list.now ≤ length pool.now }
+        ensures { OnOk result ((ms : List MacroSeen) (ps : List Procedure) (p : Place) → Knows self.now ms ps → Goes ways.old ways.new (one (seen_in_call ms) ps p (either (branches_at pool.now list.now)))) }
+    {
+        ways.pass_uses(alloc, pool, Vec::new(alloc))?;
+        let start = ways.take_paths();
+        let ends = self.branches(alloc, pool, ways, &start, list)?;
+        ways.end(ends);
+        Ok(())
+    }
+
+    // A `with`.
+    #[cycle(bodies)]
+    fn with(
+        &self,
+        alloc: Global,
+        pool: &Pool,
+        ways: &mut Ways,
+        binds: &[Bind],
+        body: &[Stmt],
+    ) -> Result<(), AllocError>
+        requires binds { greatest (map past_bind binds.now) ≤ length pool.now }
+        requires body { past_statements body.now ≤ length pool.now }
+        ensures { OnOk result ((ms : List MacroSeen) (ps : List Procedure) (p : Place) → Knows self.now ms ps → Goes ways.old ways.new (one (seen_in_call ms) ps p (with (binds_at pool.now binds.now) (statements_at pool.now body.now)))) }
+    {
+        ways.pass_uses(alloc, pool, bind_uses(alloc, pool, binds)?)?;
+        self.body(alloc, pool, ways, body)?;
+        ways.unlabel();
+        Ok(())
+    }
+
+    // A loop.
+    #[cycle(bodies)]
+    fn repeat(
+        &self,
+        alloc: Global,
+        pool: &Pool,
+        ways: &mut Ways,
+        e: NodeId,
+        body: &[Stmt],
+    ) -> Result<(), AllocError>
+        requires test { e < length pool.now }
+        requires body { past_statements body.now ≤ length pool.now }
+        ensures { OnOk result ((ms : List MacroSeen) (ps : List Procedure) (p : Place) → Knows self.now ms ps → Goes ways.old ways.new (one (seen_in_call ms) ps p (while (at pool.now e) (statements_at pool.now body.now)))) }
+    {
+        let mut inner = Ways::new(alloc, false);
+        self.body(alloc, pool, &mut inner, body)?;
+        let uses = test_uses(alloc, pool, e)?;
+        ways.go_round(alloc, pool, &uses, &inner)?;
         Ok(())
     }
 
@@ -97,16 +184,16 @@ impl Known {
         pool: &Pool,
         ways: &mut Ways,
         start: &Paths,
-        before: Paths,
+        ends: &mut Paths,
         body: &[Stmt],
-    ) -> Result<Paths, AllocError>
+    ) -> Result<(), AllocError>
         requires { past_statements body.now ≤ length pool.now }
-        ensures { IfOk result (λ r. (ms : List MacroSeen) (ps : List Procedure) → Knows self.now ms ps → Branches ways.old ways.new start.now before r (λ q. seen_in_body (seen_in_call ms) ps (statements_at pool.now body.now) (unlabelled q))) }
+        ensures { OnOk result ((ms : List MacroSeen) (ps : List Procedure) → Knows self.now ms ps → Branches ways.old ways.new start.now ends.old ends.new (λ q. seen_in_body (seen_in_call ms) ps (statements_at pool.now body.now) (unlabelled q))) }
     {
-        ways.restart(alloc, start)?;
+        ways.restart(start)?;
         self.body(alloc, pool, ways, body)?;
-        let ends = ways.join_ends(before)?;
-        Ok(ends)
+        ways.join_ends(ends)?;
+        Ok(())
     }
 
     // All branches of a statement, and their ends.
@@ -124,7 +211,7 @@ impl Known {
     {
         let mut ends = Paths::none();
         for i in 0..list.len() {
-            ends = self.fork(alloc, pool, ways, start, ends, &list[i])?;
+            self.fork(alloc, pool, ways, start, &mut ends, &list[i])?;
         }
         Ok(ends)
     }

@@ -9,7 +9,9 @@ ghost use Rattle.pcal_tree.specs.Reads.{Reading, through, readings, used};
 ghost use Rattle.pcal_tree.proofs.SetLaws.{Same};
 ghost use Rattle.read_rules.specs.NumbersIn.{declared_in};
 ghost use Rattle.stale_rules.specs.Joins.{Joins};
-ghost use Rattle.stale_rules.specs.ReadsIn.{AreReads, read_with, reads_all};
+ghost use Rattle.algorithm_limits.specs.Numbers.{number_of};
+ghost use Rattle.stale_rules.specs.ReadsIn.{AreReads, HasRead, read_with, reads_all, reads_at};
+ghost use Rattle.stale_rules.specs.WantedIn.{has_some};
 
 use crate::names::Names;
 use algorithm_limits::table::Table;
@@ -40,6 +42,13 @@ fn has_one(names: &Names, list: &[Name]) -> bool
     false
 }
 
+// Whether there is a name.
+fn is_some(list: &[Name]) -> bool
+    ensures { result ≡ has_some list.now }
+{
+    list.len() > 0
+}
+
 impl Reads {
     /// Whether one of these variables is read by a name.
     pub fn meets(&self, names: &Names, name: &Name) -> bool
@@ -56,6 +65,23 @@ impl Reads {
         let place = number - 1;
         let list = &lists[place];
         has_one(names, list.as_slice())
+    }
+
+    /// Whether a name reads a variable, as a definition.
+    pub fn has_some(&self, name: &Name) -> bool
+        ensures { result ≡ has_some (reads_at self.now.lists.items (number_of self.now.numbers name.now)) }
+    {
+        let number = self.numbers.get(name);
+        if number == 0 {
+            return false;
+        }
+        let lists = self.lists.as_slice();
+        if number > lists.len() {
+            return false;
+        }
+        let place = number - 1;
+        let list = &lists[place];
+        is_some(list.as_slice())
     }
 
     // The variables that a name reads, as a definition.
@@ -120,6 +146,19 @@ fn variables_of(
     Ok(variables)
 }
 
+impl Reads {
+    // These are the variables that a definition reads; it is newer than the others.
+    fn add_definition(&mut self, name: &Name, variables: Names) -> Result<(), AllocError>
+        ensures { OnOk result (HasRead self.old self.new name.now variables) }
+    {
+        self.lists.push(variables)?;
+        let lists = self.lists.as_slice();
+        let number = lists.len();
+        self.numbers.set(name.copied()?, number)?;
+        Ok(())
+    }
+}
+
 /// The variables that definitions read, where these are the variables.
 ///
 /// # Errors
@@ -140,10 +179,7 @@ pub fn all_reads(
     };
     for definition in definitions {
         let variables = variables_of(alloc, pool, &reads, globals, definition)?;
-        reads.lists.push(variables)?;
-        let lists = reads.lists.as_slice();
-        let number = lists.len();
-        reads.numbers.set(definition.name.name.copied()?, number)?;
+        reads.add_definition(&definition.name.name, variables)?;
     }
     Ok(reads)
 }

@@ -5,7 +5,7 @@ ghost use Rattle.tla_tree.specs.Pool.{trees_at};
 ghost use Rattle.pcal_tree.specs.InMemory.{past_numbers};
 ghost use Rattle.pcal_tree.specs.laws.MacroSpots.{MacroSeen, before_on, put_called, seen_from, seen_in_call, unlabelled};
 ghost use Rattle.pcal_tree.proofs.SpotGrafts.{putting};
-ghost use Rattle.stale_rules.specs.KnownIn.{IsSummary, AreMacros};
+ghost use Rattle.stale_rules.specs.KnownIn.{IsSummary, AreMacros, HasMacro};
 ghost use Rattle.stale_rules.specs.SeenIn.{Walks};
 ghost use Rattle.stale_rules.specs.WaysIn.{Goes};
 
@@ -69,6 +69,21 @@ impl Walk {
 }
 
 impl Known {
+    /// The newest macro of a name.
+    ///
+    /// # Errors
+    ///
+    /// Only for want of memory.
+    pub fn add_macro(&mut self, name: &Name, summary: Summary) -> Result<(), AllocError>
+        ensures { OnOk result (HasMacro self.old self.new name.now summary) }
+    {
+        self.summaries.push(summary)?;
+        let summaries = self.summaries.as_slice();
+        let number = summaries.len();
+        self.numbers.set(name.copied()?, number)?;
+        Ok(())
+    }
+
     // A call of a macro of this name.
     fn call_one(
         &self,

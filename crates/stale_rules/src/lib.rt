@@ -16,4 +16,5 @@ pub mod stale;
 pub mod steps;
 pub mod uses;
 pub mod walk;
+pub mod wanted;
 pub mod ways;

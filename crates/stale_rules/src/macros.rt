@@ -1,20 +1,22 @@
 //! What is seen in macros.
 
-ghost use Rattle.std.specs.Prelude.{◌≡◌, ◌≤◌, List, length, map, reverse, IfOk};
+ghost use Rattle.std.specs.Prelude.{◌≡◌, ◌≤◌, List, [], ◌∷◌, None, Some, length, map, reverse, IfOk};
 ghost use Rattle.tla_tree.specs.Nesting.{greatest};
 ghost use Rattle.pcal_tree.specs.Algorithm.{Procedure};
-ghost use Rattle.pcal_tree.specs.InMemory.{macro_at, past_macro};
-ghost use Rattle.pcal_tree.specs.laws.MacroSpots.{MacroSeen, macros_seen};
-ghost use Rattle.stale_rules.specs.KnownIn.{IsSummary, Knows};
+ghost use Rattle.pcal_tree.specs.InMemory.{macro_at, past_macro, statements_at, past_statements};
+ghost use Rattle.pcal_tree.specs.laws.MacroSpots.{earlier, MacroSeen, starting};
+ghost use Rattle.stale_rules.specs.KnownIn.{AreWays, IsSummary, Knows};
 ghost use Rattle.stale_rules.specs.MacrosIn.{macro_seen};
+ghost use Rattle.stale_rules.specs.Pruned.{kept_from, macro_pruned, macros_pruned};
+ghost use Rattle.stale_rules.specs.WantedIn.{wants};
 ghost use Rattle.stale_rules.specs.StepsIn.{AreJumps};
 
 use crate::known::{Known, Summary};
-use crate::once::both_once;
 use crate::steps::Jump;
 use crate::walk::Ways;
+use crate::wanted::Wanted;
 use algorithm_limits::table::Table;
-use pcal_tree::algorithm::Macro;
+use pcal_tree::algorithm::{Macro, Stmt};
 use std::alloc::{AllocError, Global};
 use tla_pool::Pool;
 use tla_tree::PlacedName;
@@ -30,20 +32,41 @@ fn copied_names(alloc: Global, names: &[PlacedName]) -> Result<Vec<PlacedName>, 
     Ok(list)
 }
 
+// What is seen in a macro's body, by what is known of the older ones.
+fn seen_once(
+    alloc: Global,
+    pool: &Pool,
+    wanted: &Wanted,
+    known: &Known,
+    labelled: bool,
+    body: &[Stmt],
+) -> Result<Ways, AllocError>
+    requires { past_statements body.now ≤ length pool.now }
+    ensures { IfOk result (λ r. (ms : List MacroSeen) (ps : List Procedure) → Knows known.now ms ps → AreWays r (kept_from (wants wanted.now) ms ps (statements_at pool.now body.now) (starting labelled None)) (kept_from (wants wanted.now) ms ps (statements_at pool.now body.now) (starting labelled (Some (earlier ∷ []))))) }
+{
+    let mut ways = Ways::new(alloc, labelled);
+    known.body(alloc, pool, &mut ways, body)?;
+    ways.unreached.keep_once(alloc, wanted)?;
+    ways.reached.keep_once(alloc, wanted)?;
+    Ok(ways)
+}
+
 // What is seen in a macro, by what is known of the older ones. Each use is kept once, so that what is kept doesn't grow with
 // the number of ways on which macros call a macro.
-fn summary(alloc: Global, pool: &Pool, known: &Known, one: &Macro) -> Result<Summary, AllocError>
+fn summary(
+    alloc: Global,
+    pool: &Pool,
+    wanted: &Wanted,
+    known: &Known,
+    one: &Macro,
+) -> Result<Summary, AllocError>
     requires { past_macro one.now ≤ length pool.now }
-    ensures { IfOk result (λ r. (ms : List MacroSeen) (ps : List Procedure) → Knows known.now ms ps → IsSummary r (macro_seen ps ms (macro_at pool.now one.now))) }
+    ensures { IfOk result (λ r. (ms : List MacroSeen) (ps : List Procedure) → Knows known.now ms ps → IsSummary r (macro_pruned (wants wanted.now) (macro_seen ps ms (macro_at pool.now one.now)))) }
 {
-    let mut plain = Ways::new(alloc, false);
-    known.body(alloc, pool, &mut plain, &one.body)?;
-    let mut labelled = Ways::new(alloc, true);
-    known.body(alloc, pool, &mut labelled, &one.body)?;
     Ok(Summary {
         params: copied_names(alloc, &one.params)?,
-        plain: both_once(alloc, plain)?,
-        labelled: both_once(alloc, labelled)?,
+        plain: seen_once(alloc, pool, wanted, known, false, &one.body)?,
+        labelled: seen_once(alloc, pool, wanted, known, true, &one.body)?,
     })
 }
 
@@ -55,11 +78,12 @@ fn summary(alloc: Global, pool: &Pool, known: &Known, one: &Macro) -> Result<Sum
 pub fn known_macros(
     alloc: Global,
     pool: &Pool,
+    wanted: &Wanted,
     macros: &[Macro],
     jumps: Vec<Jump>,
 ) -> Result<Known, AllocError>
     requires { greatest (map past_macro macros.now) ≤ length pool.now }
-    ensures { IfOk result (λ r. (ps : List Procedure) → AreJumps jumps.items ps → Knows r (macros_seen ps (reverse (map (macro_at pool.now) macros.now))) ps) }
+    ensures { IfOk result (λ r. (ps : List Procedure) → AreJumps jumps.items ps → Knows r (macros_pruned (wants wanted.now) ps (reverse (map (macro_at pool.now) macros.now))) ps) }
 {
     let mut known = Known {
         numbers: Table::new(alloc),
@@ -67,11 +91,8 @@ pub fn known_macros(
         jumps,
     };
     for one in macros {
-        let summary = summary(alloc, pool, &known, one)?;
-        known.summaries.push(summary)?;
-        let summaries = known.summaries.as_slice();
-        let number = summaries.len();
-        known.numbers.set(one.name.name.copied()?, number)?;
+        let summary = summary(alloc, pool, wanted, &known, one)?;
+        known.add_macro(&one.name.name, summary)?;
     }
     Ok(known)
 }

@@ -3,7 +3,8 @@
 ghost use Rattle.std.specs.Prelude.{◌≡◌, ◌<◌, [], ◌∷◌, Some, length, slice_get, IfOk, OnOk};
 ghost use Rattle.pcal_tree.specs.laws.MacroSpots.{Called, on_trail};
 ghost use Rattle.pcal_tree.proofs.SpotCalls.{SeenLike};
-ghost use Rattle.stale_rules.specs.KnownIn.{AreWays};
+ghost use Rattle.stale_rules.specs.Pruned.{only, pruned};
+ghost use Rattle.stale_rules.specs.WantedIn.{wants};
 ghost use Rattle.stale_rules.specs.OnceIn.{Entry, entry_seen, entries_seen, key_use, Keeps};
 ghost use Rattle.stale_rules.specs.SeenIn.{group_seen, seen_of, IsWay};
 ghost use Rattle.stale_rules.specs.Sets.{origins};
@@ -11,7 +12,8 @@ ghost use Rattle.stale_rules.specs.UsesIn.{use_of, uses_of};
 
 use crate::assigned::Assigned;
 use crate::uses::{Kind, Use};
-use crate::walk::{Group, Walk, Ways};
+use crate::walk::{Group, Walk};
+use crate::wanted::Wanted;
 use indexmap::IndexMap;
 use std::alloc::{AllocError, Global};
 use tla_token::Place;
@@ -66,9 +68,10 @@ fn group_of(alloc: Global, key: &Key, after: &Assigned) -> Result<Group, AllocEr
         kind: key.kind,
         name,
     })?;
-    let mut all = Assigned::new(alloc, false);
-    all.add_all(after)?;
-    Ok(Group { uses, after: all })
+    Ok(Group {
+        uses,
+        after: after.copied()?,
+    })
 }
 
 impl Kept {
@@ -82,41 +85,61 @@ impl Kept {
     }
 
     // A use, with what a path to it has assigned.
-    fn keep(&mut self, alloc: Global, one: &Use, after: &Assigned) -> Result<(), AllocError>
+    fn keep(&mut self, one: &Use, after: &Assigned) -> Result<(), AllocError>
         ensures { OnOk result (Keeps self.old.uses.entries self.new.uses.entries (on_trail (Some (origins after.now)) (use_of one.now ∷ []))) }
     {
         let key = key_of(one)?;
-        let mut all = Assigned::new(alloc, false);
-        all.add_all(after)?;
         match self.uses.get(&key) {
             None => {
-                self.uses.insert(key, all)?;
+                self.uses.insert(key, after.copied()?)?;
                 Ok(())
             }
             Some(before) => {
-                all.add_all(before)?;
+                let mut all = before.copied()?;
+                all.add_all(after)?;
                 self.uses.insert(key, all)?;
                 Ok(())
             }
         }
     }
 
+    // The same, where its name may matter.
+    fn keep_wanted(
+        &mut self,
+        wanted: &Wanted,
+        one: &Use,
+        after: &Assigned,
+    ) -> Result<(), AllocError>
+        ensures { OnOk result (Keeps self.old.uses.entries self.new.uses.entries (only (wants wanted.now) (on_trail (Some (origins after.now)) (use_of one.now ∷ [])))) }
+    {
+        if !wanted.has(&one.name.name) {
+            return Ok(());
+        }
+        self.keep(one, after)?;
+        Ok(())
+    }
+
     // Uses that are on one path.
-    fn keep_uses(&mut self, alloc: Global, uses: &[Use], after: &Assigned) -> Result<(), AllocError>
-        ensures { OnOk result (Keeps self.old.uses.entries self.new.uses.entries (on_trail (Some (origins after.now)) (uses_of uses.now))) }
+    fn keep_uses(
+        &mut self,
+        wanted: &Wanted,
+        uses: &[Use],
+        after: &Assigned,
+    ) -> Result<(), AllocError>
+        ensures { OnOk result (Keeps self.old.uses.entries self.new.uses.entries (only (wants wanted.now) (on_trail (Some (origins after.now)) (uses_of uses.now)))) }
     {
         for one in uses {
-            self.keep(alloc, one, after)?;
+            self.keep_wanted(wanted, one, after)?;
         }
         Ok(())
     }
 
     // All that is seen.
-    fn keep_groups(&mut self, alloc: Global, groups: &[Group]) -> Result<(), AllocError>
-        ensures { OnOk result (Keeps self.old.uses.entries self.new.uses.entries (seen_of groups.now)) }
+    fn keep_groups(&mut self, wanted: &Wanted, groups: &[Group]) -> Result<(), AllocError>
+        ensures { OnOk result (Keeps self.old.uses.entries self.new.uses.entries (only (wants wanted.now) (seen_of groups.now))) }
     {
         for group in groups {
-            self.keep_uses(alloc, &group.uses, &group.after)?;
+            self.keep_uses(wanted, &group.uses, &group.after)?;
         }
         Ok(())
     }
@@ -142,35 +165,18 @@ impl Kept {
     }
 }
 
-// The same walk with each use once.
-fn walk_once(alloc: Global, walk: Walk) -> Result<Walk, AllocError>
-    ensures { IfOk result (λ r. (c : Called) → IsWay walk c → IsWay r c) }
-{
-    let Walk {
-        seen,
-        labelled,
-        path,
-    } = walk;
-    let mut kept = Kept::new(alloc);
-    kept.keep_groups(alloc, &seen)?;
-    Ok(Walk {
-        seen: kept.groups(alloc)?,
-        labelled,
-        path,
-    })
-}
-
-/// The same with each use once, on a path that has assigned what some path to it has.
-///
-/// # Errors
-///
-/// Only for want of memory.
-pub fn both_once(alloc: Global, ways: Ways) -> Result<Ways, AllocError>
-    ensures { IfOk result (λ r. (a b : Called) → AreWays ways a b → AreWays r a b) }
-{
-    let Ways { unreached, reached } = ways;
-    Ok(Ways {
-        unreached: walk_once(alloc, unreached)?,
-        reached: walk_once(alloc, reached)?,
-    })
+impl Walk {
+    /// Each use is seen once that may matter, on a path that has assigned what some path to it has.
+    ///
+    /// # Errors
+    ///
+    /// Only for want of memory.
+    pub fn keep_once(&mut self, alloc: Global, wanted: &Wanted) -> Result<(), AllocError>
+        ensures { OnOk result ((c : Called) → IsWay self.old c → IsWay self.new (pruned (wants wanted.now) c)) }
+    {
+        let mut kept = Kept::new(alloc);
+        kept.keep_groups(wanted, &self.seen)?;
+        self.seen = kept.groups(alloc)?;
+        Ok(())
+    }
 }

@@ -167,19 +167,19 @@ fn put_names(
 
 // What was assigned before, where it is to be.
 fn with_before(
-    into: &mut Assigned,
+    alloc: Global,
     is_there: bool,
     before: &Option<Assigned>,
-) -> Result<(), AllocError>
-    ensures { OnOk result (Joins (origins into.old) (origins into.new) (before_if is_there (trail_of before.now))) }
+) -> Result<Assigned, AllocError>
+    ensures { IfOk result (λ r. Same (origins r) (before_if is_there (trail_of before.now))) }
 {
-    if is_there {
-        match before {
-            None => {}
-            Some(all) => into.add_all(all)?,
-        }
+    if !is_there {
+        return Ok(Assigned::new(alloc, false));
     }
-    Ok(())
+    match before {
+        None => Ok(Assigned::new(alloc, false)),
+        Some(all) => Ok(all.copied()?),
+    }
 }
 
 /// What was assigned, with arguments put in, and what was assigned before.
@@ -198,8 +198,7 @@ pub fn put_assigned(
     requires { past_numbers args.now ≤ length pool.now }
     ensures { IfOk result (λ r. Same (origins r) (flat_map (put_origin (putting params.now (trees_at pool.now args.now) (before_on (trail_of before.now)))) (origins from.now))) }
 {
-    let mut into = Assigned::new(alloc, false);
-    with_before(&mut into, from.earlier, before)?;
+    let mut into = with_before(alloc, from.earlier, before)?;
     put_names(&mut into.names, pool, params, args, from.names.as_slice())?;
     Ok(into)
 }

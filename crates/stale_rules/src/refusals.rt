@@ -55,8 +55,8 @@ fn with_names(
     found
 }
 
-// Whether a name is `self`.
-fn is_self(name: &Name) -> bool
+/// Whether a name is `self`.
+pub fn is_self(name: &Name) -> bool
     ensures { result ≡ bytes_eq (codes "self") name.now }
 {
     name.bytes() == b"self".as_slice()

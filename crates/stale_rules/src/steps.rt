@@ -159,21 +159,21 @@ fn add_simple(
     ensures { OnOk result ((ps : List Procedure) → AreJumps jumps.now ps → uses_of list.new.items ≡ uses_of list.old.items ++ simple_uses ps place (simple_at pool.now simple.now)) }
 {
     match simple {
-        Simple::Assign(assignments) => add_assignments(list, pool, assignments)?,
-        Simple::Await(e) => add_uses(list, pool, *e)?,
-        Simple::Print(e) => add_uses(list, pool, *e)?,
-        Simple::Assert(e) => add_uses(list, pool, *e)?,
-        Simple::Skip => {}
-        Simple::Goto(_) => add_self(alloc, list, place)?,
-        Simple::Macro(_, _) => {}
+        Simple::Assign(assignments) => add_assignments(list, pool, assignments),
+        Simple::Await(e) => add_uses(list, pool, *e),
+        Simple::Print(e) => add_uses(list, pool, *e),
+        Simple::Assert(e) => add_uses(list, pool, *e),
+        Simple::Skip => Ok(()),
+        Simple::Goto(_) => add_self(alloc, list, place),
+        Simple::Macro(_, _) => Ok(()),
         Simple::Call(name, args) => {
             add_all_uses(list, pool, args)?;
             add_self(alloc, list, place)?;
             add_jump(list, jumps, &name.name, place)?;
+            Ok(())
         }
-        Simple::Return => {}
+        Simple::Return => Ok(()),
     }
-    Ok(())
 }
 
 // Whether no path goes on behind a statement.

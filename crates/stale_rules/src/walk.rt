@@ -1,16 +1,16 @@
 //! What is seen on paths through statements, and where they end.
 
-ghost use Rattle.std.specs.Prelude.{◌≡◌, ◌≤◌, [], cond, length, IfOk, OnOk};
+ghost use Rattle.std.specs.Prelude.{◌≡◌, ◌≤◌, [], Some, cond, length, IfOk, OnOk};
 ghost use Rattle.std.specs.List.{flat_map};
 ghost use Rattle.tla_tree.specs.Pool.{trees_at};
 ghost use Rattle.pcal_tree.specs.InMemory.{past_numbers};
 ghost use Rattle.pcal_tree.specs.laws.MacroSpots.{Called, Trail, before_on, put_called, put_seen, put_trail, on_trail};
 ghost use Rattle.pcal_tree.specs.Paths.{again};
-ghost use Rattle.pcal_tree.proofs.SpotCalls.{LikeTrail};
+ghost use Rattle.pcal_tree.proofs.SpotCalls.{LikeTrail, SeenLike};
 ghost use Rattle.pcal_tree.proofs.SpotGrafts.{putting};
 ghost use Rattle.stale_rules.specs.PlainPuts.{way};
-ghost use Rattle.stale_rules.specs.SeenIn.{group_seen, seen_of, Sees, IsWay, IsLoop, Walks, trail_stepped, stepping, looping, rounds_of};
-ghost use Rattle.stale_rules.specs.Sets.{trail_of};
+ghost use Rattle.stale_rules.specs.SeenIn.{group_seen, seen_of, Gains, Sees, IsWay, IsLoop, Walks, trail_stepped, stepping, looping, rounds_of};
+ghost use Rattle.stale_rules.specs.Sets.{origins, trail_of};
 ghost use Rattle.stale_rules.specs.UsesIn.{uses_of};
 
 use crate::assigned::{Assigned, copied, join};
@@ -80,6 +80,62 @@ fn put_path(
             Ok(Some(after))
         }
     }
+}
+
+// Uses on a path that has assigned this.
+fn group_here(
+    alloc: Global,
+    pool: &Pool,
+    uses: &[Use],
+    after: &Assigned,
+) -> Result<Group, AllocError>
+    ensures { IfOk result (λ g. SeenLike (group_seen g) (on_trail (Some (origins after.now)) (uses_of uses.now))) }
+{
+    let mut list = Vec::new(alloc);
+    put_uses(&mut list, pool, &[], &[], uses)?;
+    Ok(Group {
+        uses: list,
+        after: after.copied()?,
+    })
+}
+
+// What is seen on one path, with arguments put in.
+fn put_group(
+    alloc: Global,
+    pool: &Pool,
+    params: &[PlacedName],
+    args: &[NodeId],
+    before: &Option<Assigned>,
+    group: &Group,
+) -> Result<Group, AllocError>
+    requires { past_numbers args.now ≤ length pool.now }
+    ensures { IfOk result (λ g. SeenLike (group_seen g) (flat_map (put_seen (putting params.now (trees_at pool.now args.now) (before_on (trail_of before.now)))) (group_seen group.now))) }
+{
+    let mut uses = Vec::new(alloc);
+    put_uses(&mut uses, pool, params, args, &group.uses)?;
+    Ok(Group {
+        uses,
+        after: put_assigned(alloc, pool, params, args, before, &group.after)?,
+    })
+}
+
+// All that is seen, with arguments put in.
+fn add_groups(
+    seen: &mut Vec<Group>,
+    pool: &Pool,
+    params: &[PlacedName],
+    args: &[NodeId],
+    before: &Option<Assigned>,
+    groups: &[Group],
+    alloc: Global,
+) -> Result<(), AllocError>
+    requires { past_numbers args.now ≤ length pool.now }
+    ensures { OnOk result (Gains seen.old.items seen.new.items (flat_map (put_seen (putting params.now (trees_at pool.now args.now) (before_on (trail_of before.now)))) (seen_of groups.now))) }
+{
+    for group in groups {
+        seen.push(put_group(alloc, pool, params, args, before, group)?)?;
+    }
+    Ok(())
 }
 
 // A path once more round a loop.
@@ -170,53 +226,10 @@ impl Walk {
         match &self.path {
             None => Ok(()),
             Some(all) => {
-                let mut after = Assigned::new(alloc, false);
-                after.add_all(all)?;
-                let mut list = Vec::new(alloc);
-                put_uses(&mut list, pool, &[], &[], uses)?;
-                self.seen.push(Group { uses: list, after })?;
+                self.seen.push(group_here(alloc, pool, uses, all)?)?;
                 Ok(())
             }
         }
-    }
-
-    // What is seen on one path is seen, with arguments put in.
-    fn add_group(
-        &mut self,
-        alloc: Global,
-        pool: &Pool,
-        params: &[PlacedName],
-        args: &[NodeId],
-        before: &Option<Assigned>,
-        group: &Group,
-    ) -> Result<(), AllocError>
-        requires { past_numbers args.now ≤ length pool.now }
-        ensures { OnOk result (Sees self.old self.new (flat_map (put_seen (putting params.now (trees_at pool.now args.now) (before_on (trail_of before.now)))) (group_seen group.now))) }
-    {
-        let after = put_assigned(alloc, pool, params, args, before, &group.after)?;
-        let mut uses = Vec::new(alloc);
-        put_uses(&mut uses, pool, params, args, &group.uses)?;
-        self.seen.push(Group { uses, after })?;
-        Ok(())
-    }
-
-    // The same of all that is seen.
-    fn add_groups(
-        &mut self,
-        alloc: Global,
-        pool: &Pool,
-        params: &[PlacedName],
-        args: &[NodeId],
-        before: &Option<Assigned>,
-        groups: &[Group],
-    ) -> Result<(), AllocError>
-        requires { past_numbers args.now ≤ length pool.now }
-        ensures { OnOk result (Sees self.old self.new (flat_map (put_seen (putting params.now (trees_at pool.now args.now) (before_on (trail_of before.now)))) (seen_of groups.now))) }
-    {
-        for group in groups {
-            self.add_group(alloc, pool, params, args, before, group)?;
-        }
-        Ok(())
     }
 
     /// A statement that has none in it.
@@ -250,9 +263,16 @@ impl Walk {
         requires { past_numbers args.now ≤ length pool.now }
         ensures { OnOk result ((c : Called) → IsWay way.now c → Walks self.old self.new (λ z. put_called (putting params.now (trees_at pool.now args.now) (before_on z.trail)) c)) }
     {
-        let before = self.path.take();
-        self.add_groups(alloc, pool, params, args, &before, &way.seen)?;
-        self.path = put_path(alloc, pool, params, args, &before, &way.path)?;
+        add_groups(
+            &mut self.seen,
+            pool,
+            params,
+            args,
+            &self.path,
+            &way.seen,
+            alloc,
+        )?;
+        self.path = put_path(alloc, pool, params, args, &self.path, &way.path)?;
         self.labelled = way.labelled;
         Ok(())
     }
@@ -299,7 +319,7 @@ impl Walk {
         let before = self.path.take();
         self.path = rounds(alloc, pool, inner, self.labelled, before)?;
         self.see(alloc, pool, uses)?;
-        let after = copied(alloc, &self.path)?;
+        let after = copied(&self.path)?;
         self.take_ways(alloc, pool, &[], &[], inner)?;
         self.path = after;
         self.labelled = false;

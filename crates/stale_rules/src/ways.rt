@@ -1,13 +1,13 @@
 //! What is seen in statements, where no path leads to them and where one does, at once.
 
-ghost use Rattle.std.specs.Prelude.{◌≡◌, false, None, Some, [], ◌∷◌, IfOk, OnOk};
+ghost use Rattle.std.specs.Prelude.{◌≡◌, false, None, Some, [], ◌∷◌, OnOk};
 ghost use Rattle.pcal_tree.specs.laws.MacroSpots.{earlier, Called, Trail, unlabelled, at_label, starting};
 ghost use Rattle.pcal_tree.proofs.SpotCalls.{Like};
 ghost use Rattle.stale_rules.specs.BodiesIn.{no_paths};
 ghost use Rattle.stale_rules.specs.SeenIn.{seen_of, at_of, IsLoop, stepping, looping};
 ghost use Rattle.stale_rules.specs.Sets.{trail_of};
 ghost use Rattle.stale_rules.specs.UsesIn.{uses_of};
-ghost use Rattle.stale_rules.specs.WaysIn.{Goes, Begins, Restarts, Ends, Joined};
+ghost use Rattle.stale_rules.specs.WaysIn.{Goes, Begins, Restarts, Ends, Joined, JoinsEnd};
 
 use crate::assigned::{Assigned, copied, join};
 use crate::names::Names;
@@ -38,6 +38,14 @@ impl Paths {
 }
 
 impl Walk {
+    // The path to this place is one of these ends too; none is left here.
+    fn join_end(&mut self, ends: &mut Option<Assigned>) -> Result<(), AllocError>
+        ensures { OnOk result (JoinsEnd self.old self.new ends.old ends.new) }
+    {
+        *ends = join(ends.take(), self.path.take())?;
+        Ok(())
+    }
+
     // From a label on.
     fn begin(&mut self, alloc: Global)
         ensures seen { self.new.seen.items ≡ self.old.seen.items }
@@ -147,29 +155,27 @@ impl Ways {
     /// # Errors
     ///
     /// Only for want of memory.
-    pub fn restart(&mut self, alloc: Global, start: &Paths) -> Result<(), AllocError>
+    pub fn restart(&mut self, start: &Paths) -> Result<(), AllocError>
         ensures { OnOk result (Restarts self.old self.new start.now) }
     {
-        self.unreached.path = copied(alloc, &start.unreached)?;
-        self.reached.path = copied(alloc, &start.reached)?;
+        self.unreached.path = copied(&start.unreached)?;
+        self.reached.path = copied(&start.reached)?;
         self.unreached.labelled = false;
         self.reached.labelled = false;
         Ok(())
     }
 
-    /// The ends of the branches so far, with that of this one.
+    /// The end of this branch is one of these ends too.
     ///
     /// # Errors
     ///
     /// Only for want of memory.
-    pub fn join_ends(&mut self, ends: Paths) -> Result<Paths, AllocError>
-        ensures { IfOk result (λ r. Joined self.old self.new ends r) }
+    pub fn join_ends(&mut self, ends: &mut Paths) -> Result<(), AllocError>
+        ensures { OnOk result (Joined self.old self.new ends.old ends.new) }
     {
-        let Paths { unreached, reached } = self.take_paths();
-        Ok(Paths {
-            unreached: join(ends.unreached, unreached)?,
-            reached: join(ends.reached, reached)?,
-        })
+        self.unreached.join_end(&mut ends.unreached)?;
+        self.reached.join_end(&mut ends.reached)?;
+        Ok(())
     }
 
     /// Behind branches, which have these ends.

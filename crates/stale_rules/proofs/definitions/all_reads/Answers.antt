@@ -1,15 +1,13 @@
 -- Proves what definitions read.
-use Rattle.std.proofs.Common.{List, [], ◌∷◌, sym, ap, subst, ◌∙◌, arith, length, take, reverse, filter}
-use Rattle.std.proofs.lemmas.List.{take_all, length-append}
+use Rattle.std.proofs.Common.{List, ◌+◌, refl, sym, ap, subst, ◌∙◌, arith, length, take, reverse, filter}
+use Rattle.std.proofs.lemmas.List.{take_all}
 use Rattle.tla_tree.proofs.PoolNumbers.{past_at}
-use Rattle.tla_tree.specs.Tree.{Word, words}
+use Rattle.tla_tree.specs.Tree.{words}
 use Rattle.tla_tree.specs.Pool.{at}
 use Rattle.pcal_tree.specs.declared.algorithm.Definition.{Definition}
 use Rattle.pcal_tree.specs.InMemory.{definitions_at, past_definition}
 use Rattle.pcal_tree.specs.Reads.{Reading, among_looked_at, readings, used}
 use Rattle.algorithm_limits.specs.Numbers.{with_number}
-use Rattle.stale_rules.specs.declared.definitions.Reads.{Reads}
-use Rattle.stale_rules.specs.declared.names.Names.{Names}
 use Rattle.stale_rules.specs.ReadsIn.{AreReads}
 use Rattle.stale_rules.proofs.ReadLaws.{reads_none, reads_with, newest_read, variables_read}
 use Rattle.stale_rules.proofs.definitions.all_reads.Goals as goal
@@ -28,16 +26,14 @@ loop-definition-preserved c = λ gs e.
     let i = c.loop-definition.definition-index in
     let d = c.definition-item.result in
     let s = c.in_ok-variables.variables in
-    let n = length c.as_slice-lists.result.now in
     let older = reverse (definitions_at ts (take i c.args.definitions.now)) in
     let ds = readings gs older in
     let ns = used (at ts d.body) (words d.params.items) in
-    let next : Reads = record { numbers = c.set.new.self; lists = c.push.new.self } in
+    let next = c.add_definition.new.self in
     let h = c.loop-definition.invariant gs e in
     subst (λ (all : List Reading). AreReads next all) (sym (newest_read ts gs c.args.definitions.now i d c.definition-item.is c.loop-definition-test.true))
-    (reads_with r next ds d.name.word (filter (among_looked_at ds ns) gs) s n h (variables_read c.args.globals.now gs e older ns s (c.in_ok-variables.ensures ds h)) c.in_ok-push.ensures.items
-    (ap (λ (ls : List Names). length ls) c.as_slice-lists.ensures.value ∙ ap (λ (ls : List Names). length ls) c.in_ok-push.ensures.items ∙ length-append r.lists.items (s ∷ []))
-    (c.in_ok-set.ensures ∙ ap (λ (x : Word). with_number r.numbers x n) (c.in_ok-copied.ensures ∙ ap (λ (z : Definition). z.name.word) c.definition.view_is)))
+    (reads_with r next ds d.name.word (filter (among_looked_at ds ns) gs) s (length r.lists.items + 1) h (variables_read c.args.globals.now gs e older ns s (c.in_ok-variables.ensures ds h)) c.in_ok-add_definition.ensures.lists
+    refl (c.in_ok-add_definition.ensures.numbers ∙ ap (λ (z : Definition). with_number r.numbers z.name.word (length r.lists.items + 1)) c.definition.view_is))
 
 pub returns : goal.returns
 returns c = λ gs e.

@@ -1,17 +1,16 @@
 -- Proves what is known of macros.
-use Rattle.std.proofs.Common.{List, [], ◌∷◌, length, refl, sym, ap, subst, ◌∙◌, arith, map, take, reverse}
-use Rattle.std.proofs.lemmas.List.{take_all, length-append}
+use Rattle.std.proofs.Common.{List, ◌+◌, length, refl, sym, ap, subst, ◌∙◌, arith, map, take, reverse}
+use Rattle.std.proofs.lemmas.List.{take_all}
 use Rattle.tla_tree.proofs.PoolNumbers.{past_at}
 use Rattle.pcal_tree.specs.declared.algorithm.Macro.{Macro}
 use Rattle.pcal_tree.specs.InMemory.{macro_at, past_macro}
-use Rattle.pcal_tree.specs.laws.MacroSpots.{MacroSeen, macros_seen}
-use Rattle.tla_tree.specs.Tree.{Word}
+use Rattle.pcal_tree.specs.laws.MacroSpots.{MacroSeen}
 use Rattle.algorithm_limits.specs.Numbers.{with_number}
-use Rattle.stale_rules.specs.declared.known.Known.{Known}
-use Rattle.stale_rules.specs.declared.known.Summary.{Summary}
 use Rattle.stale_rules.specs.KnownIn.{Knows}
 use Rattle.stale_rules.specs.MacrosIn.{macro_seen}
-use Rattle.stale_rules.proofs.KnownLaws.{knows_more, knows_none, newest_seen}
+use Rattle.stale_rules.specs.Pruned.{macro_pruned, macros_pruned}
+use Rattle.stale_rules.specs.WantedIn.{wants}
+use Rattle.stale_rules.proofs.KnownLaws.{knows_more, knows_none, newest_kept}
 use Rattle.stale_rules.proofs.macros.known_macros.Goals as goal
 
 pub loop-one-init : goal.loop-one-init
@@ -24,18 +23,20 @@ summary-requires c =
 pub loop-one-preserved : goal.loop-one-preserved
 loop-one-preserved c = λ ps a.
     let ts = c.args.pool.now in
+    let T = wants c.args.wanted.now in
     let k = c.loop-one.known in
     let d = c.one-item.result in
     let s = c.in_ok-summary.summary in
-    let n = length c.as_slice-summaries.result.now in
-    let ms = macros_seen ps (reverse (map (macro_at ts) (take c.loop-one.one-index c.args.macros.now))) in
-    let next : Known = record { numbers = c.set.new.self; summaries = c.push.new.self; jumps = k.jumps } in
+    let n = length k.summaries.items + 1 in
+    let ms = macros_pruned T ps (reverse (map (macro_at ts) (take c.loop-one.one-index c.args.macros.now))) in
+    let next = c.add_macro.new.self in
     let h = c.loop-one.invariant ps a in
-    subst (λ (all : List MacroSeen). Knows next all ps) (sym (newest_seen ts ps c.args.macros.now c.loop-one.one-index d c.one-item.is c.loop-one-test.true))
-    (knows_more k next ms ps (macro_seen ps ms (macro_at ts d)) s n h (c.in_ok-summary.ensures ms ps h) c.in_ok-push.ensures.items
-    (ap (λ (ss : List Summary). length ss) c.as_slice-summaries.ensures.value ∙ ap (λ (ss : List Summary). length ss) c.in_ok-push.ensures.items ∙ length-append k.summaries.items (s ∷ []))
-    (c.in_ok-set.ensures ∙ ap (λ (x : Word). with_number k.numbers x n) (c.in_ok-copied.ensures ∙ ap (λ (e : Macro). e.name.word) c.one.view_is)) refl)
+    let more = c.in_ok-add_macro.ensures in
+    subst (λ (all : List MacroSeen). Knows next all ps) (sym (newest_kept T ts ps c.args.macros.now c.loop-one.one-index d c.one-item.is c.loop-one-test.true))
+    (knows_more k next ms ps (macro_pruned T (macro_seen ps ms (macro_at ts d))) s n h (c.in_ok-summary.ensures ms ps h) more.summaries refl
+    (more.numbers ∙ ap (λ (e : Macro). with_number k.numbers e.name.word n) c.one.view_is) more.jumps)
 
 pub returns : goal.returns
 returns c = λ ps a.
-    subst (λ (ds : List Macro). Knows c.loop-one.known (macros_seen ps (reverse (map (macro_at c.args.pool.now) ds))) ps) (take_all c.loop-one.one-index c.args.macros.now c.loop-one-test.false) (c.loop-one.invariant ps a)
+    let T = wants c.args.wanted.now in
+    subst (λ (ds : List Macro). Knows c.loop-one.known (macros_pruned T ps (reverse (map (macro_at c.args.pool.now) ds))) ps) (take_all c.loop-one.one-index c.args.macros.now c.loop-one-test.false) (c.loop-one.invariant ps a)

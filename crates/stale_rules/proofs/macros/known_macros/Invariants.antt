@@ -2,10 +2,11 @@
 use Rattle.std.proofs.Common.{List, map, take, reverse}
 use Rattle.pcal_tree.specs.Algorithm.{Procedure}
 use Rattle.pcal_tree.specs.InMemory.{macro_at}
-use Rattle.pcal_tree.specs.laws.MacroSpots.{macros_seen}
 use Rattle.stale_rules.specs.KnownIn.{Knows}
+use Rattle.stale_rules.specs.Pruned.{macros_pruned}
+use Rattle.stale_rules.specs.WantedIn.{wants}
 use Rattle.stale_rules.specs.StepsIn.{AreJumps}
 use Rattle.stale_rules.proofs.macros.known_macros.Given as goal
 
 abbrev pub invariant-loop-one : goal.invariant-loop-one
-invariant-loop-one l = (ps : List Procedure) → AreJumps l.fn.jumps.items ps → Knows l.known (macros_seen ps (reverse (map (macro_at l.pool) (take l.one-index l.macros)))) ps
+invariant-loop-one l = (ps : List Procedure) → AreJumps l.fn.jumps.items ps → Knows l.known (macros_pruned (wants l.wanted) ps (reverse (map (macro_at l.pool) (take l.one-index l.macros)))) ps

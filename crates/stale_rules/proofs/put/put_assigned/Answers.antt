@@ -12,6 +12,6 @@ pub returns : goal.returns
 returns c =
     let ps = c.args.params.now in
     let ts = trees_at c.args.pool.now c.args.args.now in
-    let b = c.with_before.new.into in
-    assigned_put ps ts (trail_of c.args.before.now) c.new-into.result b (record { earlier = b.earlier; names = c.put_names.new.names }) c.args.from.now c.new-into.ensures.nothing c.new-into.ensures.before c.in_ok-with_before.ensures
+    let b = c.in_ok-into.into in
+    assigned_put ps ts (trail_of c.args.before.now) b (record { earlier = b.earlier; names = c.put_names.new.names }) c.args.from.now c.in_ok-into.ensures
     (subst (λ (xs : List Word). Joins b.names c.put_names.new.names (words_put ps ts xs)) c.as_slice.ensures c.in_ok-put_names.ensures) refl

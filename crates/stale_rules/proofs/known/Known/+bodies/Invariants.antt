@@ -1,5 +1,5 @@
 -- Why the calls that go through statements end, and what their loops keep: what is left of a list still gives the whole.
-use Rattle.std.proofs.Common.{◌+◌, ◌*◌, List, drop}
+use Rattle.std.proofs.Common.{◌+◌, ◌*◌, List, drop, max}
 use Rattle.pcal_tree.specs.Algorithm.{Procedure}
 use Rattle.pcal_tree.specs.InMemory.{statements_at, branches_at}
 use Rattle.pcal_tree.specs.laws.MacroSpots.{MacroSeen, seen_in_call, seen_in_body}
@@ -12,16 +12,28 @@ use Rattle.stale_rules.specs.WaysIn.{Goes, Branches}
 use Rattle.stale_rules.proofs.known.Known.+bodies.Given as goal
 
 abbrev pub decreases-stmt : goal.decreases-stmt
-decreases-stmt l = 4 * height l.stmt.now
+decreases-stmt l = 5 * height l.stmt.now
 
 abbrev pub decreases-body : goal.decreases-body
-decreases-body l = 4 * heights l.stmts.now + 1
+decreases-body l = 5 * heights l.stmts.now + 1
 
 abbrev pub decreases-fork : goal.decreases-fork
-decreases-fork l = 4 * heights l.body.now + 2
+decreases-fork l = 5 * heights l.body.now + 2
 
 abbrev pub decreases-branches : goal.decreases-branches
-decreases-branches l = 4 * branch_heights l.list.now + 3
+decreases-branches l = 5 * branch_heights l.list.now + 3
+
+abbrev pub decreases-choice : goal.decreases-choice
+decreases-choice l = 5 * max (heights l.then.now) (heights l.otherwise.now) + 3
+
+abbrev pub decreases-either : goal.decreases-either
+decreases-either l = 5 * branch_heights l.list.now + 4
+
+abbrev pub decreases-with : goal.decreases-with
+decreases-with l = 5 * heights l.body.now + 2
+
+abbrev pub decreases-repeat : goal.decreases-repeat
+decreases-repeat l = 5 * heights l.body.now + 2
 
 abbrev pub invariant-body-loop-stmt : goal.invariant-body-loop-stmt
 invariant-body-loop-stmt l =
