@@ -272,11 +272,11 @@ module _ (k : Known) where
   }
 
   pub call_some : (a b : Gathered) (ms : List found.Summary) (m : Word) (us : Trees) (s : Summary) (d : found.Summary) → find_summary ms m ≡ Some d → IsSummary k.params.keys s d
-      → Adds k a b [] (flat_map (λ p. put_pair (argument s.params.items us) (pair_of p)) s.pairs.keys) → Adds k a b [] (found_in_call ms m us).pairs
+      → Adds k a b [] (flat_map (λ p. put_pair (argument s.params us) (pair_of p)) s.pairs.keys) → Adds k a b [] (found_in_call ms m us).pairs
   call_some a b ms m us s d e is g =
       subst (λ (f : found.Found). Adds k a b [] f.pairs) (sym (found_in ms m us d e))
-      (adds_as k a b [] [] (flat_map (λ p. put_pair (argument s.params.items us) (pair_of p)) s.pairs.keys) (flat_map (put_pair (argument d.params us)) d.found.pairs) (λ f. refl) (λ h z.
-      ap (breaks h) (flat_mapped (put_pair (argument s.params.items us)) pair_of s.pairs.keys)
+      (adds_as k a b [] [] (flat_map (λ p. put_pair (argument s.params us) (pair_of p)) s.pairs.keys) (flat_map (put_pair (argument d.params us)) d.found.pairs) (λ f. refl) (λ h z.
+      ap (breaks h) (flat_mapped (put_pair (argument s.params us)) pair_of s.pairs.keys)
       ∙ ap (λ (ps : List Name). breaks h (flat_map (put_pair (argument ps us)) (map pair_of s.pairs.keys))) is.params
       ∙ put_broken d.params us h z (map pair_of s.pairs.keys) ∙ is.pairs (called_with d.params (grafts h us) h) (puts_around d.params us h z is.inside)
       ∙ sym (put_broken d.params us h z d.found.pairs)) g)

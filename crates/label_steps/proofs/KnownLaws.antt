@@ -40,12 +40,12 @@ pub no_call : (ms : List found.Summary) (m : Word) (ts : Trees) (s : Step) → f
 no_call ms m ts s e n t = assigns_found ms m ts s None e (record { names = λ f. ap (list_any f) n; twice = t })
 
 -- by the macro's summary
-step_assigns : (xs : List Word) (r : Step) (s : Summary) (d : found.Summary) (ts : Trees) → r.names.items ≡ flat_map (variable_put s.params.items ts) s.names.keys
-    → r.twice ≡ list_any (is_broken (argument s.params.items ts)) (map pair_of s.pairs.keys) → IsSummary xs s d → Assigns r (effect_by (argument d.params ts) d.found)
+step_assigns : (xs : List Word) (r : Step) (s : Summary) (d : found.Summary) (ts : Trees) → r.names.items ≡ flat_map (variable_put s.params ts) s.names.keys
+    → r.twice ≡ list_any (is_broken (argument s.params ts)) (map pair_of s.pairs.keys) → IsSummary xs s d → Assigns r (effect_by (argument d.params ts) d.found)
 step_assigns xs r s d ts n t h = record {
   names = λ f.
-      ap (list_any f) n ∙ any_flat f (variable_put s.params.items ts) s.names.keys ∙ h.names (λ x. list_any f (variable_put s.params.items ts x))
-      ∙ sym (any_flat f (variable_put s.params.items ts) d.found.names)
+      ap (list_any f) n ∙ any_flat f (variable_put s.params ts) s.names.keys ∙ h.names (λ x. list_any f (variable_put s.params ts x))
+      ∙ sym (any_flat f (variable_put s.params ts) d.found.names)
       ∙ ap (λ (ps : List Name). list_any f (flat_map (variable_put ps ts) d.found.names)) h.params;
   twice =
       t ∙ ap (λ (ps : List Name). list_any (is_broken (argument ps ts)) (map pair_of s.pairs.keys)) h.params
@@ -53,7 +53,7 @@ step_assigns xs r s d ts n t h = record {
 }
 
 pub one_call : (xs : List Word) (ms : List found.Summary) (m : Word) (ts : Trees) (r : Step) (s : Summary) (d : found.Summary) → find_summary ms m ≡ Some d → IsSummary xs s d
-    → r.names.items ≡ flat_map (variable_put s.params.items ts) s.names.keys → r.twice ≡ list_any (is_broken (argument s.params.items ts)) (map pair_of s.pairs.keys) → Assigns r (summary_effect ms m ts)
+    → r.names.items ≡ flat_map (variable_put s.params ts) s.names.keys → r.twice ≡ list_any (is_broken (argument s.params ts)) (map pair_of s.pairs.keys) → Assigns r (summary_effect ms m ts)
 one_call xs ms m ts r s d e is n t = assigns_found ms m ts r (Some d) e (step_assigns xs r s d ts n t is)
 
 -- ---- one more macro

@@ -8,6 +8,7 @@ pub mod SideLaws
 pub mod PutLaws
 pub mod KnownLaws
 pub mod AroundLaws
+pub mod ParamLaws
 pub mod AddsLaws
 pub mod WalksLaws
 pub mod TwiceLaws

@@ -1,37 +1,17 @@
--- Arguments that stand for names of macros: what is left still gives the whole.
-use Rattle.std.proofs.Common.{◌≡◌, ℕ, ◌+◌, ◌<◌, ◌≤◌, Bool, false, ◌||◌, List, [], ◌∷◌, ◌++◌, length, take, drop, get_or, map, cond, refl, sym, ap, ◌∙◌, append-nil, bytes_eq, Option, Some, None}
+-- What names of macros are where they are called, one after another.
+use Rattle.std.proofs.Common.{◌≡◌, ℕ, ◌+◌, ◌<◌, ◌≤◌, Bool, ◌||◌, List, [], ◌∷◌, ◌++◌, length, take, get_or, map, sym, ap, ◌∙◌, append-nil, Option, Some, None}
 use Rattle.std.specs.List.{list_any, flat_map}
-use Rattle.std.proofs.lemmas.List.{map-append, drop_more, drop_all, take_more, take_all}
+use Rattle.std.proofs.lemmas.List.{map-append, take_more, take_all}
 use Rattle.std.proofs.lemmas.List.Folds.{list_any-append}
 use Rattle.std.proofs.lemmas.Grind.{flat_map-append}
 use Rattle.std.proofs.Math.Bool.{or-false}
-use Rattle.tla_tree.specs.Tree.{Word, Tree, Trees, no_trees}
-use Rattle.tla_tree.specs.Pool.{at, trees_at}
+use Rattle.tla_tree.specs.Tree.{Word, Trees}
 use Rattle.pcal_tree.specs.Algorithm.{Name}
 use Rattle.pcal_tree.specs.Paths.{some_word}
 use Rattle.pcal_tree.specs.laws.MacroSummaries as found
 use Rattle.pcal_tree.specs.laws.MacroSummaries.{argument, resolved}
 use Rattle.label_steps.specs.declared.put.Pair.{Pair}
 use Rattle.label_steps.specs.PutIn.{pair_of, variable_put}
-
--- ---- arguments
-
-no_arguments : (ps : List Name) (x : Word) → argument ps no_trees x ≡ None
-no_arguments [] x = refl
-no_arguments (p ∷ ps) x = refl
-
-pub argument_none : (ts : List Tree) (ps : List Name) (es : List ℕ) (x : Word) (i : ℕ) → length es ≤ i → None ≡ argument (drop i ps) (trees_at ts (drop i es)) x
-argument_none ts ps es x i less = sym (ap (λ (js : List ℕ). argument (drop i ps) (trees_at ts js) x) (drop_all i es less) ∙ no_arguments (drop i ps) x)
-
-pub argument_first : (ts : List Tree) (ps : List Name) (es : List ℕ) (x : Word) (i : ℕ) (p : Name) (e : ℕ) → p ≡ get_or ps i p → e ≡ get_or es i e → i < length ps → i < length es
-    → argument (drop i ps) (trees_at ts (drop i es)) x ≡ cond (bytes_eq p.word x) (Some (at ts e)) (argument (drop (i + 1) ps) (trees_at ts (drop (i + 1) es)) x)
-argument_first ts ps es x i p e ip ie lp le = λ j.
-    argument ((drop_more ps i p lp ∙ ap (λ (z : Name). z ∷ drop (i + 1) ps) (sym ip)) j) (trees_at ts ((drop_more es i e le ∙ ap (λ (z : ℕ). z ∷ drop (i + 1) es) (sym ie)) j)) x
-
-pub argument_passed : (ts : List Tree) (ps : List Name) (es : List ℕ) (x : Word) (i : ℕ) (p : Name) (e : ℕ) → p ≡ get_or ps i p → e ≡ get_or es i e → i < length ps → i < length es
-    → bytes_eq p.word x ≡ false → argument (drop (i + 1) ps) (trees_at ts (drop (i + 1) es)) x ≡ argument (drop i ps) (trees_at ts (drop i es)) x
-argument_passed ts ps es x i p e ip ie lp le h =
-    sym (argument_first ts ps es x i p e ip ie lp le ∙ ap (λ (b : Bool). cond b (Some (at ts e)) (argument (drop (i + 1) ps) (trees_at ts (drop (i + 1) es)) x)) h)
 
 -- ---- variables, one after another
 

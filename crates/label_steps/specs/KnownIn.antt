@@ -24,7 +24,7 @@ may_be_one k a b = is_among k.params.keys a || (is_among k.params.keys b || byte
 
 -- where these names are parameters of macros
 pub record IsSummary (xs : List Word) (s : Summary) (d : found.Summary) : Type 0 where
-  pub params : s.params.items ≡ d.params
+  pub params : s.params ≡ d.params
   pub names : Same s.names.keys d.found.names
   pub pairs : SameBroken xs (map pair_of s.pairs.keys) d.found.pairs
   pub inside : (x : Word) → is_among xs x ≡ false → (ts : Trees) → argument d.params ts x ≡ None

@@ -6,6 +6,7 @@ pub mod StraightPaths
 pub mod Gathered
 pub mod PathsIn
 pub mod SidesIn
+pub mod ParamsIn
 pub mod PutIn
 pub mod KnownIn
 pub mod AroundIn

@@ -14,6 +14,7 @@ ghost use Rattle.label_steps.specs.PathsIn.{path_of};
 ghost use Rattle.label_steps.specs.PutIn.{side_of, pair_of};
 
 use crate::known::Known;
+use crate::params::Params;
 use crate::path::Path;
 use crate::put::{Pair, Side, stays_whole, variable};
 use crate::sides::{is_whole, root};
@@ -21,7 +22,7 @@ use indexmap::IndexSet;
 use pcal_tree::algorithm::{Assignment, Simple};
 use std::alloc::{AllocError, Global};
 use tla_pool::Pool;
-use tla_tree::{Name, NodeId, PlacedName};
+use tla_tree::{Name, NodeId};
 
 /// What is gathered of a macro.
 #[derive(Drop)]
@@ -35,7 +36,7 @@ pub struct Gathered {
 // What a left side is where the macro is called.
 fn side_put(
     pool: &Pool,
-    params: &[PlacedName],
+    params: &Params,
     args: &[NodeId],
     side: &Side,
 ) -> Result<Option<Side>, AllocError>
@@ -153,7 +154,7 @@ impl Gathered {
         &mut self,
         known: &Known,
         pool: &Pool,
-        params: &[PlacedName],
+        params: &Params,
         args: &[NodeId],
         pair: &Pair,
     ) -> Result<(), AllocError>
@@ -179,7 +180,7 @@ impl Gathered {
         &mut self,
         known: &Known,
         pool: &Pool,
-        params: &[PlacedName],
+        params: &Params,
         args: &[NodeId],
         pairs: &[Pair],
     ) -> Result<(), AllocError>

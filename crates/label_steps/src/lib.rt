@@ -8,6 +8,7 @@ pub mod known;
 pub mod labels;
 pub mod laws;
 pub mod macros;
+pub mod params;
 pub mod path;
 pub mod put;
 pub mod sides;

@@ -15,6 +15,7 @@ ghost use Rattle.label_steps.specs.MissingLabels.{due_in};
 use crate::around::Around;
 use crate::gathered::Gathered;
 use crate::known::Known;
+use crate::params::{Params, name_of};
 use crate::path::Path;
 use crate::put::Summary;
 use crate::walk::Met;
@@ -24,24 +25,6 @@ use pcal_tree::algorithm::{Macro, Stmt};
 use std::alloc::{AllocError, Global};
 use tla_pool::Pool;
 use tla_tree::{Name, PlacedName};
-
-// The same names once more.
-fn copies(alloc: Global, names: &[PlacedName]) -> Result<Vec<PlacedName>, AllocError>
-    ensures { IfOk result (λ r. r.items ≡ names.now) }
-{
-    let mut list = Vec::new(alloc);
-    for one in names {
-        list.push(one.copied()?)?;
-    }
-    Ok(list)
-}
-
-// The name alone.
-fn name_of(one: &PlacedName) -> Result<Name, AllocError>
-    ensures { IfOk result (λ r. r ≡ one.now.word) }
-{
-    one.name.copied()
-}
 
 // What was gathered; nothing where nothing was to be.
 fn taken(alloc: Global, found: Option<Gathered>) -> Gathered
@@ -97,7 +80,7 @@ impl Around {
     {
         let Gathered { names, pairs } = self.gathered(alloc, pool, &one.body)?;
         Ok(Summary {
-            params: copies(alloc, &one.params)?,
+            params: Params::new(alloc, &one.params)?,
             names,
             pairs,
         })

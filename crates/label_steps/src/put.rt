@@ -10,12 +10,13 @@ ghost use Rattle.pcal_tree.specs.Paths.{some_word, same_word};
 ghost use Rattle.pcal_tree.specs.laws.MacroSummaries.{argument, resolved, resolved_whole, is_broken};
 ghost use Rattle.label_steps.specs.PutIn.{side_of, pair_of, variable_put};
 
+use crate::params::Params;
 use crate::sides::{Step, is_whole, root};
 use crate::truths::{both, either};
 use indexmap::IndexSet;
 use std::alloc::{AllocError, Global};
 use tla_pool::Pool;
-use tla_tree::{Name, NodeId, PlacedName};
+use tla_tree::{Name, NodeId};
 
 /// A left side of a macro: the name with which it begins, and whether it is the whole of it.
 #[derive(Drop, PartialEq, Eq, Hash)]
@@ -55,7 +56,7 @@ pub enum Pair {
 #[derive(Drop)]
 pub struct Summary {
     /// Its parameters.
-    pub params: Vec<PlacedName>,
+    pub params: Params,
     /// The names that it assigns.
     pub names: IndexSet<Name>,
     /// Those that must not be one variable, where they may be.
@@ -70,23 +71,6 @@ pub fn same(a: &Name, b: &Name) -> bool
     b == a
 }
 
-// The argument that stands for a name, if one does.
-fn argument(params: &[PlacedName], args: &[NodeId], name: &Name) -> Option<NodeId>
-    ensures value { (ts : List Tree) → option_map (at ts) result ≡ argument params.now (trees_at ts args.now) name.now }
-    ensures within { IfSome result (λ e. e + 1 ≤ past_numbers args.now) }
-{
-    for i in 0..params.len() {
-        if i >= args.len() {
-            return None;
-        }
-        let param = &params[i];
-        if same(&param.name, name) {
-            return Some(args[i]);
-        }
-    }
-    None
-}
-
 /// The variable that a name is where the macro is called, if it is one.
 ///
 /// # Errors
@@ -94,25 +78,25 @@ fn argument(params: &[PlacedName], args: &[NodeId], name: &Name) -> Option<NodeI
 /// Only for want of memory.
 pub fn variable(
     pool: &Pool,
-    params: &[PlacedName],
+    params: &Params,
     args: &[NodeId],
     name: &Name,
 ) -> Result<Option<Name>, AllocError>
     requires { past_numbers args.now ≤ length pool.now }
     ensures { IfOk result (λ r. r ≡ resolved (argument params.now (trees_at pool.now args.now)) name.now) }
 {
-    match argument(params, args, name) {
+    match params.argument(args, name) {
         None => Ok(Some(name.copied()?)),
         Some(e) => root(pool, e),
     }
 }
 
 /// Whether a left side is the whole of a variable where the macro is called.
-pub fn stays_whole(pool: &Pool, params: &[PlacedName], args: &[NodeId], side: &Side) -> bool
+pub fn stays_whole(pool: &Pool, params: &Params, args: &[NodeId], side: &Side) -> bool
     requires { past_numbers args.now ≤ length pool.now }
     ensures { result ≡ resolved_whole (argument params.now (trees_at pool.now args.now)) (side_of side.now) }
 {
-    match argument(params, args, &side.name) {
+    match params.argument(args, &side.name) {
         None => side.whole,
         Some(e) => both(side.whole, is_whole(pool, e)),
     }
@@ -121,7 +105,7 @@ pub fn stays_whole(pool: &Pool, params: &[PlacedName], args: &[NodeId], side: &S
 // Whether two names are one variable where the macro is called.
 fn same_variable(
     pool: &Pool,
-    params: &[PlacedName],
+    params: &Params,
     args: &[NodeId],
     first: &Name,
     second: &Name,
@@ -141,12 +125,7 @@ fn same_variable(
 }
 
 // Whether names are one variable that must not be.
-fn breaks(
-    pool: &Pool,
-    params: &[PlacedName],
-    args: &[NodeId],
-    pair: &Pair,
-) -> Result<bool, AllocError>
+fn breaks(pool: &Pool, params: &Params, args: &[NodeId], pair: &Pair) -> Result<bool, AllocError>
     requires { past_numbers args.now ≤ length pool.now }
     ensures { IfOk result (λ r. r ≡ is_broken (argument params.now (trees_at pool.now args.now)) (pair_of pair.now)) }
 {
@@ -166,7 +145,7 @@ fn breaks(
 fn add_variable(
     list: &mut Vec<Name>,
     pool: &Pool,
-    params: &[PlacedName],
+    params: &Params,
     args: &[NodeId],
     name: &Name,
 ) -> Result<(), AllocError>
@@ -187,7 +166,7 @@ fn add_variable(
 fn variables(
     alloc: Global,
     pool: &Pool,
-    params: &[PlacedName],
+    params: &Params,
     args: &[NodeId],
     names: &[Name],
 ) -> Result<Vec<Name>, AllocError>
@@ -205,7 +184,7 @@ fn variables(
 #[tactic(auto, using(crate::proofs::PutLaws::pair_more, crate::proofs::PutLaws::pairs_all))]
 fn breaks_one(
     pool: &Pool,
-    params: &[PlacedName],
+    params: &Params,
     args: &[NodeId],
     pairs: &[Pair],
 ) -> Result<bool, AllocError>
@@ -227,8 +206,8 @@ impl Summary {
     /// Only for want of memory.
     pub fn step(&self, alloc: Global, pool: &Pool, args: &[NodeId]) -> Result<Step, AllocError>
         requires { past_numbers args.now ≤ length pool.now }
-        ensures names { IfOk result (λ r. r.names.items ≡ flat_map (variable_put self.now.params.items (trees_at pool.now args.now)) self.now.names.keys) }
-        ensures twice { IfOk result (λ r. r.twice ≡ list_any (is_broken (argument self.now.params.items (trees_at pool.now args.now))) (map pair_of self.now.pairs.keys)) }
+        ensures names { IfOk result (λ r. r.names.items ≡ flat_map (variable_put self.now.params (trees_at pool.now args.now)) self.now.names.keys) }
+        ensures twice { IfOk result (λ r. r.twice ≡ list_any (is_broken (argument self.now.params (trees_at pool.now args.now))) (map pair_of self.now.pairs.keys)) }
     {
         let names = variables(alloc, pool, &self.params, args, self.names.as_slice())?;
         let twice = breaks_one(pool, &self.params, args, self.pairs.as_slice())?;

@@ -1,4 +1,4 @@
-//! The walk over what is assigned: the first variable that is assigned twice on a path.
+//! The walk over what is assigned: the first variable that is assigned twice on a path, and what is gathered of macros.
 
 ghost use Rattle.std.specs.Prelude.{◌≡◌, ◌≤◌, ◌+◌, ◌++◌, ◌||◌, List, length, drop, IfOk, OnOk};
 ghost use Rattle.tla_tree.specs.Tree.{Tree};

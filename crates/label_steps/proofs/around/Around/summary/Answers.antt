@@ -14,7 +14,7 @@ returns c = λ ms k name own inside due.
     subst (λ (ss : List Stmt). IsGathered c.args.self.now.known.params.keys c.in_ok-names.field-0 ms (statements_at ts ss)) c.deref.ensures.value
     (c.in_ok-names.ensures ms k name own (subst (λ (ss : List Stmt). due_in false None (statements_at ts ss) ≡ []) (sym c.deref.ensures.value) due)) in
     record {
-      params = c.in_ok-copies.ensures ∙ c.deref-2.ensures.value;
+      params = c.in_ok-new.ensures ∙ c.deref-2.ensures.value;
       names = g.names;
       pairs = g.pairs;
       inside = none_inside c.args.self.now.known.params.keys c.args.one.now.params.items inside;

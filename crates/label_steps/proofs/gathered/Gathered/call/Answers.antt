@@ -3,7 +3,6 @@ use Rattle.std.proofs.Common.{[], List, subst}
 use Rattle.std.specs.List.{flat_map}
 use Rattle.std.proofs.lemmas.Result.{on_ok_weaker}
 use Rattle.tla_tree.specs.Pool.{trees_at}
-use Rattle.pcal_tree.specs.Algorithm.{Name}
 use Rattle.pcal_tree.specs.laws.MacroSummaries.{argument, put_pair}
 use Rattle.label_steps.specs.declared.put.Pair.{Pair}
 use Rattle.label_steps.specs.GatheredIn.{Adds}
@@ -23,5 +22,4 @@ returns-in-Some c =
     let us = trees_at c.args.pool.now c.args.args.now in
     let f = subst (λ o. IsKnown c.args.known.now.params.keys o (find_summary ms c.args.name.now)) c.in-Some.is (c.find.ensures ms k) in
     call_some c.args.known.now c.args.self.now c.put_pairs.new.self ms c.args.name.now us c.in-Some.summary.now f.0 f.1 f.2
-    (subst (λ (ps : List Name). Adds c.args.known.now c.args.self.now c.put_pairs.new.self [] (flat_map (λ p. put_pair (argument ps us) (pair_of p)) c.in-Some.summary.now.pairs.keys)) c.deref.ensures.value
-    (subst (λ (qs : List Pair). Adds c.args.known.now c.args.self.now c.put_pairs.new.self [] (flat_map (λ p. put_pair (argument c.deref.result.now us) (pair_of p)) qs)) c.as_slice.ensures.keys g))) c.put_pairs.ensures
+    (subst (λ (qs : List Pair). Adds c.args.known.now c.args.self.now c.put_pairs.new.self [] (flat_map (λ p. put_pair (argument c.in-Some.summary.now.params us) (pair_of p)) qs)) c.as_slice.ensures.keys g)) c.put_pairs.ensures
