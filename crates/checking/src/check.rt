@@ -20,10 +20,11 @@ ghost use Rattle.written_names.specs.Units.{naming_of};
 ghost use Rattle.checking.specs.CheckedIn.{wrong_with, IsLabelled};
 
 use crate::labels::labels_and_size;
-use crate::stubs::{add_labels, name_all};
+use added_labels::add::add_labels;
 use module_outside::outside::{Outside, read_outside};
 use module_split::split::split;
 use module_tree::Parts;
+use name_rules::name_all;
 use pcal_tree::algorithm::Algorithm;
 use rewriting::read_parts;
 use std::alloc::{AllocError, Global};

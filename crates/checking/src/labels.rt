@@ -8,7 +8,7 @@ ghost use Rattle.macro_expand.specs.TooLarge.{too_large};
 
 use algorithm_limits::order::least;
 use expansion_size::too_large;
-use crate::stubs::label_refusal;
+use label_steps::labels::label_refusal;
 use pcal_tree::algorithm::Algorithm;
 use std::alloc::{AllocError, Global};
 use tla_pool::Pool;

@@ -4,7 +4,6 @@
 pub mod check;
 pub mod labels;
 pub mod map;
-mod stubs;
 
 pub use check::check_text;
 pub use map::map_text;
