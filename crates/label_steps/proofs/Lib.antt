@@ -3,6 +3,7 @@ pub mod DueLaws
 pub mod WalkLaws
 pub mod StraightLaws
 pub mod GatherLaws
+pub mod GeneralLaws
 pub mod PathLaws
 pub mod SideLaws
 pub mod PutLaws
