@@ -12,6 +12,7 @@ pub mod AroundLaws
 pub mod ParamLaws
 pub mod AddsLaws
 pub mod WalksLaws
+pub mod WaysLaws
 pub mod TwiceLaws
 pub mod LearnLaws
 pub mod AgreeLaws
