@@ -1,15 +1,21 @@
 //! The walk over a macro in which a label is missing: what it assigns on all paths, round loops and behind labels too.
 
-ghost use Rattle.std.specs.Prelude.{◌≡◌, ◌≤◌, Bool, length, IfOk, OnOk};
+ghost use Rattle.std.specs.Prelude.{◌≡◌, ◌≤◌, ◌++◌, List, Bool, length, IfOk, OnOk};
 ghost use Rattle.pcal_tree.specs.Algorithm.{Span as PureSpan, Statement, then};
 ghost use Rattle.pcal_tree.specs.InMemory.{simple_at, stmt_at, statements_at, branches_at, past_simple, past_stmt, past_statements, past_branches};
 ghost use Rattle.pcal_tree.specs.OffencesSteps.{inside, visits};
+ghost use Rattle.pcal_tree.specs.laws.MacroSummaries.{Summary as Found, found_here};
 ghost use Rattle.label_steps.specs.Gathered.{assigning};
+ghost use Rattle.label_steps.specs.GatheredIn.{AddsSome, names_on, turns_on};
+ghost use Rattle.label_steps.specs.KnownIn.{AreMacros};
+ghost use Rattle.label_steps.specs.PathsIn.{path_of};
 ghost use Rattle.label_steps.specs.WaysIn.{looped, LeadsBoth, Gathers, GoesOne, GoesAll, GoesSome, InMacro};
 
 use crate::around::Around;
 use crate::due::jumps;
 use crate::gathered::Gathered;
+use crate::path::Path;
+use crate::sides::Step;
 use crate::walk::is_label;
 use crate::ways::Ways;
 use pcal_tree::algorithm::{Simple, Stmt};
@@ -17,6 +23,25 @@ use std::alloc::{AllocError, Global};
 use tla_pool::Pool;
 
 impl Around {
+    // A statement to which this path leads, and which assigns so, where something is gathered.
+    fn meet(
+        &self,
+        alloc: Global,
+        pool: &Pool,
+        path: &Path,
+        found: &mut Option<Gathered>,
+        simple: &Simple,
+        step: &Step,
+    ) -> Result<(), AllocError>
+        requires { past_simple simple.now ≤ length pool.now }
+        ensures { OnOk result ((ms : List Found) → AreMacros self.now.known ms → AddsSome self.now.known found.old found.new (names_on (path_of path.now) step.now.names.items) (turns_on (path_of path.now) step.now.names.items ++ (found_here ms (simple_at pool.now simple.now)).pairs)) }
+    {
+        match found {
+            None => Ok(()),
+            Some(so_far) => so_far.meet(alloc, &self.known, pool, path, simple, &step.names),
+        }
+    }
+
     // A statement with none in it.
     fn along_simple(
         &self,
@@ -30,9 +55,7 @@ impl Around {
         ensures { OnOk result (InMacro self.now (λ S. (labelled : Bool) (at : PureSpan) → GoesOne self.now.known S labelled at (simple_at pool.now simple.now) ways.old ways.new found.old found.new)) }
     {
         let step = self.step(alloc, pool, false, simple)?;
-        if let Some(so_far) = found {
-            so_far.meet(alloc, &self.known, pool, &ways.reached, simple, &step.names)?;
-        }
+        self.meet(alloc, pool, &ways.reached, found, simple, &step)?;
         ways.pass(&step, jumps(simple))
     }
 
