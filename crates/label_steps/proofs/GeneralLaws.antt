@@ -7,10 +7,8 @@ use Rattle.pcal_tree.specs.Algorithm.{Statement, Statements}
 use Rattle.pcal_tree.specs.Paths.{Effects, Path, joined, again, rounds, after, is_reached}
 use Rattle.pcal_tree.specs.laws.MacroSummaries.{Found, found}
 use Rattle.pcal_tree.proofs.EffectLaws.{Alike}
-use Rattle.pcal_tree.proofs.SetLaws.{Same, same_both}
 use Rattle.label_steps.specs.Gathered.{gathered_generally, names_there, FoundAlike}
 use Rattle.label_steps.proofs.GatherLaws.{met_all}
-use Rattle.label_steps.proofs.WalksLaws.{alike_then}
 use Rattle.label_steps.proofs.PathShapes.{Seen, seen, one_of, past, seen_alike, seen_joined, Shape, shape_alike, list_shape}
 
 -- what is found in a body is what is met along its paths, whatever labels are missing
@@ -82,36 +80,3 @@ rounds_from_none E b = none_rounds (λ q. after E b false q) (list_shape E b fal
 -- what comes of paths that have assigned the same
 pub after_alike : (E : Effects) (b : Statements) (l : Bool) (p q : Path) → Alike p q → Alike (after E b l p) (after E b l q)
 after_alike E b l p q k = shape_alike (λ p. after E b l p) (list_shape E b l) p q k
-
--- ---- rounds of a loop, whose body leads no path to u and one without names to r
-
-names_alike : (p q : Path) → Alike p q → Same (names_there p) (names_there q)
-names_alike None None k = λ f. refl
-names_alike (Some xs) (Some ys) k = k
-names_alike None (Some ys) k = absurd k
-names_alike (Some xs) None k = absurd k
-
-pub loop_from_some : (E : Effects) (b : Statements) (r : Path) (xs ys : List Word) → Alike (after E b false (Some [])) r → Same xs ys
-    → Alike (rounds joined (λ q. after E b false q) (Some xs)) (Some (ys ++ names_there r))
-loop_from_some E b r xs ys h s =
-    alike_then (rounds joined (λ q. after E b false q) (Some xs)) (Some (xs ++ names_there (after E b false (Some [])))) (Some (ys ++ names_there r))
-    (rounds_from_some E b xs) (same_both xs ys (names_there (after E b false (Some []))) (names_there r) s (names_alike (after E b false (Some [])) r h))
-
-reached_alike : (p q : Path) → Alike p q → is_reached p ≡ is_reached q
-reached_alike None None k = refl
-reached_alike (Some xs) (Some ys) k = refl
-reached_alike None (Some ys) k = absurd k
-reached_alike (Some xs) None k = absurd k
-
-only_if : (b c : Bool) (p q : Path) → b ≡ c → Alike p q → Alike (cond b p None) (cond c q None)
-only_if true true p q e k = k
-only_if false false p q e k = tt
-only_if true false p q e k = cc
-only_if false true p q e k = cc
-
-pub loop_from_none : (E : Effects) (b : Statements) (u r : Path) → Alike (after E b false None) u → Alike (after E b false (Some [])) r
-    → Alike (rounds joined (λ q. after E b false q) None) (cond (is_reached u) r None)
-loop_from_none E b u r h k =
-    alike_then (rounds joined (λ q. after E b false q) None) (cond (is_reached (after E b false None)) (after E b false (Some [])) None) (cond (is_reached u) r None)
-    (rounds_from_none E b)
-    (only_if (is_reached (after E b false None)) (is_reached u) (after E b false (Some [])) r (reached_alike (after E b false None) u h) k)
