@@ -4,6 +4,7 @@ use Rattle.std.proofs.Common.{◌≡◌, List, [], ◌++◌, Bool, true, false, 
 use Rattle.std.specs.List.{list_any}
 use Rattle.std.specs.Option.{option_map}
 use Rattle.std.proofs.lemmas.List.Folds.{list_any-append}
+use Rattle.std.proofs.Math.Bool.{or_self}
 use Rattle.tla_tree.specs.Tree.{Word}
 use Rattle.pcal_tree.specs.Algorithm.{Statement, assign, await, print, assert, skip, branch, either, with, while, goto, macro, call, return, Statements, done, then, mark, Branches, no_branches, or}
 use Rattle.pcal_tree.specs.Paths.{Effects, Path, joined, again, rounds, after_one, after, after_some}
@@ -63,18 +64,6 @@ seen_moved f (Some ts) (Some xs) = ap Some (list_any-append f ts xs)
 
 -- ---- laws of what is seen
 
-or_true : (a : Bool) → (a || true) ≡ true
-or_true true = refl
-or_true false = refl
-
-or_twice : (a : Bool) → (a || a) ≡ a
-or_twice true = refl
-or_twice false = refl
-
-or_none : (a : Bool) → (a || false) ≡ a
-or_none true = refl
-or_none false = refl
-
 one_of_none : (x : Seen) → one_of x None ≡ x
 one_of_none None = refl
 one_of_none (Some a) = refl
@@ -119,7 +108,7 @@ each_past (Some a) (Some b) None = refl
 each_past (Some true) (Some b) (Some c) = refl
 each_past (Some false) (Some true) (Some true) = refl
 each_past (Some false) (Some true) (Some false) = refl
-each_past (Some false) (Some false) (Some c) = sym (ap Some (or_twice c))
+each_past (Some false) (Some false) (Some c) = sym (ap Some (or_self c))
 
 mixed : (w x y z : Seen) → one_of (one_of w x) (one_of y z) ≡ one_of (one_of w y) (one_of x z)
 mixed w x y z =
@@ -201,7 +190,7 @@ round_some None (Some true) x = refl
 round_some None (Some false) true = refl
 round_some None (Some false) false = refl
 round_some (Some true) None x = refl
-round_some (Some false) None x = ap Some (or_twice x)
+round_some (Some false) None x = ap Some (or_self x)
 round_some (Some true) (Some a) x = refl
 round_some (Some false) (Some true) true = refl
 round_some (Some false) (Some true) false = refl
@@ -216,10 +205,7 @@ module _ (g : Path → Path) (m : Shape g) where
       by : (t a : Seen) → None ≡ one_of (past t None) a → None ≡ one_of (past t a) a
       by None a k = k
       by (Some b) None k = refl
-      by (Some b) (Some c) k = k ∙ absurd_some k
-        where
-          absurd_some : None ≡ Some c → Some c ≡ Some (b || c || c)
-          absurd_some k = cc
+      by (Some b) (Some c) k = cc
   round_none f (Some ys) e = m.is f (Some ys) ∙ ap (λ (u : Seen). one_of (past (seen f m.kept) u) (seen f m.fresh)) (there (seen f m.kept) (seen f m.fresh) (ap (seen f) (sym e) ∙ m.is f None))
     where
       there : (t a : Seen) → seen f (Some ys) ≡ one_of (past t None) a → seen f (Some ys) ≡ a
