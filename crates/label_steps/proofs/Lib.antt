@@ -3,6 +3,7 @@ pub mod DueLaws
 pub mod WalkLaws
 pub mod StraightLaws
 pub mod GatherLaws
+pub mod PathShapes
 pub mod GeneralLaws
 pub mod PathLaws
 pub mod SideLaws
