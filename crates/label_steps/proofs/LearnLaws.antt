@@ -107,11 +107,6 @@ taken_gathered a ms empty r m n b name own due none no_pairs before after g =
 
 -- ---- one more
 
-pub one_due : {X Y Z : Type 0} (f : Y → List Z) (h : X → Y) (xs : List X) (i : ℕ) (x : X) → x ≡ get_or xs i x → i < length xs → flat_map f (map h xs) ≡ [] → f (h x) ≡ []
-one_due f h [] i x e l d = absurd (omega (arith, l))
-one_due f h (y ∷ ys) zero x e l d = ap (λ z. f (h z)) e ∙ (neither_one (f (h y)) (flat_map f (map h ys)) d).0
-one_due f h (y ∷ ys) (suc i) x e l d = one_due f h ys i x e (omega (arith, l)) (neither_one (f (h y)) (flat_map f (map h ys)) d).1
-
 pub newest_first : {X Y : Type 0} (h : X → Y) (xs : List X) (i : ℕ) (x : X) → x ≡ get_or xs i x → i < length xs → reverse (map h (take (i + 1) xs)) ≡ h x ∷ reverse (map h (take i xs))
 newest_first {X = X} h xs i x e l =
     ap (λ (ys : List X). reverse (map h ys)) (take_more xs i x l ∙ ap (λ (z : X). take i xs ++ z ∷ []) (sym e)) ∙ ap reverse (map-append h (take i xs) (x ∷ [])) ∙ reverse-append (map h (take i xs)) (h x ∷ [])
