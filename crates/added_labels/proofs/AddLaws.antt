@@ -65,13 +65,5 @@ stays forced a b e h = ap (λ (c : Bool). cond c (with_labels call_effect (codes
 pub changes : (forced : Bool) (a : tree.Algorithm) (b : Bool) → b ≡ Added forced a → b ≡ true → labelled true a ≡ labelled forced a
 changes forced a b e h = ap (λ (c : Bool). cond c (with_labels call_effect (codes "Lbl_") a) a) (sym h ∙ e)
 
-pub known_as : (ts : List Tree) (r b : code.Algorithm) (ds : List code_macro.Macro) (k : Known) → ds ≡ b.macros.items → r.macros ≡ b.macros
-    → (flat_map (λ (d : tree.Macro). due_in false None d.body) (map (macro_at ts) ds) ≡ [] → AreMacros k (summaries (reverse (map (macro_at ts) ds))))
-    → flat_map (λ (d : tree.Macro). due_in false None d.body) (algorithm_at ts r).macros ≡ [] → AreMacros k (summaries (reverse (map (macro_at ts) b.macros.items)))
-known_as ts r b ds k e m h d =
-    subst (λ (xs : List code_macro.Macro). AreMacros k (summaries (reverse (map (macro_at ts) xs)))) e
-    (h (ap (λ (xs : List code_macro.Macro). flat_map (λ (d : tree.Macro). due_in false None d.body) (map (macro_at ts) xs)) (e ∙ sym (ap (λ (v : Vec code_macro.Macro Global). v.items) m)) ∙ d))
-
-pub both_ok : {A F : Type 0} (P Q S : A → Type 0) (r : Result A F) → ((x : A) → P x → Q x → S x) → IfOk r P → IfOk r Q → IfOk r S
-both_ok P Q S (Ok x) h p q = h x p q
-both_ok P Q S (Err e) h p q = p
+pub known_as : (ts : List Tree) (ds es : List code_macro.Macro) (k : Known) → ds ≡ es → AreMacros k (summaries (reverse (map (macro_at ts) ds))) → AreMacros k (summaries (reverse (map (macro_at ts) es)))
+known_as ts ds es k e h = subst (λ (xs : List code_macro.Macro). AreMacros k (summaries (reverse (map (macro_at ts) xs)))) e h

@@ -1,14 +1,12 @@
 //! Labels added to an algorithm: first to its macros, and then, where it is known what these assign, to what has steps.
 
-ghost use Rattle.std.specs.Prelude.{◌≡◌, ◌≤◌, ◌&&◌, ◌||◌, true, false, None, List, [], length, map, reverse, IfOk};
-ghost use Rattle.std.specs.List.{flat_map};
+ghost use Rattle.std.specs.Prelude.{◌≡◌, ◌≤◌, ◌&&◌, ◌||◌, true, List, length, map, reverse, IfOk};
 ghost use Rattle.tla_tree.specs.Tree.{Tree};
 ghost use Rattle.pcal_tree.specs.Algorithm as tree;
 ghost use Rattle.pcal_tree.specs.InMemory.{macro_at, main_at, algorithm_at, past_algorithm};
 ghost use Rattle.pcal_tree.specs.Labelled.{labelled, is_alone, typed_labels};
 ghost use Rattle.pcal_tree.specs.laws.MacroSummaries.{summaries};
 ghost use Rattle.pcal_tree.specs.Tests.{is_empty};
-ghost use Rattle.label_steps.specs.MissingLabels.{due_in};
 ghost use Rattle.label_steps.specs.KnownIn.{AreMacros};
 ghost use Rattle.added_labels.specs.WithLabels.{Begun};
 
@@ -116,21 +114,20 @@ pub fn with_routines(
     Ok(changed)
 }
 
-/// Adds labels to an algorithm, everywhere where they are forced, or where it is a uniprocess algorithm without any. What is
-/// given is right where no label is missing in its macros, as can be only inside a `with` there.
+/// Adds labels to an algorithm, everywhere where they are forced, or where it is a uniprocess algorithm without any.
 ///
 /// # Errors
 ///
 /// Only for want of memory.
-pub fn with_labels(
+pub fn add_labels(
     alloc: Global,
     pool: &Pool,
     algorithm: Algorithm,
     forced: bool,
 ) -> Result<Algorithm, AllocError>
     requires { past_algorithm algorithm ≤ length pool.now }
-    ensures with { IfOk result (λ r. flat_map (λ d. due_in false None d.body) (algorithm_at pool.now r).macros ≡ [] → algorithm_at pool.now r ≡ labelled forced (algorithm_at pool.now algorithm)) }
-    ensures numbers { IfOk result (λ r. past_algorithm r ≤ past_algorithm algorithm) }
+    ensures tree { IfOk result (λ r. algorithm_at pool.now r ≡ labelled forced (algorithm_at pool.now algorithm)) }
+    ensures past { IfOk result (λ r. past_algorithm r ≤ length pool.now) }
 {
     if !are_added(&algorithm, forced) {
         return Ok(algorithm);

@@ -112,7 +112,7 @@ module _ (C D : Word → Trees → Effect) (h : Agreeing C D) where
 
 -- ---- of an algorithm
 
-none_first : (xs : List Refusal) → first xs ≡ None → xs ≡ []
+pub none_first : (xs : List Refusal) → first xs ≡ None → xs ≡ []
 none_first [] e = refl
 none_first (x ∷ xs) e = cc
 
@@ -122,9 +122,6 @@ due_steps C a r x e h =
 
 pub no_due : (a : Algorithm) (r : Option Refusal) → r ≡ first (missing_labels a) → r ≡ None → missing_labels a ≡ []
 no_due a r e h = none_first (missing_labels a) (sym e ∙ h)
-
-pub no_due_macros : (a : Algorithm) → missing_labels a ≡ [] → flat_map (λ d. due_in false None d.body) a.macros ≡ []
-no_due_macros a e = (neither_one (flat_map (λ (d : Macro). due_in false None d.body) a.macros) (flat_map (λ (p : Procedure). due_in_body p.body) a.procedures ++ due_in_main a.main) e).0
 
 pub twice_steps : (a : Algorithm) (d r : Option Refusal) → d ≡ first (missing_labels a) → d ≡ None → r ≡ first (straight_offences (summary_effect (summaries (reverse a.macros))) a) → r ≡ first (missing_in (call_effect (reverse a.macros)) a)
 twice_steps a d r e h t =

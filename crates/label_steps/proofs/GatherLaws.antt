@@ -173,7 +173,7 @@ module _ (S : Statement → Found) where
     met_inside (call n ts) l r p q k = none_met
     met_inside return l r p q k = none_met
 
-    met_all : (b : Statements) (l : Bool) (r : Option Rule) (p q : Path) → Alike p q → FoundAlike (FoundIn S (visits (assigning S) (At l r p) b)) (found S l q b)
+    pub met_all : (b : Statements) (l : Bool) (r : Option Rule) (p q : Path) → Alike p q → FoundAlike (FoundIn S (visits (assigning S) (At l r p) b)) (found S l q b)
     met_all done l r p q k = none_met
     met_all (mark n m rest) l r p q k = met_all rest true None (Some []) (Some []) (λ f. refl)
     met_all (then at st rest) l r p q k =

@@ -13,15 +13,16 @@ use Rattle.algorithm_limits.proofs.Tables.{equal, equal_is}
 use Rattle.pcal_tree.specs.Algorithm.{Name, Statements}
 use Rattle.pcal_tree.specs.Paths.{Effects}
 use Rattle.pcal_tree.specs.laws.MacroSummaries as found
-use Rattle.pcal_tree.specs.laws.MacroSummaries.{argument, found_here, is_broken}
+use Rattle.pcal_tree.specs.laws.MacroSummaries.{Found, argument, found_here, found, is_broken}
 use Rattle.pcal_tree.proofs.TargetLaws.{put_for}
 use Rattle.label_steps.specs.declared.put.Pair.{Pair}
 use Rattle.label_steps.specs.PutIn.{pair_of, breaks}
 use Rattle.label_steps.specs.declared.around.Around.{Around}
 use Rattle.label_steps.specs.declared.gathered.Gathered.{Gathered}
+use Rattle.label_steps.specs.declared.known.Known.{Known}
 use Rattle.label_steps.specs.declared.walk.Met.{Met}
 use Rattle.label_steps.specs.AroundIn.{effects_around}
-use Rattle.label_steps.specs.Gathered.{assigning, gathered}
+use Rattle.label_steps.specs.Gathered.{assigning, gathered, gathered_generally, FoundAlike}
 use Rattle.label_steps.specs.GatheredIn.{AddsSome, Adds}
 use Rattle.label_steps.specs.MacrosIn.{params_of, AreInside, IsGathered}
 use Rattle.label_steps.specs.MissingLabels.{due_in}
@@ -29,6 +30,7 @@ use Rattle.label_steps.specs.StraightPaths.{straight_visits}
 use Rattle.label_steps.specs.WalksIn.{SameVariables, Gains}
 use Rattle.label_steps.proofs.AddsLaws.{any_inserted, plain_names}
 use Rattle.label_steps.proofs.GatherLaws.{gathered_is}
+use Rattle.label_steps.proofs.GeneralLaws.{general_is}
 use Rattle.label_steps.proofs.StraightLaws.{neither_one}
 use Rattle.label_steps.proofs.TwiceLaws.{outside}
 
@@ -75,39 +77,35 @@ one_inside f (y ∷ ys) (suc i) x e l h = one_inside f ys i x e (omega (arith, l
 pub same_variables : (a : Around) (ms : List found.Summary) → a.name ≡ None → a.own.items ≡ [] → SameVariables (assigning (found_here ms)) (effects_around a ms)
 same_variables a ms n o st f = sym (ap (λ (E : Effects). list_any f (E st).variables) (outside a ms n o) ∙ ap (list_any f) (plain_names ms st))
 
-is_gathered : (a : Around) (ms : List found.Summary) (empty r : Gathered) (m n : Met) (b : Statements) → a.name ≡ None → a.own.items ≡ [] → due_in false None b ≡ [] → empty.names.keys ≡ [] → empty.pairs.keys ≡ [] → m.found ≡ Some empty
-    → n.found ≡ Some r → Gains a ms m n (straight_visits (assigning (found_here ms)) (Some []) b) → IsGathered a.known.params.keys r ms b
-is_gathered a ms empty r m n b name own due none no_pairs before after g =
-    let adds : Adds a.known empty r (gathered (found_here ms) (Some []) b).names (gathered (found_here ms) (Some []) b).pairs =
-    subst (λ (o : Option Gathered). AddsSome a.known o (Some r) (gathered (found_here ms) (Some []) b).names (gathered (found_here ms) (Some []) b).pairs) before
-    (subst (λ (o : Option Gathered). AddsSome a.known m.found o (gathered (found_here ms) (Some []) b).names (gathered (found_here ms) (Some []) b).pairs) after (g.found name own)) in
-    let is = gathered_is (found_here ms) b due in
-    record {
-      names = λ f. adds.names f ∙ ap (λ (xs : List Word). list_any f (xs ++ (gathered (found_here ms) (Some []) b).names)) none ∙ is.names f;
-      pairs = λ h z.
-          adds.pairs h z ∙ ap (λ (ps : List Pair). breaks h (map pair_of ps ++ (gathered (found_here ms) (Some []) b).pairs)) no_pairs ∙ is.pairs (is_broken (put_for h));
-    }
+module _ (k : Known) (ms : List found.Summary) (b : Statements) where
+  is_gathered : (empty r : Gathered) (f : Found) → empty.names.keys ≡ [] → empty.pairs.keys ≡ [] → Adds k empty r f.names f.pairs
+      → FoundAlike f (found (found_here ms) false (Some []) b) → IsGathered k.params.keys r ms b
+  is_gathered empty r f none no_pairs adds is = record {
+    names = λ g. adds.names g ∙ ap (λ (xs : List Word). list_any g (xs ++ f.names)) none ∙ is.names g;
+    pairs = λ h z. adds.pairs h z ∙ ap (λ (ps : List Pair). breaks h (map pair_of ps ++ f.pairs)) no_pairs ∙ is.pairs (is_broken (put_for h));
+  }
 
-never_gathered : (a : Around) (ms : List found.Summary) (empty : Gathered) (m n : Met) (b : Statements) → a.name ≡ None → a.own.items ≡ [] → m.found ≡ Some empty → n.found ≡ None
-    → Gains a ms m n (straight_visits (assigning (found_here ms)) (Some []) b) → ⊥
-never_gathered a ms empty m n b name own before after g =
-    subst (λ (o : Option Gathered). AddsSome a.known o None (gathered (found_here ms) (Some []) b).names (gathered (found_here ms) (Some []) b).pairs) before
-    (subst (λ (o : Option Gathered). AddsSome a.known m.found o (gathered (found_here ms) (Some []) b).names (gathered (found_here ms) (Some []) b).pairs) after (g.found name own))
+  -- what came of nothing
+  gathered_of : (empty r : Gathered) (m n : Option Gathered) (f : Found) → empty.names.keys ≡ [] → empty.pairs.keys ≡ [] → m ≡ Some empty → ((g : Gathered) → n ≡ Some g → r ≡ g)
+      → AddsSome k m n f.names f.pairs → FoundAlike f (found (found_here ms) false (Some []) b) → IsGathered k.params.keys r ms b
+  gathered_of empty r m n f none no_pairs before after adds is = by n after (subst (λ (o : Option Gathered). AddsSome k o n f.names f.pairs) before adds)
+    where
+      by : (o : Option Gathered) → ((g : Gathered) → o ≡ Some g → r ≡ g) → AddsSome k (Some empty) o f.names f.pairs → IsGathered k.params.keys r ms b
+      by None g a = absurd a
+      by (Some x) g a = subst (λ (z : Gathered). IsGathered k.params.keys z ms b) (sym (g x refl)) (is_gathered empty x f none no_pairs a is)
+
+  -- whatever labels are missing
+  pub taken_generally : (empty r : Gathered) (m n : Option Gathered) → empty.names.keys ≡ [] → empty.pairs.keys ≡ [] → m ≡ Some empty → ((g : Gathered) → n ≡ Some g → r ≡ g)
+      → AddsSome k m n (gathered_generally (found_here ms) (Some []) b).names (gathered_generally (found_here ms) (Some []) b).pairs → IsGathered k.params.keys r ms b
+  taken_generally empty r m n none no_pairs before after adds =
+      gathered_of empty r m n (gathered_generally (found_here ms) (Some []) b) none no_pairs before after adds (general_is (found_here ms) b)
 
 pub taken_gathered : (a : Around) (ms : List found.Summary) (empty r : Gathered) (m n : Met) (b : Statements) → a.name ≡ None → a.own.items ≡ [] → due_in false None b ≡ [] → empty.names.keys ≡ [] → empty.pairs.keys ≡ [] → m.found ≡ Some empty
     → ((g : Gathered) → n.found ≡ Some g → r ≡ g) → Gains a ms m n (straight_visits (assigning (found_here ms)) (Some []) b) → IsGathered a.known.params.keys r ms b
-taken_gathered a ms empty r m n b name own due none no_pairs before after g = by n.found refl
-  where
-    by : (o : Option Gathered) → n.found ≡ o → IsGathered a.known.params.keys r ms b
-    by None e = absurd (never_gathered a ms empty m n b name own before e g)
-    by (Some x) e = subst (λ (z : Gathered). IsGathered a.known.params.keys z ms b) (sym (after x e)) (is_gathered a ms empty x m n b name own due none no_pairs before e g)
+taken_gathered a ms empty r m n b name own due none no_pairs before after g =
+    gathered_of a.known ms b empty r m.found n.found (gathered (found_here ms) (Some []) b) none no_pairs before after (g.found name own) (gathered_is (found_here ms) b due)
 
 -- ---- one more
-
-pub one_due : {X Y Z : Type 0} (f : Y → List Z) (h : X → Y) (xs : List X) (i : ℕ) (x : X) → x ≡ get_or xs i x → i < length xs → flat_map f (map h xs) ≡ [] → f (h x) ≡ []
-one_due f h [] i x e l d = absurd (omega (arith, l))
-one_due f h (y ∷ ys) zero x e l d = ap (λ z. f (h z)) e ∙ (neither_one (f (h y)) (flat_map f (map h ys)) d).0
-one_due f h (y ∷ ys) (suc i) x e l d = one_due f h ys i x e (omega (arith, l)) (neither_one (f (h y)) (flat_map f (map h ys)) d).1
 
 pub newest_first : {X Y : Type 0} (h : X → Y) (xs : List X) (i : ℕ) (x : X) → x ≡ get_or xs i x → i < length xs → reverse (map h (take (i + 1) xs)) ≡ h x ∷ reverse (map h (take i xs))
 newest_first {X = X} h xs i x e l =

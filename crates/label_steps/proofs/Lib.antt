@@ -3,6 +3,8 @@ pub mod DueLaws
 pub mod WalkLaws
 pub mod StraightLaws
 pub mod GatherLaws
+pub mod PathShapes
+pub mod GeneralLaws
 pub mod PathLaws
 pub mod SideLaws
 pub mod PutLaws
@@ -11,6 +13,7 @@ pub mod AroundLaws
 pub mod ParamLaws
 pub mod AddsLaws
 pub mod WalksLaws
+pub mod WaysLaws
 pub mod TwiceLaws
 pub mod LearnLaws
 pub mod AgreeLaws

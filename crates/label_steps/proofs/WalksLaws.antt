@@ -357,13 +357,13 @@ module _ (a : Around) (ms : List Summary) (E : Effects) where
 
 -- ---- branches
 
-joined_first : (p q r : paths.Path) → Alike (paths.joined (paths.joined p q) r) (paths.joined p (paths.joined q r))
+pub joined_first : (p q r : paths.Path) → Alike (paths.joined (paths.joined p q) r) (paths.joined p (paths.joined q r))
 joined_first None q r = alike_itself (paths.joined q r)
 joined_first (Some xs) None r = alike_itself (paths.joined (Some xs) r)
 joined_first (Some xs) (Some ys) None = alike_itself (Some (xs ++ ys))
 joined_first (Some xs) (Some ys) (Some zs) = λ f. ap (list_any f) (append_assoc xs ys zs)
 
-joined_end : (p : paths.Path) → paths.joined p None ≡ p
+pub joined_end : (p : paths.Path) → paths.joined p None ≡ p
 joined_end None = refl
 joined_end (Some xs) = refl
 

@@ -12,4 +12,5 @@ pub mod KnownIn
 pub mod AroundIn
 pub mod GatheredIn
 pub mod WalksIn
+pub mod WaysIn
 pub mod MacrosIn

@@ -222,6 +222,13 @@ fn with_body(found: Option<Refusal>, before: Before, stmts: &[Stmt]) -> Option<R
     past_body(walk, stmts).first
 }
 
+/// The first label that is missing in a macro's body.
+pub fn due_in_macro(stmts: &[Stmt]) -> Option<Refusal>
+    ensures { (ts : List Tree) → result ≡ first (due_in false None (statements_at ts stmts.now)) }
+{
+    with_body(None, Before::Nothing, stmts)
+}
+
 // The same of macros.
 fn with_macros(found: Option<Refusal>, list: &[Macro]) -> Option<Refusal>
     ensures { (ts : List Tree) → result ≡ joined found (first (flat_map (λ d. due_in false None d.body) (map (macro_at ts) list.now))) }

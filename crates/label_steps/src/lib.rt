@@ -4,6 +4,7 @@
 pub mod around;
 pub mod due;
 pub mod gathered;
+pub mod general;
 pub mod known;
 pub mod labels;
 pub mod laws;
@@ -16,6 +17,7 @@ pub mod steps;
 pub mod truths;
 pub mod twice;
 pub mod walk;
+pub mod ways;
 
 pub use due::due_refusal;
 pub use labels::label_refusal;

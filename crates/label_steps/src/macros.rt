@@ -1,7 +1,7 @@
 //! What is known of the macros of an algorithm.
 
 ghost use Rattle.std.specs.Prelude.{◌≡◌, ◌≤◌, ◌∷◌, ◌||◌, List, [], false, Some, None, length, map, reverse, IfOk, OnOk};
-ghost use Rattle.std.specs.List.{list_any, flat_map};
+ghost use Rattle.std.specs.List.{list_any};
 ghost use Rattle.tla_token.specs.Signs.{is_among};
 ghost use Rattle.tla_tree.specs.Nesting.{greatest};
 ghost use Rattle.tla_tree.specs.Tree.{Word};
@@ -13,12 +13,14 @@ ghost use Rattle.label_steps.specs.declared.gathered.Gathered.{Gathered as PureG
 ghost use Rattle.label_steps.specs.MissingLabels.{due_in};
 
 use crate::around::Around;
+use crate::due::due_in_macro;
 use crate::gathered::Gathered;
 use crate::known::Known;
 use crate::params::{Params, name_of};
 use crate::path::Path;
 use crate::put::Summary;
 use crate::walk::Met;
+use crate::ways::Ways;
 use algorithm_limits::table::Table;
 use indexmap::IndexSet;
 use pcal_tree::algorithm::{Macro, Stmt};
@@ -58,8 +60,8 @@ fn all_params(alloc: Global, macros: &[Macro]) -> Result<IndexSet<Name>, AllocEr
 }
 
 impl Around {
-    // What is gathered of a macro's body.
-    fn gathered(&self, alloc: Global, pool: &Pool, stmts: &[Stmt]) -> Result<Gathered, AllocError>
+    // What is gathered of a macro's body in which no label is missing.
+    fn straight(&self, alloc: Global, pool: &Pool, stmts: &[Stmt]) -> Result<Gathered, AllocError>
         requires { past_statements stmts.now ≤ length pool.now }
         ensures { IfOk result (λ r. (ms : List Found) → AreMacros self.now.known ms → self.now.name ≡ None → self.now.own.items ≡ [] → due_in false None (statements_at pool.now stmts.now) ≡ [] → IsGathered self.now.known.params.keys r ms (statements_at pool.now stmts.now)) }
     {
@@ -73,10 +75,32 @@ impl Around {
         Ok(taken(alloc, found))
     }
 
+    // What is gathered of a macro's body along all paths.
+    fn general(&self, alloc: Global, pool: &Pool, stmts: &[Stmt]) -> Result<Gathered, AllocError>
+        requires { past_statements stmts.now ≤ length pool.now }
+        ensures { IfOk result (λ r. (ms : List Found) → AreMacros self.now.known ms → self.now.name ≡ None → self.now.own.items ≡ [] → IsGathered self.now.known.params.keys r ms (statements_at pool.now stmts.now)) }
+    {
+        let mut ways = Ways::new(alloc);
+        let mut found = Some(Gathered::new(alloc));
+        self.along(alloc, pool, &mut ways, &mut found, stmts)?;
+        Ok(taken(alloc, found))
+    }
+
+    // What is gathered of a macro's body.
+    fn gathered(&self, alloc: Global, pool: &Pool, stmts: &[Stmt]) -> Result<Gathered, AllocError>
+        requires { past_statements stmts.now ≤ length pool.now }
+        ensures { IfOk result (λ r. (ms : List Found) → AreMacros self.now.known ms → self.now.name ≡ None → self.now.own.items ≡ [] → IsGathered self.now.known.params.keys r ms (statements_at pool.now stmts.now)) }
+    {
+        match due_in_macro(stmts) {
+            None => self.straight(alloc, pool, stmts),
+            Some(_) => self.general(alloc, pool, stmts),
+        }
+    }
+
     // A macro's summary.
     fn summary(&self, alloc: Global, pool: &Pool, one: &Macro) -> Result<Summary, AllocError>
         requires { past_macro one.now ≤ length pool.now }
-        ensures { IfOk result (λ r. (ms : List Found) → AreMacros self.now.known ms → self.now.name ≡ None → self.now.own.items ≡ [] → AreInside self.now.known.params.keys one.now.params.items → due_in false None (statements_at pool.now one.now.body.items) ≡ [] → IsSummary self.now.known.params.keys r (summary_after ms (macro_at pool.now one.now))) }
+        ensures { IfOk result (λ r. (ms : List Found) → AreMacros self.now.known ms → self.now.name ≡ None → self.now.own.items ≡ [] → AreInside self.now.known.params.keys one.now.params.items → IsSummary self.now.known.params.keys r (summary_after ms (macro_at pool.now one.now))) }
     {
         let Gathered { names, pairs } = self.gathered(alloc, pool, &one.body)?;
         Ok(Summary {
@@ -90,7 +114,7 @@ impl Around {
     fn learn(&mut self, alloc: Global, pool: &Pool, one: &Macro) -> Result<(), AllocError>
         requires { past_macro one.now ≤ length pool.now }
         ensures same { OnOk result (StaysAround self.old self.new) }
-        ensures known { OnOk result ((ms : List Found) → AreMacros self.old.known ms → self.old.name ≡ None → self.old.own.items ≡ [] → AreInside self.old.known.params.keys one.now.params.items → due_in false None (statements_at pool.now one.now.body.items) ≡ [] → AreMacros self.new.known (summary_after ms (macro_at pool.now one.now) ∷ ms)) }
+        ensures known { OnOk result ((ms : List Found) → AreMacros self.old.known ms → self.old.name ≡ None → self.old.own.items ≡ [] → AreInside self.old.known.params.keys one.now.params.items → AreMacros self.new.known (summary_after ms (macro_at pool.now one.now) ∷ ms)) }
     {
         let summary = self.summary(alloc, pool, one)?;
         self.known.summaries.push(summary)?;
@@ -100,14 +124,14 @@ impl Around {
     }
 }
 
-/// What is known of the macros of an algorithm where no label is missing in them.
+/// What is known of the macros of an algorithm.
 ///
 /// # Errors
 ///
 /// Only for want of memory.
 pub fn known_macros(alloc: Global, pool: &Pool, macros: &[Macro]) -> Result<Known, AllocError>
     requires { greatest (map past_macro macros.now) ≤ length pool.now }
-    ensures { IfOk result (λ r. flat_map (λ d. due_in false None d.body) (map (macro_at pool.now) macros.now) ≡ [] → AreMacros r (summaries (reverse (map (macro_at pool.now) macros.now)))) }
+    ensures { IfOk result (λ r. AreMacros r (summaries (reverse (map (macro_at pool.now) macros.now)))) }
 {
     let known = Known {
         params: all_params(alloc, macros)?,

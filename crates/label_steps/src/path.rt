@@ -44,6 +44,47 @@ impl Path {
         }
     }
 
+    /// Where no path leads.
+    pub fn none(alloc: Global) -> Path
+        ensures { path_of result ≡ None }
+    {
+        let mut path = Path::new(alloc);
+        path.reached = false;
+        path
+    }
+
+    /// The same once more.
+    ///
+    /// # Errors
+    ///
+    /// Only for want of memory.
+    pub fn copied(&self, alloc: Global) -> Result<Path, AllocError>
+        ensures { IfOk result (λ r. Alike (path_of self.now) (path_of r)) }
+    {
+        let mut copy = Path::new(alloc);
+        copy.add(self.names.as_slice())?;
+        copy.reached = self.reached;
+        Ok(copy)
+    }
+
+    /// Another one leads there too.
+    ///
+    /// # Errors
+    ///
+    /// Only for want of memory.
+    pub fn join(&mut self, other: Path) -> Result<(), AllocError>
+        ensures { OnOk result (Alike (joined (path_of self.old) (path_of other)) (path_of self.new)) }
+    {
+        if !other.reached {
+            return Ok(());
+        }
+        if !self.reached {
+            *self = other;
+            return Ok(());
+        }
+        self.add(other.names.as_slice())
+    }
+
     /// Whether it has assigned one of these names.
     #[tactic(auto, using(crate::proofs::PathLaws::met_more, crate::proofs::PathLaws::met_all))]
     pub fn has_one(&self, names: &[Name]) -> bool

@@ -38,8 +38,8 @@ pub struct Met {
     pub found: Option<Gathered>,
 }
 
-// Whether it is a label.
-fn is_label(stmt: &Stmt) -> bool
+/// Whether it is a label.
+pub fn is_label(stmt: &Stmt) -> bool
     ensures { (ts : List Tree) → IsKind result ts stmt.now }
 {
     match stmt {

@@ -9,7 +9,7 @@ use Rattle.pcal_tree.specs.laws.MacroSummaries.{summaries}
 use Rattle.label_steps.specs.KnownIn.{AreMacros}
 use Rattle.label_steps.specs.MacrosIn.{params_of}
 use Rattle.label_steps.specs.MissingLabels.{due_in}
-use Rattle.label_steps.proofs.LearnLaws.{one_inside, one_due, newest_first}
+use Rattle.label_steps.proofs.LearnLaws.{one_inside, newest_first}
 use Rattle.label_steps.proofs.macros.known_macros.Goals as goal
 
 pub learn-requires : goal.learn-requires
@@ -21,11 +21,10 @@ loop-i-preserved c = record {
   name = c.in_ok-learn.ensures.same.name ∙ c.loop-i.invariant.name;
   own = ap (λ v. v.items) c.in_ok-learn.ensures.same.own ∙ c.loop-i.invariant.own;
   params = λ x. ap (λ s. is_among s.keys x) c.in_ok-learn.ensures.same.params ∙ c.loop-i.invariant.params x;
-  known = λ due.
+  known =
       let ts = c.args.pool.now in
       let one = c.index-macros-i.result in
       subst (λ (ds : List tree.Macro). AreMacros c.learn.new.self.known (summaries ds)) (sym (newest_first (macro_at ts) c.args.macros.now c.loop-i.i one c.index-macros-i.is c.loop-i-test.true))
-      (c.in_ok-learn.ensures.known (summaries (reverse (map (macro_at ts) (take c.loop-i.i c.args.macros.now)))) (c.loop-i.invariant.known due) c.loop-i.invariant.name c.loop-i.invariant.own
-      (λ x e. one_inside (λ (d : Macro). is_among (params_of d.params.items) x) c.args.macros.now c.loop-i.i one c.index-macros-i.is c.loop-i-test.true (sym (c.loop-i.invariant.params x) ∙ e))
-      (one_due (λ (d : tree.Macro). due_in false None d.body) (macro_at ts) c.args.macros.now c.loop-i.i one c.index-macros-i.is c.loop-i-test.true due));
+      (c.in_ok-learn.ensures.known (summaries (reverse (map (macro_at ts) (take c.loop-i.i c.args.macros.now)))) c.loop-i.invariant.known c.loop-i.invariant.name c.loop-i.invariant.own
+      (λ x e. one_inside (λ (d : Macro). is_among (params_of d.params.items) x) c.args.macros.now c.loop-i.i one c.index-macros-i.is c.loop-i-test.true (sym (c.loop-i.invariant.params x) ∙ e)));
 }

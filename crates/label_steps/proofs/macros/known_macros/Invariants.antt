@@ -17,5 +17,5 @@ invariant-loop-i l = record {
   name : l.around.name ≡ None;
   own : l.around.own.items ≡ [];
   params : (x : Word) → is_among l.around.known.params.keys x ≡ list_any (λ (d : Macro). is_among (params_of d.params.items) x) l.macros;
-  known : flat_map (λ (d : tree.Macro). due_in false None d.body) (map (macro_at l.pool) l.macros) ≡ [] → AreMacros l.around.known (summaries (reverse (map (macro_at l.pool) (take l.i l.macros))));
+  known : AreMacros l.around.known (summaries (reverse (map (macro_at l.pool) (take l.i l.macros))));
 }

@@ -9,7 +9,7 @@ use Rattle.pcal_tree.specs.OffencesSteps.{call_effect}
 use Rattle.pcal_tree.specs.laws.MacroSummaries.{summaries}
 use Rattle.label_steps.specs.KnownIn.{AreMacros}
 use Rattle.label_steps.specs.MissingLabels.{due_in}
-use Rattle.label_steps.proofs.AgreeLaws.{due_steps, no_due, no_due_macros, twice_steps}
+use Rattle.label_steps.proofs.AgreeLaws.{due_steps, twice_steps}
 use Rattle.label_steps.proofs.steps.steps_refusal.Goals as goal
 
 pub returns-in-Some : goal.returns-in-Some
@@ -24,5 +24,4 @@ returns-in_ok-known-in-None c =
     IfOk-weaker c.twice_refusal.result _ _ (λ r h.
     twice_steps a c.due_refusal-due.result r (c.due_refusal-due.ensures ts) c.in-None.is
     (h (summaries (reverse a.macros))
-    (subst (λ (ds : List Macro). flat_map (λ (d : tree.Macro). due_in false None d.body) (map (macro_at ts) ds) ≡ [] → AreMacros c.in_ok-known-in-None.known (summaries (reverse (map (macro_at ts) ds)))) c.deref.ensures.value
-    c.in_ok-known-in-None.ensures (no_due_macros a (no_due a c.due_refusal-due.result (c.due_refusal-due.ensures ts) c.in-None.is))))) c.twice_refusal.ensures
+    (subst (λ (ds : List Macro). AreMacros c.in_ok-known-in-None.known (summaries (reverse (map (macro_at ts) ds)))) c.deref.ensures.value c.in_ok-known-in-None.ensures))) c.twice_refusal.ensures

@@ -11,10 +11,10 @@ use Rattle.label_steps.proofs.KnownLaws.{knows_more}
 use Rattle.label_steps.proofs.around.Around.learn.Goals as goal
 
 pub returns-clause-known : goal.returns-clause-known
-returns-clause-known c = λ ms k name own inside due.
+returns-clause-known c = λ ms k name own inside.
     let before = c.args.self.now.known in
     let after : Known = record { params = before.params; numbers = c.set.new.self; summaries = c.push.new.self } in
     let all = ap (λ (ss : List Summary). length ss) c.in_ok-push.ensures.items in
     let more = length-append before.summaries.items (c.in_ok-summary.summary ∷ []) in
-    knows_more before after ms (summary_after ms (macro_at c.args.pool.now c.args.one.now)) c.in_ok-summary.summary c.len-number.result k (c.in_ok-summary.ensures ms k name own inside due) refl c.in_ok-push.ensures.items
+    knows_more before after ms (summary_after ms (macro_at c.args.pool.now c.args.one.now)) c.in_ok-summary.summary c.len-number.result k (c.in_ok-summary.ensures ms k name own inside) refl c.in_ok-push.ensures.items
     (omega (arith, c.len-number.ensures, all, more)) (c.in_ok-set.ensures ∙ ap (λ (x : Word). with_number before.numbers x c.len-number.result) c.in_ok-name_of.ensures)
