@@ -1,16 +1,13 @@
 -- Whether labels are added at all.
-use Rattle.std.proofs.Common.{◌≡◌, Vec, Global, reverse, ◌-◌, ◌≤◌, nat_eq, List, [], ◌∷◌, map, Bool, true, false, ◌||◌, ◌&&◌, cond, Option, Some, None, refl, sym, ap, ◌∙◌, subst, codes, arith}
+use Rattle.std.proofs.Common.{◌≡◌, reverse, ◌-◌, ◌≤◌, nat_eq, List, [], ◌∷◌, map, Bool, true, false, ◌||◌, ◌&&◌, cond, Option, Some, None, refl, sym, ap, ◌∙◌, subst, codes, arith}
 use Rattle.std.proofs.lemmas.Bool.{eqb-true, false_from_ne_true}
 use Rattle.tla_token.specs.declared.place.Place.{Place}
 use Rattle.tla_tree.specs.Tree.{Tree, Name}
 use Rattle.pcal_tree.specs.declared.algorithm.Algorithm as code
-use Rattle.std.specs.Prelude.{Result, Ok, Err, IfOk}
-use Rattle.std.specs.List.{flat_map}
 use Rattle.pcal_tree.specs.declared.algorithm.Macro as code_macro
 use Rattle.pcal_tree.specs.laws.MacroSummaries.{summaries}
 use Rattle.label_steps.specs.declared.known.Known.{Known}
 use Rattle.label_steps.specs.KnownIn.{AreMacros}
-use Rattle.label_steps.specs.MissingLabels.{due_in}
 use Rattle.pcal_tree.specs.Algorithm as tree
 use Rattle.pcal_tree.specs.InMemory.{macro_at, main_at, algorithm_at}
 use Rattle.pcal_tree.specs.Labelled.{labelled, with_labels, is_alone, typed_labels}

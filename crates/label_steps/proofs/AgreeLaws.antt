@@ -1,5 +1,5 @@
 -- What is assigned twice along straight paths rests on what calls assign, and not on how that is computed.
-use Rattle.std.proofs.Common.{◌≡◌, List, [], ◌∷◌, ◌++◌, Bool, false, ◌||◌, Option, Some, None, reverse, refl, sym, ap, ◌∙◌}
+use Rattle.std.proofs.Common.{◌≡◌, List, [], ◌∷◌, ◌++◌, Bool, ◌||◌, Option, Some, None, reverse, refl, sym, ap, ◌∙◌}
 use Rattle.std.specs.List.{flat_map}
 use Rattle.std.specs.Option.{option_or}
 use Rattle.std.proofs.lemmas.Grind.{flat_map-append}
@@ -7,7 +7,7 @@ use Rattle.tla_token.specs.declared.place.Place.{Place}
 use Rattle.tla_token.specs.declared.rule.Rule.TheVariants.{AssignTwice}
 use Rattle.tla_token.specs.declared.rule.Refusal.{Refusal}
 use Rattle.tla_tree.specs.Tree.{Word, Trees}
-use Rattle.pcal_tree.specs.Algorithm.{Name, Statement, assign, await, print, assert, skip, branch, either, with, while, goto, macro, call, return, Statements, done, then, mark, Branches, no_branches, or, Macro, Procedure, Process, Main, alone, processes, Algorithm}
+use Rattle.pcal_tree.specs.Algorithm.{Name, Statement, assign, await, print, assert, skip, branch, either, with, while, goto, macro, call, return, Statements, done, then, mark, Branches, no_branches, or, Procedure, Process, Main, alone, processes, Algorithm}
 use Rattle.pcal_tree.specs.Offences.{offence_if, first}
 use Rattle.pcal_tree.specs.OffencesSteps.{inside, Visit, effect_with, call_effect, effects_in, procedure_effects, outer_effects}
 use Rattle.pcal_tree.specs.Paths.{Effect, Effects, Path}
@@ -19,10 +19,10 @@ use Rattle.pcal_tree.proofs.SetLaws.{Agree}
 use Rattle.pcal_tree.proofs.SummaryLaws.{Agreeing, calls_agree}
 use Rattle.label_jumps.specs.Parted.{missing_in}
 use Rattle.label_steps.specs.AssignedTwice.{twice_at, assigned_twice}
-use Rattle.label_steps.specs.MissingLabels.{due_in, due_in_body, due_in_main, missing_labels}
+use Rattle.label_steps.specs.MissingLabels.{missing_labels}
 use Rattle.label_steps.specs.StraightPaths.{straight_one, straight, straight_some, straight_inside, straight_visits, straight_in_some, straight_twice, straight_in_main, straight_offences}
 use Rattle.label_steps.proofs.DueLaws.{missing_first}
-use Rattle.label_steps.proofs.StraightLaws.{neither_one, twice_straight}
+use Rattle.label_steps.proofs.StraightLaws.{twice_straight}
 use Rattle.label_steps.proofs.WalksLaws.{alike_joined, assigned_alike, has_alike}
 
 module _ (E F : Effects) (a : AgreeAll E F) where

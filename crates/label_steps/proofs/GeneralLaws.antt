@@ -9,7 +9,7 @@ use Rattle.pcal_tree.specs.laws.MacroSummaries.{Found, found}
 use Rattle.pcal_tree.proofs.EffectLaws.{Alike}
 use Rattle.label_steps.specs.Gathered.{gathered_generally, names_there, FoundAlike}
 use Rattle.label_steps.proofs.GatherLaws.{met_all}
-use Rattle.label_steps.proofs.PathShapes.{Seen, seen, one_of, past, seen_alike, seen_joined, Shape, shape_alike, list_shape}
+use Rattle.label_steps.proofs.PathShapes.{Seen, seen, one_of, past, seen_alike, seen_joined, Shape, list_shape}
 
 -- what is found in a body is what is met along its paths, whatever labels are missing
 pub general_is : (S : Statement → Found) (b : Statements) → FoundAlike (gathered_generally S (Some []) b) (found S false (Some []) b)
@@ -76,7 +76,3 @@ rounds_from_some E b xs = some_rounds (λ q. after E b false q) (list_shape E b 
 pub rounds_from_none : (E : Effects) (b : Statements)
     → Alike (rounds joined (λ q. after E b false q) None) (cond (is_reached (after E b false None)) (after E b false (Some [])) None)
 rounds_from_none E b = none_rounds (λ q. after E b false q) (list_shape E b false)
-
--- what comes of paths that have assigned the same
-pub after_alike : (E : Effects) (b : Statements) (l : Bool) (p q : Path) → Alike p q → Alike (after E b l p) (after E b l q)
-after_alike E b l p q k = shape_alike (λ p. after E b l p) (list_shape E b l) p q k

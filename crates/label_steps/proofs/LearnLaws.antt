@@ -1,6 +1,6 @@
 -- What is known of macros, one after another.
 use Rattle.std.proofs.Common.{◌≡◌, ℕ, zero, suc, arith, ◌+◌, ◌<◌, Bool, true, false, ◌||◌, List, [], ◌∷◌, ◌++◌, length, take, get_or, map, reverse, Option, Some, None, refl, sym, ap, ◌∙◌, subst, cond, bytes_eq}
-use Rattle.std.specs.List.{list_any, flat_map}
+use Rattle.std.specs.List.{list_any}
 use Rattle.std.proofs.lemmas.Bool.{or_parts}
 use Rattle.std.proofs.lemmas.List.{take_more, map-append}
 use Rattle.std.proofs.lemmas.List.Folds.{list_any-append}
@@ -31,7 +31,6 @@ use Rattle.label_steps.specs.WalksIn.{SameVariables, Gains}
 use Rattle.label_steps.proofs.AddsLaws.{any_inserted, plain_names}
 use Rattle.label_steps.proofs.GatherLaws.{gathered_is}
 use Rattle.label_steps.proofs.GeneralLaws.{general_is}
-use Rattle.label_steps.proofs.StraightLaws.{neither_one}
 use Rattle.label_steps.proofs.TwiceLaws.{outside}
 
 -- ---- parameters

@@ -123,16 +123,6 @@ pub record Shape (g : Path → Path) : Type 0 where
   pub fresh : Path
   pub is : (f : Word → Bool) (p : Path) → seen f (g p) ≡ one_of (past (seen f kept) (seen f p)) (seen f fresh)
 
-alike_seen : (p q : Path) → Alike p q → (f : Word → Bool) → seen f p ≡ seen f q
-alike_seen None None k f = refl
-alike_seen (Some xs) (Some ys) k f = ap Some (k f)
-alike_seen None (Some ys) k f = absurd k
-alike_seen (Some xs) None k f = absurd k
-
-pub shape_alike : (g : Path → Path) → Shape g → (p q : Path) → Alike p q → Alike (g p) (g q)
-shape_alike g m p q k =
-    seen_alike (g p) (g q) (λ f. m.is f p ∙ ap (λ (u : Seen). one_of (past (seen f m.kept) u) (seen f m.fresh)) (alike_seen p q k f) ∙ sym (m.is f q))
-
 -- nothing but what comes of labels inside
 cut : (q : Path) → Shape (λ p. q)
 cut q = record { kept = None; fresh = q; is = λ f p. refl }

@@ -1,5 +1,5 @@
 -- What is met along all paths, one statement after another, whatever labels are missing.
-use Rattle.std.proofs.Common.{◌≡◌, ℕ, ◌+◌, ◌<◌, ◌≤◌, List, [], ◌∷◌, ◌++◌, Bool, true, false, ◌||◌, Option, Some, None, Vec, Global, refl, sym, ap, ◌∙◌, subst, cond, append-nil}
+use Rattle.std.proofs.Common.{◌≡◌, ℕ, List, [], ◌∷◌, ◌++◌, Bool, true, false, Option, Some, None, Vec, Global, refl, sym, ap, ◌∙◌, subst, cond, append-nil}
 use Rattle.std.specs.List.{list_any, flat_map}
 use Rattle.std.specs.Option.{option_map}
 use Rattle.std.proofs.lemmas.Grind.{flat_map-append}
@@ -12,7 +12,7 @@ use Rattle.pcal_tree.specs.declared.algorithm.Bind.{Bind}
 use Rattle.pcal_tree.specs.declared.algorithm.Simple as declared_simple
 use Rattle.pcal_tree.specs.declared.algorithm.Simple.TheVariants as simple
 use Rattle.pcal_tree.specs.declared.algorithm.Stmt.{Stmt}
-use Rattle.pcal_tree.specs.declared.algorithm.Stmt.TheVariants.{Simple, If, Either, With, While}
+use Rattle.pcal_tree.specs.declared.algorithm.Stmt.TheVariants.{If, Either, With, While}
 use Rattle.pcal_tree.specs.Algorithm.{Span, Statement, branch, either, with, while, Statements, then, mark, done, Branches, no_branches, or}
 use Rattle.pcal_tree.specs.InMemory.{span_of, simple_at, binds_at, Before as InList, stmt_at, statements_at, branches_at}
 use Rattle.pcal_tree.specs.OffencesSteps.{holds_one, inside, due_after, Visit, effect_with, visits_inside, visits, visits_of_some}
@@ -20,7 +20,7 @@ use Rattle.pcal_tree.specs.Paths as paths
 use Rattle.pcal_tree.specs.Paths.{Effects, rounds, after_one, after, after_some, is_reached}
 use Rattle.pcal_tree.specs.Run.{Partner, no_partner, partner_of}
 use Rattle.pcal_tree.specs.laws.MacroSummaries.{Summary, Pair, Found, none_found, found_on, found_here, is_broken}
-use Rattle.pcal_tree.proofs.InMemoryEach.{simple_in_list_at, if_at, either_at, with_at, while_at}
+use Rattle.pcal_tree.proofs.InMemoryEach.{if_at, either_at, with_at, while_at}
 use Rattle.pcal_tree.proofs.EffectLaws.{Alike}
 use Rattle.pcal_tree.proofs.SetLaws.{Same}
 use Rattle.pcal_tree.proofs.TargetLaws.{put_for}
@@ -35,9 +35,9 @@ use Rattle.label_steps.specs.Gathered.{assigning, names_met, pairs_met, names_th
 use Rattle.label_steps.specs.GatheredIn.{AddsSome, names_on, turns_on}
 use Rattle.label_steps.specs.KnownIn.{Assigns}
 use Rattle.label_steps.specs.PathsIn.{path_of}
-use Rattle.label_steps.specs.WaysIn.{rounds_by, looped, Leads, LeadsBoth, AreWays, standing, visits_one, AddsVisits, Gathers, Goes, GoesOne, GoesAll, GoesSome}
+use Rattle.label_steps.specs.WaysIn.{rounds_by, looped, Leads, LeadsBoth, AreWays, standing, visits_one, AddsVisits, Gathers, GoesOne, GoesAll, GoesSome}
 use Rattle.label_steps.proofs.AddsLaws.{adds_some_none, adds_some_then, adds_some_as, outside_names, names_alike, pairs_alike}
-use Rattle.label_steps.proofs.GeneralLaws.{rounds_from_some, rounds_from_none, after_alike}
+use Rattle.label_steps.proofs.GeneralLaws.{rounds_from_some, rounds_from_none}
 use Rattle.label_steps.proofs.TwiceLaws.{outside}
 use Rattle.label_steps.proofs.WalksLaws.{alike_sym, alike_then, alike_itself, alike_joined, assigned_alike, joined_first, joined_end, same_span}
 

@@ -1,5 +1,5 @@
 -- Proves that what is known of macros is found.
-use Rattle.std.proofs.Common.{false, None, List, map, reverse, take, sym, ap, ◌∙◌, subst, arith}
+use Rattle.std.proofs.Common.{List, map, reverse, take, sym, ap, ◌∙◌, subst, arith}
 use Rattle.tla_token.specs.Signs.{is_among}
 use Rattle.tla_tree.proofs.PoolNumbers.{past_at}
 use Rattle.pcal_tree.specs.declared.algorithm.Macro.{Macro}
@@ -8,7 +8,6 @@ use Rattle.pcal_tree.specs.InMemory.{macro_at, past_macro}
 use Rattle.pcal_tree.specs.laws.MacroSummaries.{summaries}
 use Rattle.label_steps.specs.KnownIn.{AreMacros}
 use Rattle.label_steps.specs.MacrosIn.{params_of}
-use Rattle.label_steps.specs.MissingLabels.{due_in}
 use Rattle.label_steps.proofs.LearnLaws.{one_inside, newest_first}
 use Rattle.label_steps.proofs.macros.known_macros.Goals as goal
 

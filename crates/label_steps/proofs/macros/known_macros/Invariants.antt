@@ -1,15 +1,13 @@
 -- What is kept: the macros that were passed are known.
-use Rattle.std.proofs.Common.{◌≡◌, false, None, [], map, reverse, take}
-use Rattle.std.specs.List.{list_any, flat_map}
+use Rattle.std.proofs.Common.{◌≡◌, None, [], map, reverse, take}
+use Rattle.std.specs.List.{list_any}
 use Rattle.tla_token.specs.Signs.{is_among}
 use Rattle.tla_tree.specs.Tree.{Word}
 use Rattle.pcal_tree.specs.declared.algorithm.Macro.{Macro}
-use Rattle.pcal_tree.specs.Algorithm as tree
 use Rattle.pcal_tree.specs.InMemory.{macro_at}
 use Rattle.pcal_tree.specs.laws.MacroSummaries.{summaries}
 use Rattle.label_steps.specs.KnownIn.{AreMacros}
 use Rattle.label_steps.specs.MacrosIn.{params_of}
-use Rattle.label_steps.specs.MissingLabels.{due_in}
 use Rattle.label_steps.proofs.macros.known_macros.Given as goal
 
 abbrev pub invariant-loop-i : goal.invariant-loop-i

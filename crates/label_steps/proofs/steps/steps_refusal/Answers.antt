@@ -1,14 +1,11 @@
 -- Proves that the first of what is missing or assigned twice is found.
-use Rattle.std.proofs.Common.{◌≡◌, false, None, [], List, map, reverse, sym, ◌∙◌, subst}
-use Rattle.std.specs.List.{flat_map}
+use Rattle.std.proofs.Common.{List, map, reverse, sym, ◌∙◌, subst}
 use Rattle.std.proofs.lemmas.Result.{IfOk-weaker}
 use Rattle.pcal_tree.specs.declared.algorithm.Macro.{Macro}
-use Rattle.pcal_tree.specs.Algorithm as tree
 use Rattle.pcal_tree.specs.InMemory.{macro_at, algorithm_at}
 use Rattle.pcal_tree.specs.OffencesSteps.{call_effect}
 use Rattle.pcal_tree.specs.laws.MacroSummaries.{summaries}
 use Rattle.label_steps.specs.KnownIn.{AreMacros}
-use Rattle.label_steps.specs.MissingLabels.{due_in}
 use Rattle.label_steps.proofs.AgreeLaws.{due_steps, twice_steps}
 use Rattle.label_steps.proofs.steps.steps_refusal.Goals as goal
 

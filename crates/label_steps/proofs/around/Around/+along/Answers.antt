@@ -1,12 +1,11 @@
 -- Proves that what a macro assigns on all its paths is gathered.
-use Rattle.std.proofs.Common.{◌+◌, true, false, None, List, Vec, Global, drop, refl, ap, ◌∙◌, subst, arith}
+use Rattle.std.proofs.Common.{◌+◌, true, false, List, Vec, Global, drop, refl, ap, ◌∙◌, subst, arith}
 use Rattle.std.proofs.lemmas.Result.{on_ok_weaker}
 use Rattle.tla_tree.proofs.PoolNumbers.{past_at}
 use Rattle.pcal_tree.specs.declared.algorithm.Stmt.{Stmt}
 use Rattle.pcal_tree.specs.Algorithm.{Branches}
 use Rattle.pcal_tree.specs.InMemory.{span_of, past_stmt, past_statements, past_branches, simple_at, stmt_at, statements_at, branches_at}
 use Rattle.pcal_tree.specs.laws.MacroSummaries.{found_here}
-use Rattle.pcal_tree.specs.OffencesSteps.{inside, visits}
 use Rattle.pcal_tree.proofs.InMemoryEach.{simple_in_list_at, past_either}
 use Rattle.pcal_tree.proofs.StatementHeights.{height, heights, branch_heights, either_height}
 use Rattle.label_steps.specs.Gathered.{assigning}
@@ -14,7 +13,7 @@ use Rattle.label_steps.specs.PathsIn.{path_of}
 use Rattle.label_steps.specs.WalksIn.{IsKind}
 use Rattle.label_steps.specs.WaysIn.{GoesAll}
 use Rattle.label_steps.proofs.WalksLaws.{next_one, next_none, next_branch, next_no_branch, not_label, alike_then}
-use Rattle.label_steps.proofs.WaysLaws.{adds_to_none, rounds_lead, SomeLeft, left_first, left_more, left_labelled, left_done, some_first, some_more, some_done, one_stands, if_stands, either_stands, with_stands, while_stands}
+use Rattle.label_steps.proofs.WaysLaws.{rounds_lead, SomeLeft, left_first, left_more, left_labelled, left_done, some_first, some_more, some_done, one_stands, if_stands, either_stands, with_stands, while_stands}
 use Rattle.label_steps.proofs.around.Around.+along.Goals as goal
 
 pub along-loop-i-init : goal.along-loop-i-init

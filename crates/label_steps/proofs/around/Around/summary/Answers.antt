@@ -1,9 +1,8 @@
 -- Proves that a macro's summary is found.
-use Rattle.std.proofs.Common.{◌≡◌, None, false, [], List, sym, ◌∙◌, subst}
+use Rattle.std.proofs.Common.{List, ◌∙◌, subst}
 use Rattle.pcal_tree.specs.declared.algorithm.Stmt.{Stmt}
 use Rattle.pcal_tree.specs.InMemory.{statements_at}
 use Rattle.label_steps.specs.MacrosIn.{IsGathered}
-use Rattle.label_steps.specs.MissingLabels.{due_in}
 use Rattle.label_steps.proofs.LearnLaws.{none_inside}
 use Rattle.label_steps.proofs.around.Around.summary.Goals as goal
 
