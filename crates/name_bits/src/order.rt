@@ -1,0 +1,57 @@
+//! Names in a fixed order, each with its number.
+
+ghost use Rattle.std.specs.Prelude.{◌≡◌, IfOk, bytes_eq, position};
+ghost use Rattle.name_bits.specs.NamesIn.{AllApart};
+
+use indexmap::IndexSet;
+use std::alloc::{AllocError, Global};
+use std::marker::Model;
+use tla_tree::Name;
+
+/// Names, each once. Contracts see the list of them.
+#[derive(Drop)]
+pub struct Order {
+    names: IndexSet<Name>,
+}
+
+impl Model for Order {
+    ghost use Rattle.std.specs.Prelude.{ℕ, List};
+    ghost use Rattle.std.specs.Coded.{coded_list, coded_ℕ};
+
+    ghost Value = { List (List ℕ) };
+
+    ghost coded = { coded_list (coded_list coded_ℕ) };
+
+    ghost view = { λ o. o.names.keys };
+}
+
+impl Order {
+    /// The order of this list, in which no name stands twice.
+    ///
+    /// # Errors
+    ///
+    /// Only for want of memory.
+    pub fn new(alloc: Global, names: &[Name]) -> Result<Order, AllocError>
+        ensures { IfOk result (λ o. AllApart names.now → o ≡ names.now) }
+    {
+        let mut set = IndexSet::new(alloc);
+        for name in names {
+            set.insert(name.copied()?)?;
+        }
+        Ok(Order { names: set })
+    }
+
+    /// The number of a name.
+    pub fn number(&self, name: &Name) -> Option<usize>
+        ensures { result ≡ position (λ v. bytes_eq v name.now) self.now }
+    {
+        self.names.get_index_of(name)
+    }
+
+    /// No name has two numbers.
+    pub fn apart(&self)
+        ensures { AllApart self.now }
+    {
+        let _count = self.names.len();
+    }
+}
