@@ -6,6 +6,7 @@ use Rattle.std.specs.Cmp.Lexicographic.{pointwise, bytes_decides}
 use Rattle.std.proofs.lemmas.Slice.Eq.{bytes_eq-Decides}
 use Rattle.std.proofs.lemmas.List.{take_more}
 use Rattle.std.proofs.lemmas.Map.Keys.{IsDistinct-head, IsDistinct-tail}
+use Rattle.std.proofs.lemmas.List.Folds.{list_any-append}
 use Rattle.indexmap.specs.IndexSet.{insert_key}
 use Rattle.tla_token.specs.Signs.{is_among}
 use Rattle.tla_tree.specs.Tree.{Word}
@@ -61,6 +62,27 @@ pub put_more : (xs ks : List Word) (i : ℕ) (x : Word) → AllApart xs → i < 
 put_more xs ks i x h l is e =
     ap (λ (b : Bool). if b then ks else ks ++ x ∷ []) (same_any x ks ∙ (λ j. is_among (e j) (is j)) ∙ new_name xs i x h l)
     ∙ (λ j. e j ++ is j ∷ []) ∙ sym (take_more xs i x l)
+
+known : (ks : List Word) (y x : Word) → is_among ks y ≡ true → is_among ks x ≡ (is_among ks x || (bytes_eq y x || false))
+known ks y x h = by (is_among ks x) (bytes_eq y x) refl refl
+  where
+    by : (a b : Bool) → is_among ks x ≡ a → bytes_eq y x ≡ b → a ≡ (a || (b || false))
+    by true b e k = refl
+    by false false e k = refl
+    by false true e k = sym e ∙ ap (is_among ks) (sym (same_names y x k)) ∙ h
+
+put_among : (ks : List Word) (y x : Word) → is_among (insert_key equal ks y) x ≡ (is_among ks x || (bytes_eq y x || false))
+put_among ks y x = by (list_any (equal y) ks) (sym (same_any y ks))
+  where
+    by : (b : Bool) → is_among ks y ≡ b → is_among (if b then ks else ks ++ y ∷ []) x ≡ (is_among ks x || (bytes_eq y x || false))
+    by true e = known ks y x e
+    by false e = list_any-append (λ v. bytes_eq v x) ks (y ∷ [])
+
+pub among_more : (xs ks : List Word) (i : ℕ) (y : Word) → i < length xs → y ≡ get_or xs i y → ((x : Word) → is_among ks x ≡ is_among (take i xs) x)
+    → (x : Word) → is_among (insert_key equal ks y) x ≡ is_among (take (i + 1) xs) x
+among_more xs ks i y l is h x =
+    put_among ks y x ∙ (λ j. h x j || (bytes_eq (is j) x || false)) ∙ sym (list_any-append (λ v. bytes_eq v x) (take i xs) (get_or xs i y ∷ []))
+    ∙ ap (λ (ys : List Word). is_among ys x) (sym (take_more xs i y l))
 
 -- ---- no name has two numbers
 

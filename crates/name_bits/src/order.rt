@@ -1,6 +1,8 @@
 //! Names in a fixed order, each with its number.
 
 ghost use Rattle.std.specs.Prelude.{◌≡◌, IfOk, bytes_eq, position};
+ghost use Rattle.tla_token.specs.Signs.{is_among};
+ghost use Rattle.tla_tree.specs.Tree.{Word};
 ghost use Rattle.name_bits.specs.NamesIn.{AllApart};
 
 use indexmap::IndexSet;
@@ -26,19 +28,28 @@ impl Model for Order {
 }
 
 impl Order {
-    /// The order of this list, in which no name stands twice.
+    /// The names of this list, in its order where none stands twice.
     ///
     /// # Errors
     ///
     /// Only for want of memory.
     pub fn new(alloc: Global, names: &[Name]) -> Result<Order, AllocError>
-        ensures { IfOk result (λ o. AllApart names.now → o ≡ names.now) }
+        ensures order { IfOk result (λ o. AllApart names.now → o ≡ names.now) }
+        ensures among { IfOk result (λ o. (x : Word) → is_among o x ≡ is_among names.now x) }
     {
         let mut set = IndexSet::new(alloc);
         for name in names {
             set.insert(name.copied()?)?;
         }
         Ok(Order { names: set })
+    }
+
+    /// Whether a name is in it.
+    #[tactic(auto, using(crate::proofs::OrderLaws::same_any))]
+    pub fn has(&self, name: &Name) -> bool
+        ensures { result ≡ is_among self.now name.now }
+    {
+        self.names.contains(name)
     }
 
     /// The number of a name.
