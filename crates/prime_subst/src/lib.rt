@@ -1,8 +1,8 @@
-//! Expressions with their variables primed, by their written names, and with those of a process as its own parts.
+//! Expressions with their variables primed; and with names as they are written, and what a process has for itself as its own.
 #![tactic(auto)]
 
-pub mod localise;
-pub mod prime;
+pub mod localising;
+pub mod priming;
 
-pub use localise::{Local, Own, localise};
-pub use prime::prime;
+pub use localising::{Local, Own, localise};
+pub use priming::prime;

@@ -2,12 +2,12 @@
 
 ghost use Rattle.std.specs.Prelude.{◌≡◌, ◌<◌, length, IfOk};
 ghost use Rattle.tla_token.specs.Signs.{is_among};
-ghost use Rattle.tla_tree.specs.Tree.{graft, name, node, no_trees};
+ghost use Rattle.tla_tree.specs.Tree.{Every, graft, name, node, no_trees};
 ghost use Rattle.tla_tree.specs.Pool.{at, Keeps};
 ghost use Rattle.tla_value.specs.Grafts.{owned};
 ghost use Rattle.name_bits.specs.NamesIn.{names_in};
 ghost use Rattle.written_names.specs.Units.{naming_of};
-ghost use Rattle.prime_subst.specs.Readers.{renames_of};
+ghost use Rattle.prime_subst.specs.Readers.{Lacks, renames_of};
 
 use name_bits::{Bits, Order};
 use std::alloc::{AllocError, Global};
@@ -41,12 +41,7 @@ pub struct Own<'a> {
 }
 
 // A name at a place.
-fn name_at(
-    alloc: Global,
-    pool: &mut Pool,
-    x: &Name,
-    place: Place,
-) -> Result<NodeId, AllocError>
+fn name_at(alloc: Global, pool: &mut Pool, x: &Name, place: Place) -> Result<NodeId, AllocError>
     ensures tree { IfOk result (λ r. at pool.new r ≡ node (name x.now) place no_trees) }
     ensures within { IfOk result (λ r. r < length pool.new) }
     ensures kept { Keeps pool.old pool.new }
@@ -111,7 +106,7 @@ impl<'a> Grafting for Own<'a> {
 }
 
 /// The expression of a routine with names as they are written, and each variable that a process has for itself as the part of
-/// it that is that process' own.
+/// it that is that process' own; the same one where it reads none of these.
 ///
 /// # Errors
 ///
@@ -127,6 +122,7 @@ pub fn localise(
     ensures tree { IfOk result (λ r. at pool.new r ≡ graft (owned own.now.this.now (is_among (names_in own.now.order.now own.now.own.now))) (graft (renames_of (is_among local.now.locals.now) ((naming_of local.now.naming.now).local local.now.unit)) (at pool.old e))) }
     ensures within { IfOk result (λ r. r < length pool.new) }
     ensures kept { Keeps pool.old pool.new }
+    ensures same { IfOk result (λ r. Every (Lacks (is_among local.now.locals.now)) (at pool.old e) → Every (Lacks (is_among (names_in own.now.order.now own.now.own.now))) (at pool.old e) → r ≡ e) }
 {
     let named = grafted(alloc, pool, e, local)?;
     grafted(alloc, pool, named, own)
