@@ -1,11 +1,11 @@
 -- Numbers in sets, by the bits of words.
-use Rattle.std.proofs.Common.{◌≡◌, ℕ, zero, suc, ◌+◌, ◌-◌, ◌*◌, ◌/◌, ◌%◌, ◌^◌, ◌<◌, ◌≤◌, Bool, true, false, ◌||◌, ◌&&◌, ◌==◌, List, length, get_or, set, min, max, refl, sym, ap, ◌∙◌, inl, inr, arith, w64, eq-eqb, ne_eqb, lt-ltb, true≢false}
+use Rattle.std.proofs.Common.{◌≡◌, ℕ, zero, suc, ◌+◌, ◌-◌, ◌*◌, ◌/◌, ◌%◌, ◌^◌, ◌<◌, ◌≤◌, Bool, true, false, ◌||◌, ◌&&◌, ◌==◌, List, length, get_or, set, min, max, refl, sym, ap, ◌∙◌, inl, inr, arith, w64, eq-eqb, ne_eqb, lt-ltb, le-ltb, replicate, true≢false}
 use Rattle.std.specs.Prelude.{bit_and, bit_or, not, nat_lt}
 use Rattle.std.specs.Int.{bit_at, bit_not, trailing_zeros}
 use Rattle.std.proofs.lemmas.Bool.{cases_lt, cases_eq}
-use Rattle.std.proofs.lemmas.List.{get_or_past, get_or-set_other}
+use Rattle.std.proofs.lemmas.List.{get_or_past, get_or-set_other, get_or-replicate}
 use Rattle.std.proofs.lemmas.Grind.{get_or-set_at}
-use Rattle.std.proofs.lemmas.Nat.Bits.{bit_at_or, bit_at_and, bit_at_not, bit_at-zero, bit_at-lt, bit_at_set_same, bit_at_set_other, bit_at-trailing_zeros}
+use Rattle.std.proofs.lemmas.Nat.Bits.{bit_at_or, bit_at_and, bit_at_not, bit_at-zero, bit_at-lt, bit_at_set_same, bit_at_set_other, bit_at-trailing_zeros, bit_at_ones}
 
 abbrev pub set_in : List ℕ → ℕ → Bool
 set_in ws i = bit_at (get_or ws (i / 64) 0) (i % 64) == 1
@@ -87,6 +87,14 @@ pub in_none : (ws : List ℕ) → ((j : ℕ) → j < 17 → get_or ws j 0 ≡ 0)
 in_none ws h l i = elim (cases_lt (i / 64) 17) [
   | inl k ↦ ap (λ (w : ℕ). bit_at w (i % 64) == 1) (h (i / 64) k) ∙ ap (λ (b : ℕ). b == 1) (bit_at-zero (i % 64))
   | inr k ↦ past_words ws i (omega (arith, k, l))
+]
+
+pub in_all : (ws : List ℕ) → ws ≡ replicate 17 (2 ^ 64 - 1) → (i : ℕ) → set_in ws i ≡ nat_lt i 1088
+in_all ws e i = elim (cases_lt (i / 64) 17) [
+  | inl k ↦
+      ap (λ (w : ℕ). bit_at w (i % 64) == 1) (ap (λ (us : List ℕ). get_or us (i / 64) 0) e ∙ get_or-replicate 17 (i / 64) (2 ^ 64 - 1) 0 k)
+      ∙ ap (λ (b : ℕ). b == 1) (bit_at_ones 64 (i % 64) (omega arith)) ∙ sym (lt-ltb i 1088 (omega (arith, k)))
+  | inr k ↦ past_words ws i (omega (arith, k, ap length e)) ∙ sym (le-ltb i 1088 (omega (arith, k)))
 ]
 
 -- a word that isn't 0 has a bit

@@ -1,12 +1,13 @@
 //! Sets of numbers as bits, and of the names that have these numbers.
 
-ghost use Rattle.std.specs.Prelude.{◌≡◌, ◌&&◌, ◌||◌, ◌==◌, ℕ, List, [], false, not, nat_lt, filter, IsTrue, ◌↔◌};
+ghost use Rattle.std.specs.Prelude.{◌≡◌, ◌<◌, ◌≤◌, ◌&&◌, ◌||◌, ◌==◌, ℕ, List, [], length, slice_get, Some, true, false, not, nat_lt, filter, bytes_eq, IfOk, IsTrue, ◌↔◌};
 ghost use Rattle.tla_token.specs.Signs.{is_among};
 ghost use Rattle.tla_tree.specs.Tree.{Word};
 ghost use Rattle.name_bits.specs.NamesIn.{has, names_in, AllApart};
 
 use crate::order::Order;
-use tla_tree::Name;
+use std::alloc::{AllocError, Global};
+use tla_tree::{Name, NameList};
 
 /// Numbers from this one on are in no set.
 pub const MOST: usize = 1088;
@@ -31,6 +32,16 @@ impl Bits {
         Bits { words: [0; WORDS] }
     }
 
+    /// All numbers that may be in a set.
+    pub fn all() -> Bits
+        ensures numbers { (i : ℕ) → has result i ≡ nat_lt i 1088 }
+        ensures names { (order : List Word) → length order ≤ 1088 → names_in order result ≡ order }
+    {
+        Bits {
+            words: [u64::MAX; WORDS],
+        }
+    }
+
     /// Whether a number is in.
     pub fn has(&self, number: usize) -> bool
         ensures { result ≡ has self.now number }
@@ -40,13 +51,25 @@ impl Bits {
 
     /// With this number too. A number from `MOST` on is left out: who puts numbers in bounds how many there are.
     pub fn with(self, number: usize) -> Bits
-        ensures { (i : ℕ) → has result i ≡ (has self i || ((i == number) && nat_lt i 1088)) }
+        ensures numbers { (i : ℕ) → has result i ≡ (has self i || ((i == number) && nat_lt i 1088)) }
+        ensures among { (order : List Word) (y : Word) → AllApart order → number < 1088 → slice_get order number ≡ Some y → (x : Word) → is_among (names_in order result) x ≡ (is_among (names_in order self) x || bytes_eq y x) }
     {
         let mut words = self.words;
         if number < MOST {
             words[number / WIDTH] |= 1 << (number % WIDTH);
         }
         Bits { words }
+    }
+
+    /// With this name of an order too.
+    pub fn with_name(self, order: &Order, name: &Name) -> Bits
+        ensures { length order.now ≤ 1088 → is_among order.now name.now ≡ true → (x : Word) → is_among (names_in order.now result) x ≡ (is_among (names_in order.now self) x || bytes_eq name.now x) }
+    {
+        order.apart();
+        match order.number(name) {
+            Some(number) => self.with(number),
+            None => self,
+        }
     }
 
     /// What is in this set or in the other.
@@ -97,5 +120,21 @@ impl Bits {
             Some(number) => self.has(number),
             None => false,
         }
+    }
+    /// The names of an order that are in, in the order.
+    ///
+    /// # Errors
+    ///
+    /// Only for want of memory.
+    pub fn names(&self, alloc: Global, order: &Order) -> Result<NameList, AllocError>
+        ensures { IfOk result (λ names. names ≡ names_in order.now self.now) }
+    {
+        let mut names = NameList::new(alloc);
+        for number in 0..order.len() {
+            if self.has(number) {
+                names.push(order.name(number).copied()?)?;
+            }
+        }
+        Ok(names)
     }
 }

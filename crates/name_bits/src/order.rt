@@ -1,6 +1,6 @@
 //! Names in a fixed order, each with its number.
 
-ghost use Rattle.std.specs.Prelude.{◌≡◌, IfOk, bytes_eq, position};
+ghost use Rattle.std.specs.Prelude.{◌≡◌, ◌<◌, length, slice_get, Some, IfOk, bytes_eq, position};
 ghost use Rattle.tla_token.specs.Signs.{is_among};
 ghost use Rattle.tla_tree.specs.Tree.{Word};
 ghost use Rattle.name_bits.specs.NamesIn.{AllApart};
@@ -42,6 +42,21 @@ impl Order {
             set.insert(name.copied()?)?;
         }
         Ok(Order { names: set })
+    }
+
+    /// How many names it has.
+    pub fn len(&self) -> usize
+        ensures { result ≡ length self.now }
+    {
+        self.names.len()
+    }
+
+    /// The name of a number.
+    pub fn name(&self, number: usize) -> &Name
+        requires { number < length self.now }
+        ensures { slice_get self.now number ≡ Some result.now }
+    {
+        self.names.get_index(number).unwrap()
     }
 
     /// Whether a name is in it.
