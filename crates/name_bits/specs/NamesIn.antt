@@ -5,6 +5,10 @@ use Rattle.tla_token.specs.Signs.{is_among}
 use Rattle.tla_tree.specs.Tree.{Word}
 use Rattle.name_bits.specs.declared.bits.Bits.{Bits}
 
+-- the first number that is in no set
+abbrev pub most : ℕ
+most = 1088
+
 -- a number is in: its bit is set; past the words there is none
 unfoldable pub has : Bits → ℕ → Bool
 has b i = bit_at (get_or b.words (i / 64) 0) (i % 64) == 1

@@ -3,7 +3,7 @@
 ghost use Rattle.std.specs.Prelude.{◌≡◌, ◌<◌, ◌≤◌, ◌&&◌, ◌||◌, ◌==◌, ℕ, List, [], length, slice_get, Some, true, false, not, nat_lt, filter, bytes_eq, IfOk, IsTrue, ◌↔◌};
 ghost use Rattle.tla_token.specs.Signs.{is_among};
 ghost use Rattle.tla_tree.specs.Tree.{Word};
-ghost use Rattle.name_bits.specs.NamesIn.{has, names_in, AllApart};
+ghost use Rattle.name_bits.specs.NamesIn.{most, has, names_in, AllApart};
 
 use crate::order::Order;
 use std::alloc::{AllocError, Global};
@@ -34,8 +34,8 @@ impl Bits {
 
     /// All numbers that may be in a set.
     pub fn all() -> Bits
-        ensures numbers { (i : ℕ) → has result i ≡ nat_lt i 1088 }
-        ensures names { (order : List Word) → length order ≤ 1088 → names_in order result ≡ order }
+        ensures numbers { (i : ℕ) → has result i ≡ nat_lt i most }
+        ensures names { (order : List Word) → length order ≤ most → names_in order result ≡ order }
     {
         Bits {
             words: [u64::MAX; WORDS],
@@ -51,8 +51,8 @@ impl Bits {
 
     /// With this number too. A number from `MOST` on is left out: who puts numbers in bounds how many there are.
     pub fn with(self, number: usize) -> Bits
-        ensures numbers { (i : ℕ) → has result i ≡ (has self i || ((i == number) && nat_lt i 1088)) }
-        ensures among { (order : List Word) (y : Word) → AllApart order → number < 1088 → slice_get order number ≡ Some y → (x : Word) → is_among (names_in order result) x ≡ (is_among (names_in order self) x || bytes_eq y x) }
+        ensures numbers { (i : ℕ) → has result i ≡ (has self i || ((i == number) && nat_lt i most)) }
+        ensures among { (order : List Word) (y : Word) → AllApart order → number < most → slice_get order number ≡ Some y → (x : Word) → is_among (names_in order result) x ≡ (is_among (names_in order self) x || bytes_eq y x) }
     {
         let mut words = self.words;
         if number < MOST {
@@ -63,7 +63,7 @@ impl Bits {
 
     /// With this name of an order too.
     pub fn with_name(self, order: &Order, name: &Name) -> Bits
-        ensures { length order.now ≤ 1088 → is_among order.now name.now ≡ true → (x : Word) → is_among (names_in order.now result) x ≡ (is_among (names_in order.now self) x || bytes_eq name.now x) }
+        ensures { length order.now ≤ most → is_among order.now name.now ≡ true → (x : Word) → is_among (names_in order.now result) x ≡ (is_among (names_in order.now self) x || bytes_eq name.now x) }
     {
         order.apart();
         match order.number(name) {
