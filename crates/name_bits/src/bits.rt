@@ -121,6 +121,7 @@ impl Bits {
             None => false,
         }
     }
+
     /// The names of an order that are in, in the order.
     ///
     /// # Errors
