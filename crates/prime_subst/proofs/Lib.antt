@@ -1,0 +1,2 @@
+-- What a graft leaves alone.
+mod LeftAlone

@@ -1,0 +1,8 @@
+//! Expressions with their variables primed; and with names as they are written, and what a process has for itself as its own.
+#![tactic(auto)]
+
+pub mod localising;
+pub mod priming;
+
+pub use localising::{Local, Own, localise};
+pub use priming::prime;
