@@ -1,5 +1,5 @@
 -- Bodies with their labels, one after another.
-use Rattle.std.proofs.Common.{◌≡◌, ℕ, ◌+◌, ◌<◌, ◌≤◌, Bool, true, false, List, [], ◌∷◌, ◌++◌, length, map, take, drop, get_or, Some, None, Vec, Global, refl, sym, ap, ◌∙◌, subst, cond, codes, reverse, arith}
+use Rattle.std.proofs.Common.{◌≡◌, ℕ, ◌+◌, ◌<◌, ◌≤◌, Bool, true, false, List, [], ◌∷◌, ◌++◌, length, map, take, drop, get_or, Some, None, Vec, Global, refl, sym, ap, ◌∙◌, subst, cond, reverse, arith}
 use Rattle.std.proofs.lemmas.List.{take_more, take_all, map-append}
 use Rattle.tla_tree.specs.Tree.{Tree, Word, Trees}
 use Rattle.tla_tree.specs.Nesting.{greatest}
@@ -15,9 +15,8 @@ use Rattle.pcal_tree.specs.InMemory as at
 use Rattle.pcal_tree.specs.Algorithm as tree
 use Rattle.pcal_tree.specs.declared.algorithm.Algorithm as code
 use Rattle.pcal_tree.specs.InMemory.{statements_at, macro_at, procedure_at, process_at, main_at, algorithm_at}
-use Rattle.pcal_tree.specs.Labelled.{Supply, labelled}
-use Rattle.pcal_tree.proofs.EffectLabels.{labelled_by_summaries}
-use Rattle.pcal_tree.specs.OffencesSteps.{Before, at_first, outer_effects}
+use Rattle.pcal_tree.specs.Labelled.{Supply, with_labels}
+use Rattle.pcal_tree.specs.OffencesSteps.{Before, at_first, outer_effects, call_effect}
 use Rattle.pcal_tree.specs.Paths.{Effect, Effects, nothing}
 use Rattle.pcal_tree.specs.laws.MacroSummaries.{Summary, summaries, summary_effect}
 use Rattle.pcal_tree.proofs.InMemoryEach.{past_one_more}
@@ -32,6 +31,7 @@ use Rattle.added_labels.specs.InMemory.{AreLeft, PutsAll}
 use Rattle.added_labels.specs.Placed.{macro_with, past_macro, procedure_with, past_procedure, process_with, past_process, each_with, past_each, main_with, past_macros, all_names}
 use Rattle.added_labels.specs.Sight.{effects_of}
 use Rattle.added_labels.specs.WithLabels.{BodyWith, OneWith, EachWith, MainWith, IsSilent, IsOutside, Begun}
+use Rattle.added_labels.proofs.EffectLabels.{with_labels_alike}
 use Rattle.added_labels.proofs.PlacedLaws.{all_added}
 use Rattle.added_labels.proofs.SightLaws.{effects_there}
 
@@ -146,12 +146,12 @@ chosen_here E p ts cs b none ws e n h = h ∙ (λ i. n i ++ chosen E p (statemen
 abbrev Summed : List tree.Macro → Word → Trees → Effect
 Summed ms = summary_effect (summaries ms)
 
-pub routines_are : (ts : List Tree) (plan mid : Plan) (x : code.Algorithm) (a : tree.Algorithm) (ps : List Procedure) (vs : Vec Procedure Global) (m n : Main) → Begun ts plan x a
+pub routines_are : (root : Word) (ts : List Tree) (plan mid : Plan) (x : code.Algorithm) (a : tree.Algorithm) (ps : List Procedure) (vs : Vec Procedure Global) (m n : Main) → Begun root ts plan x a
     → EachWith (procedure_at ts) (procedure_with (Summed (reverse (map (macro_at ts) x.macros.items)))) (past_procedure (Summed (reverse (map (macro_at ts) x.macros.items)))) plan mid ps vs.items
     → MainWith (Summed (reverse (map (macro_at ts) x.macros.items))) ts mid m n → ps ≡ x.procedures.items → m ≡ x.main
-    → algorithm_at ts (record { name = x.name; fair = x.fair; globals = x.globals; definitions = x.definitions; macros = x.macros; procedures = vs; main = n }) ≡ labelled true a
-routines_are ts plan mid x a ps vs m n b h k is im =
-    let s = past_macros (all_names (codes "Lbl_") a) a.macros in
+    → algorithm_at ts (record { name = x.name; fair = x.fair; globals = x.globals; definitions = x.definitions; macros = x.macros; procedures = vs; main = n }) ≡ with_labels call_effect root a
+routines_are root ts plan mid x a ps vs m n b h k is im =
+    let s = past_macros (all_names root a) a.macros in
     let C = Summed (reverse (map (macro_at ts) x.macros.items)) in
     let p = h s b.left in
     let r = k (past_each (past_procedure C) s (map (procedure_at ts) ps)) p.left in
@@ -166,4 +166,4 @@ routines_are ts plan mid x a ps vs m n b h k is im =
       main = (r ∙ (λ j. main_with C (past_each (past_procedure C) s (map (procedure_at ts) (is j))) (main_at ts (im j)))
           ∙ (λ j. main_with (Summed (reverse ((b.now j).macros))) (past_each (past_procedure (Summed (reverse ((b.now j).macros)))) s ((b.now j).procedures)) ((b.now j).main))) i;
     })
-    ∙ sym (labelled_by_summaries true a ∙ all_added Summed (codes "Lbl_") a)
+    ∙ sym (with_labels_alike root a ∙ all_added Summed root a)

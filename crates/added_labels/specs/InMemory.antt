@@ -1,5 +1,5 @@
 -- What is left for added labels, in memory.
-use Rattle.std.specs.Prelude.{◌≡◌, ◌≤◌, ℕ, List, [], ◌∷◌, Bool, Option, Some, None, drop, codes, ◌++◌, map, Vec}
+use Rattle.std.specs.Prelude.{◌≡◌, ◌≤◌, ℕ, List, [], ◌∷◌, Bool, Option, Some, None, drop, ◌++◌, map, Vec}
 use Rattle.std.specs.declared.alloc.Global.{Global}
 use Rattle.tla_tree.specs.Tree.{Word}
 use Rattle.tla_token.specs.declared.place.Place.{Place}
@@ -16,7 +16,7 @@ use Rattle.added_labels.specs.declared.place.Plan as code
 use Rattle.added_labels.specs.Placed.{Plan, is_wanted, wanted_then, passed, past_inside, past, past_some, placed_inside, placed, placed_some}
 
 pub record AreLeft (n : Names) (s : Supply) : Type 0 where
-  pub root : s.root ≡ codes "Lbl_"
+  pub root : s.root ≡ n.root
   pub typed : AreMet n.typed s.typed
   pub from : n.from ≡ s.from
 

@@ -1,5 +1,5 @@
 -- Bodies in memory, with their labels.
-use Rattle.std.specs.Prelude.{◌≡◌, List, [], true, false, None, map, codes}
+use Rattle.std.specs.Prelude.{◌≡◌, List, [], true, false, None, map}
 use Rattle.tla_tree.specs.Tree.{Tree, Word, Trees}
 use Rattle.pcal_tree.specs.declared.algorithm.Stmt.{Stmt}
 use Rattle.pcal_tree.specs.declared.algorithm.Main.{Main}
@@ -42,15 +42,15 @@ pub record IsOutside (w : Where) : Type 0 where
   pub name : w.around.name ≡ None
   pub own : w.around.own.items ≡ []
 
--- the macros of an algorithm have their labels, and these names are left
-pub record Begun (ts : List Tree) (plan : Plan) (x : code.Algorithm) (a : tree.Algorithm) : Type 0 where
+-- the macros of an algorithm have their labels with this root, and these names are left
+pub record Begun (root : Word) (ts : List Tree) (plan : Plan) (x : code.Algorithm) (a : tree.Algorithm) : Type 0 where
   pub now : algorithm_at ts x ≡ record {
     name = a.name;
     fair = a.fair;
     globals = a.globals;
     definitions = a.definitions;
-    macros = macros_with (all_names (codes "Lbl_") a) a.macros;
+    macros = macros_with (all_names root a) a.macros;
     procedures = a.procedures;
     main = a.main;
   }
-  pub left : AreLeft plan.names (past_macros (all_names (codes "Lbl_") a) a.macros)
+  pub left : AreLeft plan.names (past_macros (all_names root a) a.macros)

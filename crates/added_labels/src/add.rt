@@ -1,10 +1,11 @@
 //! Labels added to an algorithm: first to its macros, and then, where it is known what these assign, to what has steps.
 
-ghost use Rattle.std.specs.Prelude.{◌≡◌, ◌≤◌, ◌&&◌, ◌||◌, true, List, length, map, reverse, IfOk};
-ghost use Rattle.tla_tree.specs.Tree.{Tree};
+ghost use Rattle.std.specs.Prelude.{◌≡◌, ◌≤◌, ◌&&◌, ◌||◌, List, length, map, reverse, codes, IfOk};
+ghost use Rattle.tla_tree.specs.Tree.{Tree, Word};
 ghost use Rattle.pcal_tree.specs.Algorithm as tree;
 ghost use Rattle.pcal_tree.specs.InMemory.{macro_at, main_at, algorithm_at, past_algorithm};
-ghost use Rattle.pcal_tree.specs.Labelled.{labelled, is_alone, typed_labels};
+ghost use Rattle.pcal_tree.specs.Labelled.{labelled, with_labels, is_alone, typed_labels};
+ghost use Rattle.pcal_tree.specs.OffencesSteps.{call_effect};
 ghost use Rattle.pcal_tree.specs.laws.MacroSummaries.{summaries};
 ghost use Rattle.pcal_tree.specs.Tests.{is_empty};
 ghost use Rattle.label_steps.specs.KnownIn.{AreMacros};
@@ -24,6 +25,7 @@ use pcal_tree::algorithm::{Algorithm, Main};
 use std::alloc::{AllocError, Global};
 use std::mem::replace;
 use tla_pool::Pool;
+use tla_tree::Name;
 
 // Whether labels are added at all: where they are forced, and to a uniprocess algorithm without any.
 fn are_added(algorithm: &Algorithm, forced: bool) -> bool
@@ -38,7 +40,7 @@ fn are_added(algorithm: &Algorithm, forced: bool) -> bool
     }
 }
 
-/// Adds labels to the macros of an algorithm. The plan is for the rest of it.
+/// Adds labels with this root to the macros of an algorithm. The plan is for the rest of it.
 ///
 /// # Errors
 ///
@@ -47,16 +49,21 @@ pub fn with_macros(
     alloc: Global,
     pool: &Pool,
     algorithm: Algorithm,
+    root: Name,
 ) -> Result<(Plan, Algorithm), AllocError>
     requires { past_algorithm algorithm ≤ length pool.now }
-    ensures begun { IfOk result (λ r. Begun pool.now r.0 r.1 (algorithm_at pool.now algorithm)) }
+    ensures begun { IfOk result (λ r. Begun root pool.now r.0 r.1 (algorithm_at pool.now algorithm)) }
     ensures numbers { IfOk result (λ r. past_algorithm r.1 ≤ past_algorithm algorithm) }
 {
     let typed = typed_names(alloc, &algorithm)?;
     let mut plan = Plan {
         wanted: Vec::new(alloc),
         passed: 0,
-        names: Names { typed, from: 1 },
+        names: Names {
+            root,
+            typed,
+            from: 1,
+        },
     };
     let known = Known {
         params: IndexSet::new(alloc),
@@ -92,7 +99,7 @@ pub fn with_routines(
 ) -> Result<Algorithm, AllocError>
     requires { past_algorithm algorithm ≤ length pool.now }
     ensures macros { IfOk result (λ r. r.macros ≡ algorithm.macros) }
-    ensures with { IfOk result (λ r. (a : tree.Algorithm) → Begun pool.now plan algorithm a → AreMacros known (summaries (reverse (map (macro_at pool.now) algorithm.macros.items))) → algorithm_at pool.now r ≡ labelled true a) }
+    ensures with { IfOk result (λ r. (root : Word) (a : tree.Algorithm) → Begun root pool.now plan algorithm a → AreMacros known (summaries (reverse (map (macro_at pool.now) algorithm.macros.items))) → algorithm_at pool.now r ≡ with_labels call_effect root a) }
     ensures numbers { IfOk result (λ r. past_algorithm r ≤ past_algorithm algorithm) }
 {
     let mut plan = plan;
@@ -114,6 +121,35 @@ pub fn with_routines(
     Ok(changed)
 }
 
+/// Adds labels with this root to an algorithm, everywhere where they are missing.
+///
+/// # Errors
+///
+/// Only for want of memory.
+pub fn add_labels_of_root(
+    alloc: Global,
+    pool: &Pool,
+    algorithm: Algorithm,
+    root: Name,
+) -> Result<Algorithm, AllocError>
+    requires { past_algorithm algorithm ≤ length pool.now }
+    ensures tree { IfOk result (λ r. algorithm_at pool.now r ≡ with_labels call_effect root (algorithm_at pool.now algorithm)) }
+    ensures past { IfOk result (λ r. past_algorithm r ≤ length pool.now) }
+{
+    let (plan, begun) = with_macros(alloc, pool, algorithm, root)?;
+    let known = known_macros(alloc, pool, &begun.macros)?;
+    with_routines(alloc, pool, plan, known, begun)
+}
+
+// What the names of added labels begin with if nothing else is asked.
+fn usual_root(alloc: Global) -> Result<Name, AllocError>
+    ensures { IfOk result (λ n. n ≡ codes "Lbl_") }
+{
+    let mut bytes = Vec::new(alloc);
+    bytes.extend_from_slice(b"Lbl_")?;
+    Ok(Name::new(bytes))
+}
+
 /// Adds labels to an algorithm, everywhere where they are forced, or where it is a uniprocess algorithm without any.
 ///
 /// # Errors
@@ -132,7 +168,6 @@ pub fn add_labels(
     if !are_added(&algorithm, forced) {
         return Ok(algorithm);
     }
-    let (plan, begun) = with_macros(alloc, pool, algorithm)?;
-    let known = known_macros(alloc, pool, &begun.macros)?;
-    with_routines(alloc, pool, plan, known, begun)
+    let root = usual_root(alloc)?;
+    add_labels_of_root(alloc, pool, algorithm, root)
 }

@@ -1,6 +1,6 @@
 //! Names of added labels: those with the next numbers that no typed label has.
 
-ghost use Rattle.std.specs.Prelude.{◌≡◌, ◌+◌, ◌<◌, ◌^◌, codes, IfOk, OnOk};
+ghost use Rattle.std.specs.Prelude.{◌≡◌, ◌+◌, ◌<◌, ◌^◌, IfOk, OnOk};
 ghost use Rattle.pcal_tree.specs.Labelled.{Supply, added_name, number, rest_of};
 ghost use Rattle.added_labels.specs.InMemory.{AreLeft, IsNext};
 
@@ -11,18 +11,20 @@ use tla_tree::Name;
 /// The names that are left.
 #[derive(Drop)]
 pub struct Names {
+    /// What all of them begin with.
+    pub root: Name,
     /// The names of typed labels have the number 1.
     pub typed: Table,
     /// The first number that is left.
     pub from: usize,
 }
 
-// The name with this number.
-fn added(alloc: Global, number: usize) -> Result<Name, AllocError>
-    ensures { IfOk result (λ n. n ≡ added_name (codes "Lbl_") number) }
+// The name of this root with this number.
+fn added(alloc: Global, root: &Name, number: usize) -> Result<Name, AllocError>
+    ensures { IfOk result (λ n. n ≡ added_name root.now number) }
 {
     let mut bytes = Vec::new(alloc);
-    bytes.extend_from_slice(b"Lbl_")?;
+    bytes.extend_from_slice(root.bytes())?;
     let digits = format!(in alloc; "{number}")?;
     bytes.extend_from_slice(digits.as_bytes())?;
     Ok(Name::new(bytes))
@@ -35,7 +37,7 @@ impl Names {
         ensures small { IfOk result (λ f. f.1 + 1 < 2 ^ 64) }
     {
         for number in self.from..usize::MAX {
-            let name = added(alloc, number)?;
+            let name = added(alloc, &self.root, number)?;
             if self.typed.get(&name) == 0 {
                 return Ok((name, number));
             }
