@@ -31,7 +31,7 @@ use Rattle.added_labels.specs.InMemory.{AreLeft, PutsAll}
 use Rattle.added_labels.specs.Placed.{macro_with, past_macro, procedure_with, past_procedure, process_with, past_process, each_with, past_each, main_with, past_macros, all_names}
 use Rattle.added_labels.specs.Sight.{effects_of}
 use Rattle.added_labels.specs.WithLabels.{BodyWith, OneWith, EachWith, MainWith, IsSilent, IsOutside, Begun}
-use Rattle.added_labels.proofs.EffectLabels.{with_labels_alike}
+use Rattle.added_labels.proofs.RootLaws.{with_labels_alike}
 use Rattle.added_labels.proofs.PlacedLaws.{all_added}
 use Rattle.added_labels.proofs.SightLaws.{effects_there}
 

@@ -1,7 +1,7 @@
 -- Lemmas of this crate.
 pub mod PlacedLaws
 pub mod NameLaws
-pub mod EffectLabels
+pub mod RootLaws
 pub mod PlaceLaws
 pub mod SightLaws
 pub mod ChooseLaws

@@ -1,10 +1,17 @@
 -- The next name is the one with the first number from some number on that no typed label has.
 use Rattle.std.proofs.Common.{◌≡◌, ℕ, nat_lt, ltb-true, ltb-false, zero, suc, ◌+◌, ◌-◌, ◌<◌, ◌≤◌, ◌^◌, length, List, [], ◌∷◌, Bool, true, false, ◌||◌, cond, bytes_eq, decimal, refl, sym, ◌∙◌, ap, arith, true≢false}
+use Rattle.std.specs.Cmp.{IsEquivalence}
+use Rattle.std.specs.List.{AllByRecursion, IsDistinct}
+use Rattle.std.specs.Set.{is_member}
+use Rattle.std.proofs.lemmas.Bool.{false_from_ne_true}
+use Rattle.std.proofs.lemmas.Map.Made.{length-le_from_is_member}
 use Rattle.std.proofs.lemmas.Slice.Eq.{bytes_eq-Decides}
 use Rattle.std.proofs.lemmas.Fmt.{decimal_injective}
 use Rattle.std.proofs.lemmas.List.{append_cancel_left}
 use Rattle.tla_token.specs.Signs.{is_among}
 use Rattle.tla_tree.specs.Tree.{Word}
+use Rattle.tla_tree.specs.Same.{equivalence_by}
+use Rattle.pcal_tree.proofs.SetLaws.{any_same}
 use Rattle.pcal_tree.specs.Labelled.{Supply, added_name, free_number, number}
 use Rattle.label_jumps.specs.Meeting.{is_met}
 use Rattle.added_labels.specs.declared.names.Names.{Names}
@@ -17,51 +24,46 @@ TypedFrom root typed n m = (i : ℕ) → n ≤ i → i < m → is_among typed (a
 numbers_apart : (root : Word) (m n : ℕ) → m < 2 ^ 64 → n < 2 ^ 64 → added_name root m ≡ added_name root n → m ≡ n
 numbers_apart root m n p q e = decimal_injective m n p q (append_cancel_left root (decimal m) (decimal n) e)
 
--- a list without a name
-abbrev without : Word → List Word → List Word
-without w [] = []
-without w (v ∷ vs) = cond (bytes_eq v w) (without w vs) (v ∷ without w vs)
+-- the names of so many numbers
+abbrev names : Word → ℕ → ℕ → List Word
+names root n zero = []
+names root n (suc d) = added_name root n ∷ names root (suc n) d
 
-without_le : (w : Word) (vs : List Word) → length (without w vs) ≤ length vs
-without_le w [] = omega arith
-without_le w (v ∷ vs) = by (bytes_eq v w) (without_le w vs)
-  where
-    by : (b : Bool) → length (without w vs) ≤ length vs → length (cond b (without w vs) (v ∷ without w vs)) ≤ suc (length vs)
-    by true h = omega arith
-    by false h = omega arith
+as_many : (root : Word) (n d : ℕ) → length (names root n d) ≡ d
+as_many root n zero = refl
+as_many root n (suc d) = ap suc (as_many root (suc n) d)
 
-without_lt : (w : Word) (vs : List Word) → is_among vs w ≡ true → length (without w vs) < length vs
-without_lt w [] e = cc
-without_lt w (v ∷ vs) e = by (bytes_eq v w) e (without_le w vs) (without_lt w vs)
-  where
-    by : (b : Bool) → (b || is_among vs w) ≡ true → length (without w vs) ≤ length vs → (is_among vs w ≡ true → length (without w vs) < length vs)
-        → length (cond b (without w vs) (v ∷ without w vs)) < suc (length vs)
-    by true e h k = omega arith
-    by false e h k = let l = k e in omega arith
+others : (root : Word) (m n d : ℕ) → m < n → n + d ≤ 2 ^ 64 → AllByRecursion (λ w. bytes_eq (added_name root m) w ≡ false) (names root n d)
+others root m n zero p less = tt
+others root m n (suc d) p less = (
+  false_from_ne_true _ (λ e. let s = numbers_apart root m n (omega arith) (omega arith) ((bytes_eq-Decides (added_name root m) (added_name root n)).0 e) in absurd (omega (arith, s, p))),
+  others root m (suc n) d (omega arith) (omega arith),
+)
 
--- other names stay
-without_other : (w u : Word) (vs : List Word) → (w ≡ u → ⊥) → is_among (without w vs) u ≡ is_among vs u
-without_other w u [] differ = refl
-without_other w u (v ∷ vs) differ = by (bytes_eq v w) refl (bytes_eq v u) refl (without_other w u vs differ)
+all_apart : (root : Word) (n d : ℕ) → n + d ≤ 2 ^ 64 → IsDistinct bytes_eq (names root n d)
+unfolding IsDistinct
+all_apart root n zero less = tt
+all_apart root n (suc d) less = (others root n (suc n) d (omega arith) (omega arith), all_apart root (suc n) d (omega arith))
+
+words : IsEquivalence bytes_eq
+words = equivalence_by bytes_eq bytes_eq-Decides
+
+member : (typed : List Word) (w : Word) → is_among typed w ≡ is_member bytes_eq typed w
+member typed w = any_same (λ v. bytes_eq v w) (bytes_eq w) (λ v. words.symm v w) typed
+
+all_typed : (root : Word) (typed : List Word) (n d : ℕ) → TypedFrom root typed n (n + d) → (w : Word) → is_member bytes_eq (names root n d) w ≡ true → is_member bytes_eq typed w ≡ true
+all_typed root typed n zero h w e = absurd (true≢false (sym e))
+all_typed root typed n (suc d) h w e = by (all_typed root typed (suc n) d (λ i p q. h i (omega arith) (omega arith)) w) (bytes_eq w (added_name root n)) refl e
   where
-    by : (b : Bool) → bytes_eq v w ≡ b → (c : Bool) → bytes_eq v u ≡ c → is_among (without w vs) u ≡ is_among vs u
-        → is_among (cond b (without w vs) (v ∷ without w vs)) u ≡ (bytes_eq v u || is_among vs u)
-    by true p true q h = absurd (differ (sym ((bytes_eq-Decides v w).0 p) ∙ (bytes_eq-Decides v u).0 q))
-    by true p false q h = h ∙ sym (ap (λ k. k || is_among vs u) q)
-    by false p c q h = ap (λ k. bytes_eq v u || k) h
+    by : (is_member bytes_eq (names root (suc n) d) w ≡ true → is_member bytes_eq typed w ≡ true) → (b : Bool) → bytes_eq w (added_name root n) ≡ b → (b || is_member bytes_eq (names root (suc n) d) w) ≡ true → is_member bytes_eq typed w ≡ true
+    by ih true s k = sym (member typed w) ∙ ap (is_among typed) ((bytes_eq-Decides w (added_name root n)).0 s) ∙ h n (omega arith) (omega arith)
+    by ih false s k = ih k
 
 -- as many are typed at most as there are typed labels
 few : (root : Word) (typed : List Word) (n d : ℕ) → n + d ≤ 2 ^ 64 → TypedFrom root typed n (n + d) → d ≤ length typed
-few root typed n zero less h = omega arith
-few root typed n (suc d) less h = 
-    let l = without_lt (added_name root n) typed (h n (omega arith) (omega arith)) in
-    let k = few root (without (added_name root n) typed) (suc n) d (omega arith) rest in
-    omega (arith, l, k)
-  where
-    rest : TypedFrom root (without (added_name root n) typed) (suc n) (suc n + d)
-    rest i p q =
-        without_other (added_name root n) (added_name root i) typed (λ e. let s = numbers_apart root n i (omega arith) (omega arith) e in absurd (omega (arith, s, p)))
-        ∙ h i (omega arith) (omega arith)
+few root typed n d less h =
+    let k = length-le_from_is_member words (names root n d) typed (all_apart root n d less) (all_typed root typed n d h) in
+    omega (arith, k, as_many root n d)
 
 found : (root : Word) (k : ℕ) (typed : List Word) (n m : ℕ) → n ≤ m → m ≤ n + k → TypedFrom root typed n m → is_among typed (added_name root m) ≡ false → m ≡ free_number k typed root n
 found root zero typed n m p q h e = omega arith
