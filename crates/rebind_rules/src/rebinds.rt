@@ -26,7 +26,7 @@ use tla_pool::Pool;
 use tla_token::Refusal;
 use tla_tree::{Name, PlacedName};
 
-// What is the same in the text itself, in bodies of single processes, and in macros.
+/// What is the same in the text itself, in bodies of single processes, and in macros.
 #[derive(Drop)]
 pub struct Sights {
     pub near: Sight,
