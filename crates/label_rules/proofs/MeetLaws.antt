@@ -67,12 +67,12 @@ one_met es m x = ap (nat_lt 0) (number_of_with es m 1 x) ∙ by (bytes_eq m x) (
 
 -- a label, which was met before or not
 pub met_one : (j k : Labels) (second : Bool) (n : Name) → k.met ≡ with_number j.met n.word 1
-    → k.seconds.items ≡ (j.seconds.items ++ (offence_if (second || is_met j.met n.word) DoubleLabel n.place)) → Meets j k (record { name = n; second = second } ∷ [])
+    → k.seconds.items ≡ j.seconds.items ++ offence_if (second || is_met j.met n.word) DoubleLabel n.place → Meets j k (record { name = n; second = second } ∷ [])
 met_one j k second n e h = record {
   names = λ x. ap (λ (es : Numbers). is_met es x) e ∙ one_met j.met n.word x;
   seconds = λ seen are.
-      h ∙ ap (λ (b : Bool). (j.seconds.items ++ (offence_if (second || b) DoubleLabel n.place))) (are n.word)
-      ∙ ap (λ (rs : List Refusal). (j.seconds.items ++ rs)) (sym (append-nil (offence_if (second || is_among seen n.word) DoubleLabel n.place)));
+      h ∙ ap (λ (b : Bool). j.seconds.items ++ offence_if (second || b) DoubleLabel n.place) (are n.word)
+      ∙ ap (λ (rs : List Refusal). j.seconds.items ++ rs) (sym (append-nil (offence_if (second || is_among seen n.word) DoubleLabel n.place)));
 }
 
 pub met_then : (j k l : Labels) (ls ms : List pure.Label) → Meets j k ls → Meets k l ms → Meets j l (ls ++ ms)
@@ -83,7 +83,7 @@ met_then j k l ls ms a b = record {
   seconds = λ seen are.
       added_then j.seconds.items k.seconds.items l.seconds.items (second_labels seen ls) (second_labels (seen_after seen ls) ms) (a.seconds seen are)
       (b.seconds (seen_after seen ls) (λ x. a.names x ∙ ap (λ (t : Bool). is_among (label_names ls) x || t) (are x) ∙ sym (seen_names seen ls x)))
-      ∙ ap (λ (rs : List Refusal). (j.seconds.items ++ rs)) (sym (seconds_append seen ls ms));
+      ∙ ap (λ (rs : List Refusal). j.seconds.items ++ rs) (sym (seconds_append seen ls ms));
 }
 
 -- ---- each kind of statement, before the rest of its list

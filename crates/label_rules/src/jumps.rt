@@ -58,7 +58,12 @@ fn of_stmt(
 {
     match stmt {
         Stmt::Label(name, _) => {
-            push_offence(found, body.in_macro || in_with, Rule::LabelInside, name.place)?;
+            push_offence(
+                found,
+                body.in_macro || in_with,
+                Rule::LabelInside,
+                name.place,
+            )?;
         }
         Stmt::Simple(span, simple) => of_simple(body, found, span.first, simple)?,
         Stmt::If(_, _, then, otherwise) => {
