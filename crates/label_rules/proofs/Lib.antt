@@ -1,0 +1,5 @@
+-- Lemmas of this crate.
+pub mod FirstNone
+pub mod AddedLaws
+pub mod MeetLaws
+pub mod JumpLaws

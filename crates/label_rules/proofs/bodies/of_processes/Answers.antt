@@ -1,0 +1,18 @@
+-- Proves that all that is misplaced in them is found.
+use Rattle.std.proofs.Common.{◌++◌, false, List, ap, ◌∙◌}
+use Rattle.pcal_tree.specs.declared.algorithm.Stmt.{Stmt}
+use Rattle.pcal_tree.specs.declared.algorithm.Process.{Process}
+use Rattle.pcal_tree.specs.Algorithm as tree
+use Rattle.pcal_tree.specs.InMemory.{statements_at, process_at}
+use Rattle.pcal_tree.specs.OffencesLabels.{misplaced}
+use Rattle.label_rules.proofs.AddedLaws.{added_more, added_mapped}
+use Rattle.label_rules.proofs.bodies.of_processes.Goals as goal
+
+pub loop-one-preserved : goal.loop-one-preserved
+loop-one-preserved c = λ ts.
+    added_more (λ (d : Process). misplaced false false (statements_at ts d.body.items)) c.args.list.now c.loop-one.found.items _ c.loop-one.one-index c.one-item.result c.one-item.is c.loop-one-test.true
+    (c.in_ok-of_body.ensures ts ∙ ap (λ (ys : List Stmt). c.loop-one.found.items ++ misplaced false false (statements_at ts ys)) c.deref.ensures.value)
+    ∙ c.loop-one.invariant ts
+
+pub returns : goal.returns
+returns c = λ ts. added_mapped (λ (d : tree.Process). misplaced false false d.body) (process_at ts) c.args.list.now c.loop-one.one-index c.args.found.now.items c.loop-one.found.items c.loop-one-test.false (c.loop-one.invariant ts)

@@ -1,0 +1,11 @@
+//! All offences of an algorithm against the rules on labels.
+#![tactic(auto)]
+
+pub mod bodies;
+pub mod check;
+pub mod jumps;
+pub mod labels;
+pub mod offence;
+
+pub use bodies::misplaced_offences;
+pub use check::check_labels;
