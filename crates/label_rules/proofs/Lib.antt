@@ -3,3 +3,5 @@ pub mod FirstNone
 pub mod AddedLaws
 pub mod MeetLaws
 pub mod JumpLaws
+pub mod StepLaws
+pub mod SimpleLaws

@@ -5,7 +5,9 @@ pub mod bodies;
 pub mod check;
 pub mod jumps;
 pub mod labels;
+pub mod holds;
 pub mod offence;
+pub mod steps;
 
 pub use bodies::misplaced_offences;
 pub use check::check_labels;
