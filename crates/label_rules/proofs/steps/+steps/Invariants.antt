@@ -26,7 +26,7 @@ decreases-of_branches l = 5 * branch_heights l.list.now + 4
 abbrev pub invariant-of_list-loop-i : goal.invariant-of_list-loop-i
 invariant-of_list-loop-i l =
     (ms : List Summary) → AreMacros l.at.around.known ms
-    → WaysLeft (effects_of l.at ms) l.quiet l.due (statements_at l.pool l.stmts) l.fn.ways l.fn.found.items (statements_at l.pool (drop l.i l.stmts)) l.spot.labelled l.spot.due l.ways l.found.items
+    → WaysLeft (effects_of l.at ms) l.quiet l.fn.due (statements_at l.pool l.stmts) l.fn.ways l.fn.found.items (statements_at l.pool (drop l.i l.stmts)) l.spot.labelled l.spot.due l.ways l.found.items
 
 abbrev pub invariant-of_branches-loop-i : goal.invariant-of_branches-loop-i
 invariant-of_branches-loop-i l =
