@@ -1,0 +1,2 @@
+-- Lemmas for the contracts of this crate.
+pub mod Grown

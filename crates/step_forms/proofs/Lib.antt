@@ -1,0 +1,1 @@
+-- Lemmas for the laws of this crate.
