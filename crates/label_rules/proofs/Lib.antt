@@ -3,3 +3,8 @@ pub mod FirstNone
 pub mod AddedLaws
 pub mod MeetLaws
 pub mod JumpLaws
+pub mod ToldLaws
+pub mod SimpleLaws
+pub mod StepLaws
+pub mod ShapeLaws
+pub mod ListLaws

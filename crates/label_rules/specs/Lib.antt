@@ -1,2 +1,3 @@
 -- Words in which the contracts of this crate are said.
 pub mod Meeting
+pub mod Stepping

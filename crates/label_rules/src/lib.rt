@@ -6,6 +6,7 @@ pub mod check;
 pub mod jumps;
 pub mod labels;
 pub mod offence;
+pub mod steps;
 
 pub use bodies::misplaced_offences;
 pub use check::check_labels;
