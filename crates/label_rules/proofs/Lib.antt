@@ -1,6 +1,7 @@
 -- Lemmas of this crate.
 pub mod FirstNone
 pub mod AddedLaws
+pub mod AllLaws
 pub mod MeetLaws
 pub mod JumpLaws
 pub mod ToldLaws

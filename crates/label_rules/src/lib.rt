@@ -1,6 +1,7 @@
 //! All offences of an algorithm against the rules on labels.
 #![tactic(auto)]
 
+pub mod all;
 pub mod bodies;
 pub mod check;
 pub mod jumps;
@@ -8,5 +9,6 @@ pub mod labels;
 pub mod offence;
 pub mod steps;
 
+pub use all::offences;
 pub use bodies::misplaced_offences;
 pub use check::check_labels;
