@@ -110,11 +110,7 @@ fn behind_branches(held: bool) -> Behind
     ensures held { result.held ≡ held }
     ensures due { result.due ≡ cond held (Some AfterBranch) None }
 {
-    let due = if held {
-        Some(Rule::AfterBranch)
-    } else {
-        None
-    };
+    let due = if held { Some(Rule::AfterBranch) } else { None };
     Behind { held, due }
 }
 
