@@ -1,1 +1,4 @@
 -- Lemmas for the laws of this crate.
+pub mod LeftLaws
+pub mod WrittenLaws
+pub mod SettledItems
