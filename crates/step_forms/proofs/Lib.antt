@@ -2,3 +2,5 @@
 pub mod LeftLaws
 pub mod WrittenLaws
 pub mod SettledItems
+pub mod Words
+pub mod StepsLaws
