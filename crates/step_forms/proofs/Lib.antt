@@ -4,3 +4,5 @@ pub mod WrittenLaws
 pub mod SettledItems
 pub mod Words
 pub mod StepsLaws
+pub mod MacroCalls
+pub mod OpenedBodies
