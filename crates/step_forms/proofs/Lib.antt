@@ -6,3 +6,5 @@ pub mod Words
 pub mod StepsLaws
 pub mod MacroCalls
 pub mod OpenedBodies
+pub mod OpenedRoutines
+pub mod OpenedActions
