@@ -1,5 +1,5 @@
 -- The steps of a body, one for each label in the order of the text ("A PlusCal User's Manual", section 3.7, labels).
-use Rattle.std.specs.Prelude.{List, [], ◌∷◌, ◌++◌, map, Some}
+use Rattle.std.specs.Prelude.{List, [], ◌∷◌, ◌++◌, map}
 use Rattle.tla_tree.specs.Tree.{Word}
 use Rattle.module_tree.specs.Formulas.{self}
 use Rattle.module_tree.specs.Module.{test, Items, item, all_of, Action}
