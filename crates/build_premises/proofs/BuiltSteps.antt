@@ -1,5 +1,5 @@
 -- Of each routine of an algorithm that can be written, and breaks no rule on labels, each step can be written.
-use Rattle.std.proofs.Common.{◌≡◌, List, [], ◌∷◌, reverse, Bool, true, false, Some, ◌⊎◌, inl, inr}
+use Rattle.std.proofs.Common.{◌≡◌, List, [], ◌∷◌, reverse, true, false, Some, ◌⊎◌, inl, inr}
 use Rattle.tla_tree.specs.Tree.{Word}
 use Rattle.tla_value.specs.Outside.{Outside}
 use Rattle.pcal_tree.specs.Algorithm.{Statements, Routine, procedure_routines, main_routines, routines, Algorithm}
@@ -17,16 +17,17 @@ use Rattle.translation.proofs.FromLabels.{from_label}
 use Rattle.translation.proofs.PlacedStatements.{procedure_placed, body_placed_in}
 use Rattle.translation.proofs.TidySteps.{PartsOf}
 use Rattle.build_premises.specs.Everywhere.{EverywhereOne, Everywhere, EverywhereSome}
-use Rattle.build_premises.specs.Buildable.{NoOld, CallsNamed, HasOne, buildable, Buildable, SettledFor}
+use Rattle.build_premises.specs.Buildable.{CallsNamed, HasOne, buildable, Buildable, SettledFor}
+use Rattle.build_premises.specs.OldNames.{NoOld}
 use Rattle.build_premises.proofs.JumpsSettled.{buildable_settled}
-use Rattle.build_premises.proofs.PartsLaws.{less, everywhere_pass, WrittenOut, WrittenOutSome, written_out_pass}
+use Rattle.build_premises.proofs.PartsLaws.{less, no_old, everywhere_pass, WrittenOut, WrittenOutSome, written_out_pass}
 use Rattle.build_premises.proofs.StepParts.{each_step}
 use Rattle.build_premises.proofs.WrittenBodies.{all_loose, Loose, loose_named}
 
 -- ---- what is asked less
 
 pub buildable_no_old : (P : Program) (ss : Statements) → Buildable P ss → NoOld ss
-buildable_no_old P ss h = less (buildable P) _ (λ ms k. tt) (λ x k. k) (λ p k. tt) (λ k. tt) (λ k. tt) ss h
+buildable_no_old P ss h = no_old (buildable P) (λ x k. k) ss h
 
 pub buildable_calls : (P : Program) (ss : Statements) → Buildable P ss → CallsNamed (procedure_routines P.algorithm) ss
 buildable_calls P ss h = less (buildable P) _ (λ ms k. tt) (λ x k. tt) (λ p k. k) (λ k. tt) (λ k. tt) ss h

@@ -7,7 +7,7 @@ use Rattle.tla_token.specs.declared.rule.Rule.TheVariants.{FirstLabel}
 use Rattle.tla_token.specs.Limits.{most_variables}
 use Rattle.tla_tree.specs.Tree.{Word, Name, Trees}
 use Rattle.tla_value.specs.Outside.{Outside}
-use Rattle.pcal_tree.specs.Algorithm.{Statement, assign, await, print, assert, skip, branch, either, with, while, goto, macro, call, return, Statements, done, then, mark, Branches, no_branches, or, Declaration, locals, Macro, Procedure, Process, Main, alone, processes, Routine, procedure_routine, process_routine, numbered, first_procedure, first_process, procedure_routines, main_routines, routines, Algorithm}
+use Rattle.pcal_tree.specs.Algorithm.{Statement, assign, await, print, assert, skip, branch, either, with, while, goto, macro, call, return, Statements, done, then, mark, Branches, no_branches, or, locals, Macro, Procedure, Process, Main, alone, processes, Routine, procedure_routine, process_routine, numbered, first_procedure, first_process, procedure_routines, main_routines, Algorithm}
 use Rattle.pcal_tree.specs.Labelled.{Supply, names_after, labelled_if, needs_label, before, add_inside, add, add_some, add_to_macros, add_to_procedures, add_to_processes, add_to_main, typed_labels, with_labels, is_alone, labelled}
 use Rattle.pcal_tree.specs.OffencesCounts.{variable_names, count_offences}
 use Rattle.pcal_tree.specs.OffencesNames.{names_of}
@@ -17,7 +17,6 @@ use Rattle.pcal_tree.specs.Run.{partner_of}
 use Rattle.pcal_tree.specs.Tests.{is_empty}
 use Rattle.pcal_tree.specs.Variables.{vars}
 use Rattle.pcal_tree.proofs.CountLimits.{few_variables}
-use Rattle.module_tree.specs.AlgorithmText.{AlgorithmText, algorithm_in}
 use Rattle.module_tree.specs.TextFront.{Text}
 use Rattle.action_builder.specs.WrittenNames.{with_names}
 use Rattle.promise.specs.Headline.{Stands}

@@ -1,11 +1,11 @@
 -- The variables of the translation are two more than those that an algorithm declares, at most: pc and the stack.
-use Rattle.std.proofs.Common.{◌≡◌, ℕ, suc, ◌+◌, ◌≤◌, length, List, [], ◌∷◌, ◌++◌, map, refl, sym, ap, ◌∙◌, length-append, arith}
+use Rattle.std.proofs.Common.{◌≡◌, ◌+◌, ◌≤◌, length, List, [], ◌∷◌, ◌++◌, refl, sym, ap, ◌∙◌, length-append, arith}
 use Rattle.std.specs.List.{flat_map}
 use Rattle.std.proofs.lemmas.Grind.{flat_map-append}
 use Rattle.std.proofs.lemmas.List.{length-map}
 use Rattle.tla_token.specs.Limits.{most_variables}
-use Rattle.tla_tree.specs.Tree.{Word, Name}
-use Rattle.pcal_tree.specs.Algorithm.{Declaration, locals, Routine, procedure_routines, main_routines, routines}
+use Rattle.tla_tree.specs.Tree.{Name}
+use Rattle.pcal_tree.specs.Algorithm.{Declaration, locals, Routine, procedure_routines, main_routines}
 use Rattle.pcal_tree.specs.OffencesCounts.{variable_names}
 use Rattle.pcal_tree.specs.OffencesNames.{names_of}
 use Rattle.pcal_tree.specs.Program.{Program, written}

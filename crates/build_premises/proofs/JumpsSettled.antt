@@ -1,10 +1,10 @@
 -- The assignments that are written for jumps, calls and returns have variables as left sides; so statements for which a step can be written are settled.
-use Rattle.std.proofs.Common.{◌≡◌, List, [], ◌∷◌, ◌++◌, Bool, true, false, cond, nat_eq, Option, Some, None, inl, refl}
+use Rattle.std.proofs.Common.{◌≡◌, List, [], ◌∷◌, ◌++◌, Bool, true, false, cond, nat_eq, Option, Some, None, refl}
 use Rattle.tla_token.specs.Signs.{is_among}
 use Rattle.tla_token.specs.declared.place.Place.{Place}
 use Rattle.tla_tree.specs.Tree.{Word, Name, Tree, Trees, no_trees, tree, Each}
 use Rattle.module_tree.specs.Formulas.{self}
-use Rattle.pcal_tree.specs.Algorithm.{nowhere, Span, Declaration, Assignments, no_assignments, Statements, done, then, assign, Routine, locals, procedure_routines, main_routines, routines}
+use Rattle.pcal_tree.specs.Algorithm.{nowhere, Span, Declaration, Assignments, no_assignments, Statements, then, assign, Routine, locals, procedure_routines, main_routines, routines}
 use Rattle.pcal_tree.specs.Calls.{label_name, first_label, routine_named}
 use Rattle.pcal_tree.specs.Processes.{OneOf}
 use Rattle.pcal_tree.specs.Program.{Program}
@@ -12,7 +12,7 @@ use Rattle.pcal_tree.specs.Run.{Partner, no_partner, goto_partner, return_partne
 use Rattle.pcal_tree.specs.Variables.{declared, written_all, written_by_all, pc, stack, stack_for, vars}
 use Rattle.pcal_tree.proofs.StepVariables.{named_one}
 use Rattle.pcal_tree.proofs.TroubleLaws.{one_left}
-use Rattle.action_builder.specs.Jumps.{one_assignment, name_at, stack_rest, fields_restored, return_assignments, return_written, jump_written, arguments_assigned, variables_written, call_written, fields_of, others_restored, pair_body, pair_written, call_with, call_to, written_jumps}
+use Rattle.action_builder.specs.Jumps.{one_assignment, name_at, stack_rest, fields_restored, return_written, jump_written, arguments_assigned, variables_written, call_written, fields_of, others_restored, pair_body, call_with, call_to, written_jumps}
 use Rattle.action_builder.specs.LabelActions.{no_jump_places, initial_tree, written_initials}
 use Rattle.action_builder.specs.OwnVariables.{is_own_variable}
 use Rattle.action_builder.specs.Settled.{settled}
@@ -20,8 +20,7 @@ use Rattle.action_builder.specs.Written.{old_stack}
 use Rattle.action_builder.specs.laws.Ready.{LeftSides, Settled}
 use Rattle.translation.proofs.RoutinesNamed.{among_before, among_later, each_map}
 use Rattle.translation.proofs.VariableNames.{local_among}
-use Rattle.build_premises.specs.Everywhere.{Everywhere}
-use Rattle.build_premises.specs.Buildable.{IsNamed, HasOne, buildable, Buildable, SettledFor}
+use Rattle.build_premises.specs.Buildable.{HasOne, buildable, Buildable, SettledFor}
 use Rattle.build_premises.proofs.SettledParts.{all_settled, all_owned}
 
 -- ---- assignments to variables

@@ -7,5 +7,6 @@ pub mod WrittenBodies
 pub mod BuiltSteps
 pub mod ListsApart
 pub mod VariablesApart
+pub mod OpenedSteps
 pub mod FewVariables
 pub mod CheckedVariables

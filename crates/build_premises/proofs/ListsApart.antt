@@ -1,6 +1,6 @@
 -- Lists in which no word stands twice.
-use Rattle.std.proofs.Common.{◌≡◌, List, [], ◌∷◌, ◌++◌, Bool, true, false, ◌||◌, bytes_eq, refl, sym, subst, ◌∙◌, ap}
-use Rattle.std.proofs.lemmas.Bool.{or_parts, both_ways}
+use Rattle.std.proofs.Common.{◌≡◌, List, [], ◌∷◌, ◌++◌, false, ◌||◌, bytes_eq, refl}
+use Rattle.std.proofs.lemmas.Bool.{or_parts}
 use Rattle.tla_token.specs.Signs.{is_among}
 use Rattle.tla_tree.specs.Tree.{Word, Name, words, Each}
 use Rattle.pcal_tree.specs.OffencesNames.{repeated}

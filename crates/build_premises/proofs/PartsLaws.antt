@@ -1,14 +1,14 @@
 -- What is asked of parts of statements is asked of less, stays so with trees put in for names, and holds of the statements that macro calls stand between.
-use Rattle.std.proofs.Common.{◌≡◌}
-use Rattle.tla_token.specs.declared.place.Place.{Place}
-use Rattle.tla_tree.specs.Tree.{Word, Name, Tree, Graft}
-use Rattle.pcal_tree.specs.declared.mark.Mark.{Mark}
+use Rattle.std.proofs.Common.{◌≡◌, false, bytes_eq, refl}
+use Rattle.tla_tree.specs.Tree.{Word, Name, Graft}
 use Rattle.pcal_tree.specs.Algorithm.{Span, Assignments, Binds, no_binds, one_of, is, Statement, assign, await, print, assert, skip, branch, either, with, while, goto, macro, call, return, Statements, done, then, mark, Branches, no_branches, or}
-use Rattle.pcal_tree.specs.Expand.{graft_assignments, graft_binds, graft_one, graft_all, graft_some, followed_by, Writing, expand_one, expand, expand_some}
+use Rattle.pcal_tree.specs.Expand.{graft_assignments, graft_binds, graft_one, graft_all, graft_some, followed_by, Writing, expand, expand_some}
+use Rattle.action_builder.specs.Written.{old_stack, is_old}
 use Rattle.action_builder.specs.laws.Settling.{EachBind}
 use Rattle.translation.proofs.FromLabels.{Passes}
 use Rattle.translation.proofs.TidySteps.{PartsOf}
 use Rattle.build_premises.specs.Everywhere.{Parts, EverywhereOne, Everywhere, EverywhereSome}
+use Rattle.build_premises.specs.OldNames.{NoOldOne, NoOld, NoOldSome}
 
 -- ---- less is asked
 
@@ -130,3 +130,38 @@ module _ (R : Parts) where
       of_while = λ e b h. h;
       of_or = λ b bs h. h;
     }
+
+-- ---- no old stack
+
+module _ (R : Parts) (binds : (x : Word) → R.binds x → bytes_eq old_stack x ≡ false) where
+  old_binds : (bs : Binds) → EachBind R.binds bs → is_old bs ≡ false
+  old_binds no_binds h = refl
+  old_binds (one_of x e bs) h = refl
+  old_binds (is x e no_binds) h = binds x.word h.0
+  old_binds (is x e (one_of y f bs)) h = refl
+  old_binds (is x e (is y f bs)) h = refl
+
+  mutual
+    old_one : (st : Statement) → EverywhereOne R st → NoOldOne st
+    old_one (assign ms) h = tt
+    old_one (await e) h = tt
+    old_one (print e) h = tt
+    old_one (assert e) h = tt
+    old_one skip h = tt
+    old_one (branch e a b) h = (no_old a h.0, no_old b h.1)
+    old_one (either bs) h = old_some bs h
+    old_one (with bs b) h = (old_binds bs h.0, no_old b h.1)
+    old_one (while e b) h = no_old b h
+    old_one (goto l) h = tt
+    old_one (macro m ts) h = tt
+    old_one (call p ts) h = tt
+    old_one return h = tt
+
+    pub no_old : (ss : Statements) → Everywhere R ss → NoOld ss
+    no_old done h = tt
+    no_old (then at st rest) h = (old_one st h.0, no_old rest h.1)
+    no_old (mark l k rest) h = no_old rest h
+
+    old_some : (bs : Branches) → EverywhereSome R bs → NoOldSome bs
+    old_some no_branches h = tt
+    old_some (or b bs) h = (no_old b h.0, old_some bs h.1)

@@ -1,5 +1,5 @@
 -- What passes from a body to its parts holds of each step as these are listed.
-use Rattle.std.proofs.Common.{◌≡◌, List, [], ◌∷◌, ◌++◌, ◌⊎◌, inl, inr, sym, subst}
+use Rattle.std.proofs.Common.{List, ◌∷◌, ◌++◌, ◌⊎◌, inl, inr, sym, subst}
 use Rattle.tla_tree.specs.Tree.{Word}
 use Rattle.pcal_tree.specs.Algorithm.{Statement, assign, await, print, assert, skip, branch, either, with, while, goto, macro, call, return, Statements, done, then, mark, Branches, no_branches, or}
 use Rattle.pcal_tree.specs.Processes.{OneOf}

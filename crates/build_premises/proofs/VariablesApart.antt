@@ -1,20 +1,18 @@
 -- The variables of the translation are written apart, those of a routine have different names, and so have procedures.
-use Rattle.std.proofs.Common.{◌≡◌, ℕ, suc, ◌+◌, ◌≤◌, ◌<◌, length, List, [], ◌∷◌, ◌++◌, map, Bool, true, false, bytes_eq, ◌⊎◌, inl, inr, refl, sym, subst, ◌∙◌, ap, arith, append_assoc}
+use Rattle.std.proofs.Common.{◌≡◌, ℕ, suc, ◌+◌, ◌≤◌, ◌<◌, length, List, [], ◌∷◌, ◌++◌, map, true, false, bytes_eq, ◌⊎◌, inl, inr, refl, sym, subst, ◌∙◌, ap, arith, append_assoc}
 use Rattle.std.proofs.lemmas.Bool.{both_ways, false_from_ne_true}
 use Rattle.std.proofs.lemmas.Slice.Eq.{bytes_eq-Decides}
-use Rattle.std.specs.List.{flat_map}
-use Rattle.tla_token.specs.Signs.{is_among}
 use Rattle.tla_token.specs.Words.{is_own}
 use Rattle.tla_tree.specs.Tree.{Word, Name, words, Each}
 use Rattle.tla_value.specs.Outside.{Outside}
-use Rattle.pcal_tree.specs.Algorithm.{declares, Declaration, Definition, Macro, locals, Procedure, Process, Main, alone, processes, Routine, procedure_routine, process_routine, numbered, first_procedure, first_process, procedure_routines, main_routines, routines, Algorithm}
-use Rattle.pcal_tree.specs.Names.{taken_at_start, wanted, variable}
-use Rattle.pcal_tree.specs.OffencesNames.{repeated, names_of, kept_names, process_names, repeated_names}
+use Rattle.pcal_tree.specs.Algorithm.{declares, Definition, Macro, locals, Procedure, Main, alone, processes, Routine, procedure_routine, process_routine, numbered, first_procedure, first_process, procedure_routines, main_routines, routines, Algorithm}
+use Rattle.pcal_tree.specs.Names.{taken_at_start, wanted}
+use Rattle.pcal_tree.specs.OffencesNames.{repeated, names_of, kept_names, process_names}
 use Rattle.pcal_tree.specs.OffencesOfNames.{name_offences}
 use Rattle.pcal_tree.specs.Outside.{unit_names}
 use Rattle.pcal_tree.specs.Processes.{OneOf}
 use Rattle.pcal_tree.specs.Program.{Program, written}
-use Rattle.pcal_tree.specs.Variables.{declared, pc, stack, stack_for, written_all, written_by_all, vars}
+use Rattle.pcal_tree.specs.Variables.{declared, pc, stack_for, written_all, written_by_all, vars}
 use Rattle.pcal_tree.proofs.ClearLabels.{both_none}
 use Rattle.pcal_tree.proofs.FreeNames.{given_apart}
 use Rattle.pcal_tree.proofs.RoutineNames.{one_either}
@@ -25,7 +23,7 @@ use Rattle.translation.specs.laws.WritableAlgorithm.{IsWritableAlgorithm}
 use Rattle.translation.proofs.AcceptedNames.{words_declared}
 use Rattle.translation.proofs.NamesApart.{own_differs}
 use Rattle.translation.proofs.NamesOfRules.{Unreserved, not_own, turned, names_free, rules_of_names}
-use Rattle.translation.proofs.RoutinesNamed.{one_each_of, each_map, local_wanted, local_free, local_new, no_global, names_fit}
+use Rattle.translation.proofs.RoutinesNamed.{each_map, local_wanted, local_free, local_new, no_global, names_fit}
 use Rattle.translation.proofs.VariableNames.{each_to, each_from, each_joined, none_among, one_is_among, one_variable}
 use Rattle.build_premises.proofs.ListsApart.{Not, unlike_apart, not_in, apart_joined, apart_before, apart_after, once_apart}
 
@@ -78,7 +76,11 @@ routines_rise a =
 
 -- ---- names that are declared
 
-pub procedure_words : (n : ℕ) (ps : List Procedure) → map (λ (u : Routine). u.name.word) (numbered procedure_routine n ps) ≡ words (map (λ (p : Procedure). p.name) ps)
+words_mapped : (ps : List Procedure) → words (map (λ (p : Procedure). p.name) ps) ≡ map (λ (p : Procedure). p.name.word) ps
+words_mapped [] = refl
+words_mapped (p ∷ ps) = ap (λ (xs : List Word). p.name.word ∷ xs) (words_mapped ps)
+
+procedure_words : (n : ℕ) (ps : List Procedure) → map (λ (u : Routine). u.name.word) (numbered procedure_routine n ps) ≡ map (λ (p : Procedure). p.name.word) ps
 procedure_words n [] = refl
 procedure_words n (p ∷ ps) = ap (λ (xs : List Word). p.name.word ∷ xs) (procedure_words (suc n) ps)
 
@@ -87,7 +89,7 @@ words_joined [] ys = refl
 words_joined (x ∷ xs) ys = ap (λ (zs : List Word). x.word ∷ zs) (words_joined xs ys)
 
 -- of the procedures of an algorithm
-pub procedures_apart : (o : Outside) (a : Algorithm) → name_offences a o ≡ [] → AllApart (map (λ (u : Routine). u.name.word) (procedure_routines a))
+pub procedures_apart : (o : Outside) (a : Algorithm) → name_offences a o ≡ [] → AllApart (map (λ (p : Procedure). p.name.word) a.procedures)
 procedures_apart o a e =
     let r = (rules_of_names a o e).1 in
     let ms = map (λ (m : Macro). m.name) a.macros in
@@ -95,7 +97,10 @@ procedures_apart o a e =
     let b = both_none (repeated (words (kept_names a)) (ms ++ (ps ++ process_names a.main))) _ (both_none (repeated (unit_names o) (kept_names a)) _ r).1 in
     let all = subst AllApart (words_joined ms (ps ++ process_names a.main)) (once_apart (words (kept_names a)) (ms ++ (ps ++ process_names a.main)) b.0) in
     let some = subst AllApart (words_joined ps (process_names a.main)) (apart_after (words ms) (words (ps ++ process_names a.main)) all) in
-    subst AllApart (sym (procedure_words (first_procedure a) a.procedures)) (apart_before (words ps) (words (process_names a.main)) some)
+    subst AllApart (words_mapped a.procedures) (apart_before (words ps) (words (process_names a.main)) some)
+
+pub routines_apart : (o : Outside) (a : Algorithm) → name_offences a o ≡ [] → AllApart (map (λ (u : Routine). u.name.word) (procedure_routines a))
+routines_apart o a e = subst AllApart (sym (procedure_words (first_procedure a) a.procedures)) (procedures_apart o a e)
 
 -- of the globals
 globals_apart : (o : Outside) (a : Algorithm) → name_offences a o ≡ [] → AllApart (declared a.globals)

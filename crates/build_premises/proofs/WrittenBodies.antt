@@ -1,25 +1,21 @@
 -- Of a routine's body that can be written, with macro calls written out and each `return` where one may be, names given, steps can be written.
-use Rattle.std.proofs.Common.{◌≡◌, ◌++◌, List, [], ◌∷◌, Bool, true, false, ◌||◌, cond, bytes_eq, Some, None, ◌⊎◌, inl, inr, refl, sym, ◌∙◌}
+use Rattle.std.proofs.Common.{◌≡◌, ◌++◌, List, ◌∷◌, Bool, true, false, ◌||◌, cond, Some, None, refl}
 use Rattle.tla_token.specs.declared.place.Place.{Place}
 use Rattle.tla_token.specs.Signs.{is_among}
-use Rattle.tla_tree.specs.Tree.{Word, Name, name, Tree, node, no_trees}
+use Rattle.tla_tree.specs.Tree.{Word, name, node, no_trees}
 use Rattle.tla_tree.specs.laws.Writable.{IsIdentifier}
-use Rattle.tla_value.specs.Outside.{Outside}
 use Rattle.pcal_tree.specs.Algorithm.{Assignments, no_assignments, assignment, Binds, no_binds, one_of, is, Statement, assign, await, print, assert, skip, branch, either, with, while, goto, macro, call, return, Statements, done, then, mark, Branches, no_branches, or, declares, Routine, locals, procedure_routines, main_routines, routines, Algorithm}
-use Rattle.pcal_tree.specs.Expand.{graft_assignments, graft_all, expanded}
-use Rattle.pcal_tree.specs.OffencesLabels.{label_offences}
+use Rattle.pcal_tree.specs.Expand.{graft_assignments, graft_all}
 use Rattle.pcal_tree.specs.Processes.{OneOf}
 use Rattle.pcal_tree.specs.Program.{Program, written}
 use Rattle.pcal_tree.specs.Variables.{declared, pc, stack_for, written_by_all, vars}
-use Rattle.pcal_tree.proofs.RoutineNames.{one_either}
-use Rattle.action_builder.specs.WrittenNames.{with_names, renames}
+use Rattle.action_builder.specs.WrittenNames.{renames}
 use Rattle.action_builder.specs.laws.Ready.{LeftSides}
 use Rattle.action_builder.specs.laws.Settling.{EachBind}
 use Rattle.translation.specs.laws.PlacedStatements.{PlacedOne, Placed, AllPlaced}
-use Rattle.translation.specs.laws.WritableAlgorithm.{AreWritableAssignments, AreWritableBinds, IsWritableStatement, AreWritableStatements, AreWritableBranches, is_procedure, is_variable, IsWritableAlgorithm}
+use Rattle.translation.specs.laws.WritableAlgorithm.{AreWritableAssignments, AreWritableBinds, IsWritableStatement, AreWritableStatements, AreWritableBranches, is_procedure, is_variable}
 use Rattle.translation.proofs.CalledProcedures.{is_called}
 use Rattle.translation.proofs.NamedBodies.{among_one}
-use Rattle.translation.proofs.PlacedStatements.{procedure_placed, body_placed_in}
 use Rattle.translation.proofs.PutTrees.{IfLeft, root_left, side_put}
 use Rattle.translation.proofs.RoutinesNamed.{among_before}
 use Rattle.translation.proofs.TidySteps.{no_old}

@@ -16,10 +16,6 @@ use Rattle.action_builder.specs.Written.{old_stack}
 use Rattle.action_builder.specs.laws.Ready.{LeftSides, Settled}
 use Rattle.build_premises.specs.Everywhere.{Parts, anything, Everywhere}
 
--- no name of a `with` is the one that the stack has in a step that still reads what it was
-abbrev pub NoOld : Statements → Type 0
-NoOld ss = Everywhere (record anything { binds = λ x. bytes_eq old_stack x ≡ false }) ss
-
 -- there is a procedure of the name
 abbrev pub IsNamed : List Routine → Word → Type 0
 IsNamed us x = (p : Routine) × (routine_named x us ≡ Some p)

@@ -4,7 +4,7 @@ ghost use Rattle.std.specs.Prelude.{◌≡◌, ◌≤◌, length, List, [], Bool
 ghost use Rattle.tla_token.specs.Limits.{most_variables};
 ghost use Rattle.tla_tree.specs.Tree.{Word};
 ghost use Rattle.tla_value.specs.Outside.{Outside};
-ghost use Rattle.pcal_tree.specs.Algorithm.{Statements, locals, Routine, procedure_routines, routines, Algorithm};
+ghost use Rattle.pcal_tree.specs.Algorithm.{Statements, locals, Procedure, Routine, procedure_routines, routines, Algorithm};
 ghost use Rattle.pcal_tree.specs.Expand.{graft_all, expanded};
 ghost use Rattle.pcal_tree.specs.Labelled.{labelled};
 ghost use Rattle.pcal_tree.specs.OffencesCounts.{variable_names, count_offences};
@@ -18,12 +18,14 @@ ghost use Rattle.pcal_tree.specs.Variables.{declared, vars};
 ghost use Rattle.module_tree.specs.TextFront.{Text};
 ghost use Rattle.action_builder.specs.WrittenNames.{with_names, renames, written_statements};
 ghost use Rattle.name_bits.specs.NamesIn.{most, AllApart};
+ghost use Rattle.step_forms.specs.Opened.{opened, opened_program};
 ghost use Rattle.step_forms.specs.Steps.{Step, steps};
 ghost use Rattle.promise.specs.Headline.{Stands};
 ghost use Rattle.file_answer.specs.Checking.{AnswersChecking};
 ghost use Rattle.translation.specs.laws.AcceptedAlgorithm.{IsAcceptedInFile};
 ghost use Rattle.translation.specs.laws.WritableAlgorithm.{IsWritableAlgorithm};
-ghost use Rattle.build_premises.specs.Buildable.{NoOld, CallsNamed, Buildable, SettledFor};
+ghost use Rattle.build_premises.specs.OldNames.{NoOld};
+ghost use Rattle.build_premises.specs.Buildable.{CallsNamed, Buildable, SettledFor};
 
 /// An accepted algorithm can be written, and breaks no rule on names and labels.
 pub fn accepted_algorithms_break_no_rule()
@@ -63,7 +65,8 @@ pub fn what_can_be_built_is_settled()
 pub fn names_are_apart()
     ensures variables { (o : Outside) (g : Algorithm) → IsWritableAlgorithm o g → name_offences g o ≡ [] → AllApart (vars (with_names o g)) }
     ensures locals { (o : Outside) (g : Algorithm) → IsWritableAlgorithm o g → (u : Routine) → OneOf u (routines g) → AllApart (declared (locals u)) }
-    ensures procedures { (o : Outside) (g : Algorithm) → name_offences g o ≡ [] → AllApart (map (λ (u : Routine). u.name.word) (procedure_routines g)) }
+    ensures procedures { (o : Outside) (g : Algorithm) → name_offences g o ≡ [] → AllApart (map (λ (p : Procedure). p.name.word) g.procedures) }
+    ensures routines { (o : Outside) (g : Algorithm) → name_offences g o ≡ [] → AllApart (map (λ (u : Routine). u.name.word) (procedure_routines g)) }
 {}
 
 /// Where an algorithm declares no more variables than the limits allow, those of the translation are few enough to be numbered. Labels that are added change none of
@@ -72,4 +75,17 @@ pub fn variables_are_few()
     ensures few { (P : Program) → length (variable_names P.algorithm) ≤ most_variables → length (vars P) ≤ most }
     ensures labelled { (forced : Bool) (a : Algorithm) → count_offences a ≡ [] → length (variable_names (labelled forced a)) ≤ most_variables }
     ensures checked { (forced : Bool) (x : Text) → AnswersChecking forced x None → (a : Algorithm) → Stands x a → (o : Outside) → length (vars (with_names o (labelled forced a))) ≤ most }
+{}
+
+/// All this holds too of an algorithm with its macro calls written out, whose macros stay in it.
+pub fn so_it_is_with_macro_calls_written_out()
+    ensures statements { (P : Program) (ss : Statements) → Buildable P ss → Buildable (opened_program P) ss }
+    ensures steps { (o : Outside) (g : Algorithm) → IsWritableAlgorithm o g → label_offences g ≡ [] → (u : Routine) → OneOf u (routines (opened g)) → (s : Step) → OneOf s (steps unlabelled u.body u.exit)
+        → Buildable (opened_program (with_names o g)) (graft_all (renames (opened_program (with_names o g)) u) s.begins.items) }
+    ensures settled { (o : Outside) (g : Algorithm) → IsWritableAlgorithm o g → label_offences g ≡ [] → (u : Routine) → OneOf u (routines (opened g)) → (s : Step) → OneOf s (steps unlabelled u.body u.exit)
+        → SettledFor (opened_program (with_names o g)) u s.label s.begins.exit (graft_all (renames (opened_program (with_names o g)) u) s.begins.items) }
+    ensures variables { (o : Outside) (g : Algorithm) → IsWritableAlgorithm o g → name_offences g o ≡ [] → AllApart (vars (opened_program (with_names o g))) }
+    ensures few { (P : Program) → length (vars P) ≤ most → length (vars (opened_program P)) ≤ most }
+    ensures locals { (o : Outside) (g : Algorithm) → IsWritableAlgorithm o g → (u : Routine) → OneOf u (routines (opened g)) → AllApart (declared (locals u)) }
+    ensures procedures { (o : Outside) (g : Algorithm) → name_offences g o ≡ [] → AllApart (map (λ (p : Procedure). p.name.word) (opened g).procedures) }
 {}
