@@ -26,7 +26,6 @@ use Rattle.build_premises.proofs.SettledParts.{all_settled, all_owned}
 -- ---- assignments to variables
 
 module _ (V : Word → Bool) where
-
   restored : (at : Place) (xs : List Word) (last : Assignments) → Each (λ x. V x ≡ true) xs → LeftSides V last → LeftSides V (fields_restored at xs last)
   restored at [] last h k = k
   restored at (x ∷ xs) last h k = (h.0, restored at xs last h.1 k)

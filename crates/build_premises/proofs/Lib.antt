@@ -8,5 +8,6 @@ pub mod BuiltSteps
 pub mod ListsApart
 pub mod VariablesApart
 pub mod OpenedSteps
+pub mod OpenableAlgorithms
 pub mod FewVariables
 pub mod CheckedVariables

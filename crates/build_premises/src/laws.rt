@@ -18,7 +18,7 @@ ghost use Rattle.pcal_tree.specs.Variables.{declared, vars};
 ghost use Rattle.module_tree.specs.TextFront.{Text};
 ghost use Rattle.action_builder.specs.WrittenNames.{with_names, renames, written_statements};
 ghost use Rattle.name_bits.specs.NamesIn.{most, AllApart};
-ghost use Rattle.step_forms.specs.Opened.{opened, opened_program};
+ghost use Rattle.step_forms.specs.Opened.{opened, opened_program, IsOpenable};
 ghost use Rattle.step_forms.specs.Steps.{Step, steps};
 ghost use Rattle.promise.specs.Headline.{Stands};
 ghost use Rattle.file_answer.specs.Checking.{AnswersChecking};
@@ -27,11 +27,12 @@ ghost use Rattle.translation.specs.laws.WritableAlgorithm.{IsWritableAlgorithm};
 ghost use Rattle.build_premises.specs.OldNames.{NoOld};
 ghost use Rattle.build_premises.specs.Buildable.{CallsNamed, Buildable, SettledFor};
 
-/// An accepted algorithm can be written, and breaks no rule on names and labels.
+/// An accepted algorithm can be written, and breaks no rule on names and labels; and its macro calls can be written out.
 pub fn accepted_algorithms_break_no_rule()
     ensures writable { (o : Outside) (g : Algorithm) → IsAcceptedInFile o g → IsWritableAlgorithm o g }
     ensures names { (o : Outside) (g : Algorithm) → IsAcceptedInFile o g → name_offences g o ≡ [] }
     ensures labels { (o : Outside) (g : Algorithm) → IsAcceptedInFile o g → label_offences g ≡ [] }
+    ensures openable { (o : Outside) (g : Algorithm) → IsAcceptedInFile o g → IsOpenable g }
 {}
 
 /// In each routine of an algorithm that can be written and breaks no rule on labels, with macro calls written out and in its written names, each left side begins with
