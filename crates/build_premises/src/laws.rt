@@ -36,7 +36,7 @@ pub fn accepted_algorithms_break_no_rule()
 {}
 
 /// In each routine of an algorithm that can be written and breaks no rule on labels, with macro calls written out and in its written names, each left side begins with
-/// a variable of the translation, no name of a `with` has a blank in it, each call is of a procedure, and a `return` is only where there are procedures: in the whole
+/// a variable of the translation, no name of a `with` is that of the old stack, each call is of a procedure, and a `return` is only where there are procedures: in the whole
 /// body, from each label on, and in each step as these are listed.
 pub fn steps_can_be_built()
     ensures bodies { (o : Outside) (g : Algorithm) → IsWritableAlgorithm o g → label_offences g ≡ [] → (u : Routine) → OneOf u (routines g) → Buildable (with_names o g) (written_statements (with_names o g) u u.body) }
