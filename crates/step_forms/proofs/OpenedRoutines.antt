@@ -33,7 +33,7 @@ opened_option a (Some u) = Some (opened_routine a u)
 abbrev pub opened_main : Algorithm → Main → Main
 opened_main a m = expanded_main (expanded (reverse a.macros)) m
 
-abbrev opened_process : Algorithm → Process → Process
+abbrev pub opened_process : Algorithm → Process → Process
 opened_process a p = record p { body = expanded (reverse a.macros) p.body }
 
 module _ (a : Algorithm) where
