@@ -5,7 +5,7 @@ use Rattle.std.proofs.lemmas.Bool.{or_parts}
 use Rattle.tla_token.specs.Signs.{is_among}
 use Rattle.tla_token.specs.declared.rule.Rule.TheVariants.{DoubleLabel}
 use Rattle.tla_tree.specs.Tree.{Word, Trees, Each}
-use Rattle.pcal_tree.specs.Algorithm.{Statements, Procedure, Process, Main, alone, processes, numbered, procedure_routine, first_procedure, first_process, procedure_routines, Algorithm}
+use Rattle.pcal_tree.specs.Algorithm.{Statements, Procedure, Process, Main, alone, processes, numbered, procedure_routine, first_procedure, first_process, Algorithm}
 use Rattle.pcal_tree.specs.Offences.{offence_if}
 use Rattle.pcal_tree.specs.OffencesLabels.{Label, labels, label_words, jump_offences, second_labels, misplaced, of_macro, of_procedure, of_body, of_main, label_offences}
 use Rattle.pcal_tree.specs.OffencesSteps.{call_effect, missing_in_body, procedure_effects, outer_effects}

@@ -1,12 +1,12 @@
 -- Init, Next and the other formulas of an algorithm with its macro calls written out are those of the algorithm as it is.
-use Rattle.std.proofs.Common.{◌≡◌, List, [], ◌∷◌, ◌++◌, map, Bool, false, cond, codes, Option, Some, None, refl, sym, ◌∙◌, ap}
+use Rattle.std.proofs.Common.{◌≡◌, List, [], ◌∷◌, ◌++◌, map, Bool, false, cond, codes, Some, None, refl, sym, ◌∙◌, ap}
 use Rattle.std.specs.List.{flat_map, list_any}
 use Rattle.std.proofs.lemmas.List.{map-append}
 use Rattle.tla_token.specs.Places.{nowhere}
 use Rattle.tla_tree.specs.Tree.{Word, Tree, node, cases, graft}
 use Rattle.tla_tree.specs.TreeOf.{trees_from}
 use Rattle.module_tree.specs.Formulas.{self, named, quoted, equal}
-use Rattle.module_tree.specs.Module.{call, Way, one_way}
+use Rattle.module_tree.specs.Module.{call, one_way}
 use Rattle.pcal_tree.specs.Algorithm.{Start, Declaration, Process, Main, alone, processes, Routine, locals, procedure_routines, main_routines, routines, Algorithm}
 use Rattle.pcal_tree.specs.Calls.{label_name}
 use Rattle.pcal_tree.specs.Program.{Program, written}

@@ -15,13 +15,13 @@ use Rattle.pcal_tree.specs.Takers.{Taken, taken_main}
 use Rattle.pcal_tree.specs.Variables.{vars}
 use Rattle.pcal_tree.specs.laws.Expansion.{Calls}
 use Rattle.action_builder.specs.Jumps.{written_jumps}
-use Rattle.action_builder.specs.LabelActions.{parameter_of, items_by, no_jump_places, written_initials, at_test, items_from, label_action, label_actions, routine_actions, main_actions, taken_procedures, actions}
+use Rattle.action_builder.specs.LabelActions.{parameter_of, items_by, no_jump_places, written_initials, at_test, items_from, label_actions, routine_actions, main_actions, taken_procedures, actions}
 use Rattle.action_builder.specs.OwnVariables.{is_own_variable}
 use Rattle.action_builder.specs.Prepared.{prepared, action_items}
 use Rattle.action_builder.specs.WrittenNames.{renames}
 use Rattle.action_builder.specs.laws.Jumps.{AllUnlike}
-use Rattle.step_forms.specs.Opened.{opened_program, opened_routine, opened_taken, IsOpenable}
-use Rattle.step_forms.specs.Steps.{Step, steps, step_items, step_action, step_actions, routine_steps, main_steps, actions_by_steps}
+use Rattle.step_forms.specs.Opened.{opened_program, opened_taken, IsOpenable}
+use Rattle.step_forms.specs.Steps.{Step, steps, step_action, step_actions, routine_steps, main_steps, actions_by_steps}
 use Rattle.step_forms.proofs.LabelsApart.{LabelsApart, procedure_labels_apart, main_labels_apart}
 use Rattle.step_forms.proofs.MacroCalls.{Never, never_expanded, stays, steps_free}
 use Rattle.step_forms.proofs.OpenedActions.{label_actions_opened, own_action_opened}
@@ -41,8 +41,8 @@ module _ (P : Program) (t : Taken) where
     title = label_name P t.routine s.label;
     parameter = parameter_of t.takers;
     body = all_of (items_by t.takers (item (test (at_test P t.routine s.label)) (action_items (vars P)
-    (prepared (written_jumps P t.routine (written_initials P) no_jump_places) self (is_own_variable P) s.label s.begins.exit
-    (graft_all (renames P t.routine) (stays (written_out (reverse P.algorithm.macros)) s.begins.items c i))))));
+        (prepared (written_jumps P t.routine (written_initials P) no_jump_places) self (is_own_variable P) s.label s.begins.exit
+        (graft_all (renames P t.routine) (stays (written_out (reverse P.algorithm.macros)) s.begins.items c i))))));
   }
 
   pub steps_written : AllUnlike (label_words t.routine.body) → Calls Never t.routine.body → label_actions P t ≡ step_actions P t
