@@ -8,3 +8,6 @@ pub mod MacroCalls
 pub mod OpenedBodies
 pub mod OpenedRoutines
 pub mod OpenedActions
+pub mod LabelsApart
+pub mod OpenedSteps
+pub mod OpenedFormulas

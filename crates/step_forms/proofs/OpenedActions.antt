@@ -1,27 +1,24 @@
 -- What is written for the labels of routines with their macro calls written out is what is written for the routines as they are.
-use Rattle.std.proofs.Common.{◌≡◌, List, [], ◌∷◌, ◌++◌, map, reverse, Option, Some, None, refl, sym, ◌∙◌, ap, subst}
-use Rattle.std.specs.List.{flat_map, AllByRecursion}
+use Rattle.std.proofs.Common.{◌≡◌, List, [], ◌∷◌, ◌++◌, map, reverse, Option, Some, None, refl, ◌∙◌, ap}
+use Rattle.std.specs.List.{flat_map}
 use Rattle.tla_token.specs.declared.place.Place.{Place}
 use Rattle.tla_tree.specs.Tree.{Word, Tree, Trees}
 use Rattle.module_tree.specs.Formulas.{self}
-use Rattle.module_tree.specs.Module.{test, Items, item, one_way, all_of, some_of, Action}
-use Rattle.pcal_tree.specs.Algorithm.{nowhere, Span, assignment, no_binds, is, with, done, Start, unset, equals, among, Declaration, Statements, then, assign, Main, alone, processes, Routine, procedure_routines}
+use Rattle.module_tree.specs.Module.{test, item, one_way, all_of, some_of}
+use Rattle.pcal_tree.specs.Algorithm.{nowhere, Span, assignment, no_binds, is, with, done, Start, unset, equals, among, Declaration, then, assign, Main, alone, processes, Routine, procedure_routines}
 use Rattle.pcal_tree.specs.Calls.{label_name, first_label, routine_named}
-use Rattle.pcal_tree.specs.Expand.{graft_all, expanded, written_out, expand_begin}
-use Rattle.pcal_tree.specs.OffencesLabels.{label_words}
+use Rattle.pcal_tree.specs.Expand.{graft_all, written_out, expand_begin}
 use Rattle.pcal_tree.specs.Program.{Program}
 use Rattle.pcal_tree.specs.Run.{Partner, no_partner, goto_partner, return_partner, unlabelled}
 use Rattle.pcal_tree.specs.StepStart.{Begin, at_label}
-use Rattle.pcal_tree.specs.Takers.{Takers, Taken, taken_main}
-use Rattle.pcal_tree.specs.Variables.{stack, written_all, vars}
-use Rattle.action_builder.specs.Jumps.{InitialValues, JumpPlaces, name_at, spot, jump_written, return_written, stack_pushed, arguments_assigned, variables_written, stack_replaced, others_restored, call_written, pair_written, call_with, call_to, written_jumps}
+use Rattle.pcal_tree.specs.Takers.{Taken, taken_main}
+use Rattle.pcal_tree.specs.Variables.{stack, written_all}
+use Rattle.action_builder.specs.Jumps.{JumpPlaces, name_at, spot, jump_written, return_written, stack_pushed, arguments_assigned, variables_written, stack_replaced, others_restored, call_written, pair_written, call_with, call_to, written_jumps}
 use Rattle.action_builder.specs.LabelActions.{parameter_of, call_by, items_by, no_jump_places, initial_tree, written_initials, items_from, title_of, label_action, label_actions, own_action, routine_actions, main_actions, taken_procedures, actions}
-use Rattle.action_builder.specs.OwnVariables.{is_own_variable}
 use Rattle.action_builder.specs.Prepared.{prepared, action_items}
-use Rattle.action_builder.specs.Settled.{WrittenJumps}
 use Rattle.action_builder.specs.Written.{old_stack}
 use Rattle.action_builder.specs.WrittenNames.{renames}
-use Rattle.step_forms.specs.Opened.{opened, opened_program, opened_routine, opened_taken, IsOpenable}
+use Rattle.step_forms.specs.Opened.{opened_program, opened_routine, opened_taken, IsOpenable}
 use Rattle.step_forms.proofs.MacroCalls.{expanded_again}
 use Rattle.step_forms.proofs.OpenedBodies.{words_opened, label_opened, begin_opened}
 use Rattle.step_forms.proofs.OpenedRoutines.{opened_option, opened_main, procedures_opened, taken_main_opened, taken_procedures_opened, named_opened, vars_opened, is_own_opened, at_test_opened}

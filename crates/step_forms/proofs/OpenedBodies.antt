@@ -1,7 +1,7 @@
 -- Bodies with their macro calls written out: their labels, and where their steps begin, where macros have statements and no labels.
 use Rattle.std.proofs.Common.{◌≡◌, List, [], ◌∷◌, ◌++◌, reverse, Bool, true, false, cond, bytes_eq, inl, inr, refl, sym, ◌∙◌, ap, subst}
 use Rattle.std.proofs.lemmas.Grind.{reverse_onto}
-use Rattle.tla_tree.specs.Tree.{Word, Trees, Graft}
+use Rattle.tla_tree.specs.Tree.{Word, Graft}
 use Rattle.pcal_tree.specs.Algorithm.{Span, Statement, branch, either, with, while, macro, Statements, done, then, mark, Branches, no_branches, or, Macro, Algorithm}
 use Rattle.pcal_tree.specs.OffencesLabels.{label_words}
 use Rattle.pcal_tree.specs.Processes.{OneOf}

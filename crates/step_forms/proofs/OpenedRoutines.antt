@@ -1,15 +1,15 @@
 -- The routines of an algorithm with its macro calls written out, their variables, and the variables of the translation.
-use Rattle.std.proofs.Common.{◌≡◌, ℕ, suc, ◌+◌, List, [], ◌∷◌, ◌++◌, map, length, reverse, Bool, true, false, cond, bytes_eq, Option, Some, None, refl, sym, ◌∙◌, ap}
+use Rattle.std.proofs.Common.{◌≡◌, ℕ, suc, ◌+◌, List, [], ◌∷◌, ◌++◌, map, length, reverse, Bool, true, false, cond, bytes_eq, Option, Some, None, refl, ◌∙◌, ap}
 use Rattle.std.specs.List.{filter}
 use Rattle.tla_token.specs.Signs.{is_among}
 use Rattle.tla_tree.specs.Tree.{Word, Tree, graft}
 use Rattle.tla_value.specs.Grafts.{owned}
 use Rattle.module_tree.specs.Formulas.{self, named, quoted, equal}
-use Rattle.pcal_tree.specs.Algorithm.{Start, unset, equals, among, Declaration, Statements, Procedure, Process, Main, alone, processes, Routine, procedure_routine, process_routine, numbered, first_procedure, first_process, procedure_routines, alone_routine, main_routines, Algorithm}
+use Rattle.pcal_tree.specs.Algorithm.{Procedure, Process, Main, alone, processes, Routine, procedure_routine, process_routine, numbered, first_process, procedure_routines, alone_routine, main_routines, Algorithm}
 use Rattle.pcal_tree.specs.Calls.{label_name, routine_named}
 use Rattle.pcal_tree.specs.Expand.{expanded}
 use Rattle.pcal_tree.specs.Program.{Program}
-use Rattle.pcal_tree.specs.Takers.{lone, Taken, taken_process, taken_main}
+use Rattle.pcal_tree.specs.Takers.{lone, taken_process, taken_main}
 use Rattle.pcal_tree.specs.Variables.{declared, pc, stack_for, written_by_all, vars}
 use Rattle.macro_expand.specs.Size.{expanded_main}
 use Rattle.action_builder.specs.LabelActions.{procedure_takers, taken_procedures, at_test}
@@ -33,7 +33,7 @@ opened_option a (Some u) = Some (opened_routine a u)
 abbrev pub opened_main : Algorithm → Main → Main
 opened_main a m = expanded_main (expanded (reverse a.macros)) m
 
-abbrev opened_process : Algorithm → Process → Process
+abbrev pub opened_process : Algorithm → Process → Process
 opened_process a p = record p { body = expanded (reverse a.macros) p.body }
 
 module _ (a : Algorithm) where

@@ -1,5 +1,5 @@
 -- The steps of a body are those of its labels, where no two of these are the same.
-use Rattle.std.proofs.Common.{◌≡◌, List, [], ◌∷◌, ◌++◌, Bool, true, false, cond, bytes_eq, map, Option, Some, None, refl, sym, ◌∙◌, ap, subst}
+use Rattle.std.proofs.Common.{◌≡◌, List, [], ◌∷◌, ◌++◌, false, cond, bytes_eq, map, Option, Some, None, refl, sym, ◌∙◌, ap, subst}
 use Rattle.std.specs.List.{AllByRecursion}
 use Rattle.std.specs.Option.{option_or}
 use Rattle.std.proofs.lemmas.List.{map-append}
@@ -100,9 +100,10 @@ mutual
       begun_both (λ l. begin_in l here st (label_of rest x)) (λ l. begin l unlabelled rest x) (steps_in here st (label_of rest x)) (steps unlabelled rest x) (labels_in st) (labels rest) (labelled unlabelled rest x)
       (apart_between (labels_in st) (labels rest) h) (λ l u. absent_in l here st (label_of rest x) u)
       (begun_in here st (label_of rest x) (apart_front (labels_in st) (labels rest) h)) (begun unlabelled rest x (apart_behind (labels_in st) (labels rest) h))
-  begun here (mark m k rest) x h =
-      (ap (λ b. cond b (Some (record { items = rest; exit = x })) (begin m.word m.word rest x)) (same_word m.word),
-      later (steps m.word rest x) (every_mapped (λ l. bytes_eq l m.word ≡ false) label (steps m.word rest x) (subst (Each (λ l. bytes_eq l m.word ≡ false)) (sym (labelled m.word rest x)) (unlike_back m.word (labels rest) h.0))) (begun m.word rest x h.1))
+  begun here (mark m k rest) x h = (
+    ap (λ b. cond b (Some (record { items = rest; exit = x })) (begin m.word m.word rest x)) (same_word m.word),
+    later (steps m.word rest x) (every_mapped (λ l. bytes_eq l m.word ≡ false) label (steps m.word rest x) (subst (Each (λ l. bytes_eq l m.word ≡ false)) (sym (labelled m.word rest x)) (unlike_back m.word (labels rest) h.0))) (begun m.word rest x h.1),
+  )
     where
       later : (zs : List Step) → AllByRecursion (λ (s : Step). bytes_eq s.label m.word ≡ false) zs → Begun (λ l. begin l m.word rest x) zs → Begun (λ l. begin l here (mark m k rest) x) zs
       later [] u q = tt
@@ -117,10 +118,13 @@ mutual
 
 -- ---- of a routine
 
+pub steps_begin : (u : Routine) → AllUnlike (label_words u.body) → AllByRecursion (λ (s : Step). at_label u s.label ≡ Some s.begins) (steps unlabelled u.body u.exit)
+steps_begin u h = begun unlabelled u.body u.exit (subst AllUnlike (same_labels u.body) h)
+
 pub steps_of_labels : {X : Type 0} (u : Routine) → AllUnlike (label_words u.body) → (f : Word → Option Begin → X)
     → map (λ (s : Step). f s.label (Some s.begins)) (steps unlabelled u.body u.exit) ≡ map (λ l. f l (at_label u l)) (label_words u.body)
 steps_of_labels u h f =
     let all = steps unlabelled u.body u.exit in
     same_mapped (λ s. f s.label (Some s.begins)) (λ s. f s.label (at_label u s.label)) all
-    (every_to (λ s. at_label u s.label ≡ Some s.begins) _ (λ s q. ap (f s.label) (sym q)) all (begun unlabelled u.body u.exit (subst AllUnlike (same_labels u.body) h)))
+    (every_to (λ s. at_label u s.label ≡ Some s.begins) _ (λ s q. ap (f s.label) (sym q)) all (steps_begin u h))
     ∙ sym (map-map (λ l. f l (at_label u l)) label all) ∙ ap (map (λ l. f l (at_label u l))) (step_labels unlabelled u.body u.exit)
