@@ -1,5 +1,5 @@
 -- Lemmas for the contracts of this crate.
 pub mod Grown
 pub mod Behind
-mod NameLaws
+pub mod NameLaws
 mod LabelLaws
