@@ -10,4 +10,6 @@ pub mod OpenedRoutines
 pub mod OpenedActions
 pub mod LabelsApart
 pub mod OpenedSteps
+pub mod StepsBegun
 pub mod OpenedFormulas
+mod Rows
