@@ -1,0 +1,1 @@
+-- Lemmas for the contracts of this crate.

@@ -1,0 +1,86 @@
+//! The settings that are written for the assignments of one statement.
+
+ghost use Rattle.std.specs.Prelude.{◌≡◌, ◌≤◌, length, map, IfOk, OnOk};
+ghost use Rattle.tla_token.specs.Signs.{is_among};
+ghost use Rattle.tla_tree.specs.Tree.{Word};
+ghost use Rattle.tla_tree.specs.Pool.{at, Keeps};
+ghost use Rattle.module_tree.specs.Module.{setting, item, no_items};
+ghost use Rattle.pcal_tree.specs.InMemory.{assignments_at};
+ghost use Rattle.name_bits.specs.NamesIn.{names_in, most};
+ghost use Rattle.module_write.specs.InMemory.{items_at, past_items};
+ghost use Rattle.action_builder.specs.Assigned.{heads};
+ghost use Rattle.action_builder.specs.Written.{onto, primed, side_of, settings_of};
+ghost use Rattle.action_builder.specs.laws.Ready.{LeftSides};
+ghost use Rattle.action_builder.proofs.FitStatements.{InParts};
+ghost use Rattle.right_sides.specs.After.{after_tree, after_items, AfterIn};
+ghost use Rattle.right_sides.specs.Groups.{past_all};
+ghost use Rattle.right_sides.specs.Parts.{IsPlain};
+
+use crate::after::{After, written};
+use crate::groups::grouped;
+use crate::sides::side;
+use module_write::module::Item;
+use name_bits::{Bits, Order};
+use pcal_tree::algorithm::Assignment;
+use std::alloc::{AllocError, Global};
+use tla_pool::Pool;
+use tla_tree::Name;
+
+// The setting of a variable with these assignments, onto items before it.
+fn setting(
+    alloc: Global,
+    pool: &mut Pool,
+    order: &Order,
+    assigned: &Bits,
+    after: &After,
+    name: &Name,
+    group: &[Assignment],
+    out: &mut Vec<Item>,
+) -> Result<(), AllocError>
+    requires there { past_all group.now ≤ length pool.old }
+    requires put { AfterIn (length pool.old) after.now }
+    requires before { past_items out.old.items ≤ length pool.old }
+    ensures items { IsPlain (assignments_at pool.old group.now) → OnOk result (items_at pool.new out.new.items ≡ onto (items_at pool.old out.old.items) (item (setting name.now (after_tree pool.old after.now (primed (is_among (names_in order.now assigned.now)) (side_of name.now (assignments_at pool.old group.now))))) no_items)) }
+    ensures within { OnOk result (past_items out.new.items ≤ length pool.new) }
+    ensures kept { Keeps pool.old pool.new }
+{
+    let right = side(alloc, pool, name, group)?;
+    let made = written(alloc, pool, order, assigned, after, right)?;
+    out.push(Item::Setting(name.copied()?, made))?;
+    Ok(())
+}
+
+/// The settings that are written for the assignments of one statement, onto items before them: one for each variable, in the order
+/// of their first assignments. What is assigned already is read primed. Returns which variables are assigned here.
+///
+/// # Errors
+///
+/// Only for want of memory; the pool may then have more nodes than before.
+pub fn settings(
+    alloc: Global,
+    pool: &mut Pool,
+    order: &Order,
+    assigned: &Bits,
+    after: &After,
+    assignments: &[Assignment],
+    out: &mut Vec<Item>,
+) -> Result<Bits, AllocError>
+    requires there { past_all assignments.now ≤ length pool.old }
+    requires put { AfterIn (length pool.old) after.now }
+    requires before { past_items out.old.items ≤ length pool.old }
+    ensures items { LeftSides (is_among order.now) (assignments_at pool.old assignments.now) → InParts (assignments_at pool.old assignments.now)
+        → OnOk result (items_at pool.new out.new.items ≡ onto (items_at pool.old out.old.items) (after_items pool.old after.now (settings_of (is_among (names_in order.now assigned.now)) (assignments_at pool.old assignments.now) (heads (assignments_at pool.old assignments.now)) no_items))) }
+    ensures names { LeftSides (is_among order.now) (assignments_at pool.old assignments.now) → length order.now ≤ most
+        → IfOk result (λ r. (x : Word) → is_among (names_in order.now r) x ≡ is_among (heads (assignments_at pool.old assignments.now)) x) }
+    ensures within { OnOk result (past_items out.new.items ≤ length pool.new) }
+    ensures kept { Keeps pool.old pool.new }
+{
+    let groups = grouped(alloc, &*pool, assignments)?;
+    let mut names = Bits::empty();
+    for number in 0..groups.len() {
+        let (name, group) = groups.get_index(number).unwrap();
+        setting(alloc, pool, order, assigned, after, name, group, out)?;
+        names = names.with_name(order, name);
+    }
+    Ok(names)
+}
