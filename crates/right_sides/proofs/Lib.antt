@@ -1,1 +1,5 @@
 -- Lemmas for the contracts of this crate.
+pub mod KeyLaws
+pub mod GroupLaws
+pub mod SideLaws
+pub mod StatementLaws

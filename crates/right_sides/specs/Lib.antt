@@ -4,3 +4,4 @@ pub mod Stays
 pub mod Keys
 pub mod Parts
 pub mod Groups
+pub mod Settings

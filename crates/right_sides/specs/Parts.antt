@@ -1,5 +1,5 @@
 -- What an EXCEPT is made of for assignments to one variable: those that are to parts of it.
-use Rattle.std.specs.Prelude.{List, [], ◌∷◌, ◌++◌}
+use Rattle.std.specs.Prelude.{◌≡◌, List, [], ◌∷◌, ◌++◌}
 use Rattle.std.specs.List.{flat_map}
 use Rattle.tla_token.specs.declared.place.Place.{Place}
 use Rattle.tla_tree.specs.Tree.{Slot, Tree, root_place}
@@ -7,6 +7,7 @@ use Rattle.tla_tree.specs.Pool.{at}
 use Rattle.pcal_tree.specs.declared.algorithm.Assignment.{Assignment}
 use Rattle.pcal_tree.specs.Algorithm.{Assignments, no_assignments, assignment}
 use Rattle.action_builder.specs.Written.{Key, keys_of, steps_of}
+use Rattle.action_builder.proofs.FitStatements.{SomeKeys}
 use Rattle.right_sides.specs.Keys.{left_keys, key_trees}
 
 -- a slot for a left side with keys, and none for a whole variable
@@ -33,14 +34,10 @@ all_parts_at ts ms = flat_map (parts_at ts) ms
 
 -- ---- what is asked of the assignments to one variable: where there are several, each is to a part
 
-abbrev pub HasKeys : List Key → Type 0
-HasKeys [] = ⊥
-HasKeys (k ∷ ks) = Unit {0}
-
 -- left sides with keys, all of them
 abbrev pub AreKeyed : Assignments → Type 0
 AreKeyed no_assignments = Unit {0}
-AreKeyed (assignment l e ms) = (left_keys l ≡ keys_of l) × HasKeys (keys_of l) × AreKeyed ms
+AreKeyed (assignment l e ms) = (left_keys l ≡ keys_of l) × SomeKeys (keys_of l) × AreKeyed ms
 
 abbrev pub IsPlain : Assignments → Type 0
 IsPlain no_assignments = Unit {0}

@@ -1,13 +1,17 @@
 //! The assignments of one statement, grouped by their variables.
 
-ghost use Rattle.std.specs.Prelude.{◌≡◌, ◌≤◌, max, length, IfOk, OnOk};
-ghost use Rattle.tla_tree.specs.Tree.{Tree};
+ghost use Rattle.std.specs.Prelude.{◌≡◌, ◌<◌, ◌≤◌, max, List, Some, length, slice_get, IfOk, OnOk};
+ghost use Rattle.tla_token.specs.Signs.{is_among};
+ghost use Rattle.tla_tree.specs.Tree.{Word, Tree};
 ghost use Rattle.tla_tree.specs.Pool.{at};
 ghost use Rattle.pcal_tree.specs.InMemory.{assignments_at, past_assignment};
-ghost use Rattle.right_sides.specs.Groups.{groups_at, grouped, with_group, past_all, past_groups};
+ghost use Rattle.name_bits.specs.NamesIn.{most, names_in};
+ghost use Rattle.right_sides.specs.Groups.{Group, groups_at, grouped, with_group, past_all, past_groups};
+ghost use Rattle.right_sides.specs.Settings.{names_of, AreKnown};
 
 use crate::keys::variable;
 use indexmap::IndexMap;
+use name_bits::{Bits, Order};
 use pcal_tree::algorithm::Assignment;
 use std::alloc::{AllocError, Global};
 use tla_pool::Pool;
@@ -57,4 +61,33 @@ pub fn grouped(
         add(alloc, &mut groups, name, Assignment { left, right })?;
     }
     Ok(groups)
+}
+
+/// The variable of a group.
+pub fn name_at(groups: &Groups, number: usize) -> &Name
+    requires { number < length groups.now.entries }
+    ensures { (g : Group) → slice_get groups.now.entries number ≡ Some g → result.now ≡ g.0 }
+{
+    let (name, _) = groups.get_index(number).unwrap();
+    name
+}
+
+/// The assignments of a group.
+pub fn group_at(groups: &Groups, number: usize) -> &[Assignment]
+    requires { number < length groups.now.entries }
+    ensures { (g : Group) → slice_get groups.now.entries number ≡ Some g → result.now ≡ g.1.items }
+{
+    let (_, group) = groups.get_index(number).unwrap();
+    group.as_slice()
+}
+
+/// The variables of groups, of an order that has them.
+pub fn variables(order: &Order, groups: &Groups) -> Bits
+    ensures { length order.now ≤ most → AreKnown order.now (names_of groups.now.entries) → (x : Word) → is_among (names_in order.now result) x ≡ is_among (names_of groups.now.entries) x }
+{
+    let mut names = Bits::empty();
+    for number in 0..groups.len() {
+        names = names.with_name(order, name_at(groups, number));
+    }
+    names
 }

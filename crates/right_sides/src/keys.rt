@@ -1,6 +1,6 @@
 //! Left sides of assignments: their variables, and the subscripts and fields behind these.
 
-ghost use Rattle.std.specs.Prelude.{◌≡◌, ◌<◌, ◌++◌, [], length, map, IfOk, OnOk, IfSome, IfNone};
+ghost use Rattle.std.specs.Prelude.{◌≡◌, ◌<◌, ◌++◌, [], length, map, IfOk, OnOk, IfSome, IfNone, None};
 ghost use Rattle.tla_tree.specs.Pool.{at, AllBelow};
 ghost use Rattle.tla_tree.specs.TreeOf.{root_form as form_at};
 ghost use Rattle.tla_pool.specs.FormOf.{steps_of as path_of};
@@ -8,7 +8,6 @@ ghost use Rattle.pcal_tree.specs.Paths.{root, root_form};
 ghost use Rattle.action_builder.specs.Assigned.{head_of};
 ghost use Rattle.action_builder.specs.Written.{steps_of};
 ghost use Rattle.right_sides.specs.Keys.{own_keys, left_keys, keys_along, key_trees};
-ghost use Rattle.std.specs.Prelude.{None};
 
 use std::alloc::{AllocError, Global};
 use tla_pool::Pool;

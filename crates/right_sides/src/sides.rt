@@ -1,6 +1,7 @@
 //! The right side that is written for a variable: what is assigned to it, or an `EXCEPT` with its parts.
 
-ghost use Rattle.std.specs.Prelude.{◌≡◌, ◌<◌, ◌≤◌, ◌++◌, ◌∷◌, [], length, map, IfOk, OnOk, MatchOption};
+ghost use Rattle.std.specs.Prelude.{◌≡◌, ◌<◌, ◌≤◌, ◌++◌, ◌∷◌, [], length, map, IfOk, OnOk, IfSome, MatchOption};
+ghost use Rattle.tla_tree.specs.Shapes.{HavePaths};
 ghost use Rattle.tla_tree.specs.Tree.{Tree, node, strict, except};
 ghost use Rattle.tla_tree.specs.TreeOf.{trees_from};
 ghost use Rattle.tla_tree.specs.Pool.{at, AllBelow, Keeps};
@@ -58,7 +59,8 @@ fn except(
     requires there { past_all group.now ≤ length pool.old }
     requires variable { whole < length pool.old }
     ensures tree { IfOk result (λ o. MatchOption o (slots_at pool.old group.now ≡ []) (λ r. at pool.new r ≡ node (strict (except (slots_at pool.old group.now))) place (trees_from (at pool.old whole ∷ all_parts_at pool.old group.now)))) }
-    ensures within { IfOk result (λ o. MatchOption o Unit (λ r. r < length pool.new)) }
+    ensures paths { IfOk result (λ o. IfSome o (λ r. HavePaths (slots_at pool.old group.now))) }
+    ensures within { IfOk result (λ o. IfSome o (λ r. r < length pool.new)) }
     ensures kept { Keeps pool.old pool.new }
 {
     let mut slots = Vec::new(alloc);

@@ -13,11 +13,12 @@ ghost use Rattle.action_builder.specs.Written.{onto, primed, side_of, settings_o
 ghost use Rattle.action_builder.specs.laws.Ready.{LeftSides};
 ghost use Rattle.action_builder.proofs.FitStatements.{InParts};
 ghost use Rattle.right_sides.specs.After.{after_tree, after_items, AfterIn};
-ghost use Rattle.right_sides.specs.Groups.{past_all};
+ghost use Rattle.right_sides.specs.Groups.{groups_at, past_all, past_groups};
 ghost use Rattle.right_sides.specs.Parts.{IsPlain};
+ghost use Rattle.right_sides.specs.Settings.{settings_in, ArePlain};
 
 use crate::after::{After, written};
-use crate::groups::grouped;
+use crate::groups::{Groups, group_at, grouped, name_at, variables};
 use crate::sides::side;
 use module_write::module::Item;
 use name_bits::{Bits, Order};
@@ -50,6 +51,31 @@ fn setting(
     Ok(())
 }
 
+// The settings of the variables of groups, onto items before them.
+fn group_settings(
+    alloc: Global,
+    pool: &mut Pool,
+    order: &Order,
+    assigned: &Bits,
+    after: &After,
+    groups: &Groups,
+    out: &mut Vec<Item>,
+) -> Result<(), AllocError>
+    requires there { past_groups groups.now.entries ≤ length pool.old }
+    requires put { AfterIn (length pool.old) after.now }
+    requires before { past_items out.old.items ≤ length pool.old }
+    ensures items { ArePlain (groups_at pool.old groups.now.entries) → OnOk result (items_at pool.new out.new.items ≡ onto (items_at pool.old out.old.items) (after_items pool.old after.now (settings_in (is_among (names_in order.now assigned.now)) (groups_at pool.old groups.now.entries)))) }
+    ensures within { OnOk result (past_items out.new.items ≤ length pool.new) }
+    ensures kept { Keeps pool.old pool.new }
+{
+    for number in 0..groups.len() {
+        let name = name_at(groups, number);
+        let group = group_at(groups, number);
+        setting(alloc, pool, order, assigned, after, name, group, out)?;
+    }
+    Ok(())
+}
+
 /// The settings that are written for the assignments of one statement, onto items before them: one for each variable, in the order
 /// of their first assignments. What is assigned already is read primed. Returns which variables are assigned here.
 ///
@@ -76,11 +102,6 @@ pub fn settings(
     ensures kept { Keeps pool.old pool.new }
 {
     let groups = grouped(alloc, &*pool, assignments)?;
-    let mut names = Bits::empty();
-    for number in 0..groups.len() {
-        let (name, group) = groups.get_index(number).unwrap();
-        setting(alloc, pool, order, assigned, after, name, group, out)?;
-        names = names.with_name(order, name);
-    }
-    Ok(names)
+    group_settings(alloc, pool, order, assigned, after, &groups, out)?;
+    Ok(variables(order, &groups))
 }
