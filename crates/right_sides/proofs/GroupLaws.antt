@@ -7,7 +7,6 @@ use Rattle.indexmap.specs.IndexMap.{insert_entry}
 use Rattle.tla_token.specs.Signs.{is_among}
 use Rattle.tla_tree.specs.Tree.{Word, Tree}
 use Rattle.tla_tree.specs.Pool.{at}
-use Rattle.tla_tree.specs.Nesting.{greatest}
 use Rattle.pcal_tree.specs.declared.algorithm.Assignment.{Assignment}
 use Rattle.pcal_tree.specs.Algorithm.{Assignments, no_assignments, assignment}
 use Rattle.pcal_tree.specs.InMemory.{assignments_at, past_assignment}

@@ -2,4 +2,5 @@
 pub mod KeyLaws
 pub mod GroupLaws
 pub mod SideLaws
+pub mod AfterLaws
 pub mod StatementLaws

@@ -1,16 +1,15 @@
 -- The parts of an EXCEPT, and the right side that is written for a variable.
-use Rattle.std.proofs.Common.{◌≡◌, ℕ, ◌+◌, ◌<◌, ◌≤◌, List, [], ◌∷◌, ◌++◌, length, map, get_or, take, nat_eq, true, false, Bool, cond, refl, sym, ap, ◌∙◌, subst, arith, append-nil, append_assoc, length-append, eqb-true}
-use Rattle.std.specs.List.{flat_map}
+use Rattle.std.proofs.Common.{◌≡◌, ℕ, ◌+◌, ◌<◌, ◌≤◌, List, [], ◌∷◌, ◌++◌, length, map, get_or, take, nat_eq, true, false, cond, refl, sym, ap, ◌∙◌, subst, arith, append-nil, append_assoc, length-append, eqb-true}
 use Rattle.std.proofs.lemmas.List.{take_more, take_all, map_push, length-map}
 use Rattle.std.proofs.lemmas.Grind.{flat_map-append}
 use Rattle.tla_token.specs.declared.place.Place.{Place}
 use Rattle.tla_token.specs.Places.{nowhere}
-use Rattle.tla_tree.specs.Tree.{Word, PathStep, Slot, except, name, strict, Tree, node, Trees, no_trees, tree, root_place}
+use Rattle.tla_tree.specs.Tree.{Word, Slot, except, name, strict, Tree, node, no_trees, tree, root_place}
 use Rattle.tla_tree.specs.TreeOf.{trees_from}
 use Rattle.tla_tree.specs.Shapes.{HasPath, HavePaths, settings}
 use Rattle.tla_tree.specs.Shapes as shape
-use Rattle.tla_tree.specs.Pool.{at, trees_at, AllBelow, Keeps}
-use Rattle.tla_tree.proofs.PoolNumbers.{AllBelow-push, past_at}
+use Rattle.tla_tree.specs.Pool.{at, AllBelow, Keeps}
+use Rattle.tla_tree.proofs.PoolNumbers.{past_at}
 use Rattle.pcal_tree.specs.declared.algorithm.Assignment.{Assignment}
 use Rattle.pcal_tree.specs.Algorithm.{no_assignments, assignment}
 use Rattle.pcal_tree.specs.InMemory.{assignments_at, past_assignment}

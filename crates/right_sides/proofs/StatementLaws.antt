@@ -1,19 +1,16 @@
 -- The settings of one statement, variable by variable, as the pool grows.
-use Rattle.std.proofs.Common.{◌≡◌, ℕ, zero, suc, ◌+◌, ◌<◌, ◌≤◌, max, List, [], ◌∷◌, ◌++◌, length, map, get_or, take, Bool, true, false, ◌||◌, cond, Option, Some, None, bytes_eq, refl, sym, ap, ◌∙◌, subst, arith, Vec, Global}
+use Rattle.std.proofs.Common.{◌≡◌, ℕ, zero, suc, ◌+◌, ◌<◌, ◌≤◌, List, [], ◌∷◌, ◌++◌, length, map, take, Bool, true, false, ◌||◌, cond, Some, bytes_eq, refl, sym, ap, ◌∙◌, subst, arith}
 use Rattle.std.specs.Prelude.{slice_get}
-use Rattle.std.specs.Option.{option_map}
 use Rattle.std.proofs.lemmas.List.{map_push, take_all}
 use Rattle.std.proofs.lemmas.List.Folds.{list_any-append}
 use Rattle.tla_token.specs.Signs.{is_among}
-use Rattle.tla_tree.specs.Tree.{Word, Tree, node, Trees, Graft}
+use Rattle.tla_tree.specs.Tree.{Word, Tree}
 use Rattle.tla_tree.specs.Pool.{at, Keeps}
-use Rattle.tla_tree.specs.Nesting.{greatest}
 use Rattle.tla_tree.proofs.PoolNumbers.{Keeps-then}
 use Rattle.module_tree.specs.Module.{setting, Items, no_items, item}
-use Rattle.module_tree.specs.Formulas.{self}
 use Rattle.module_write.specs.declared.«module».Item.{Item}
 use Rattle.module_write.specs.declared.«module».Item.TheVariants.{Setting}
-use Rattle.module_write.specs.InMemory.{items_from, item_at, items_at, past_item, past_items, MaybeIn}
+use Rattle.module_write.specs.InMemory.{items_at, past_item, past_items}
 use Rattle.module_write.proofs.ItemEquations.{setting_at, past_setting}
 use Rattle.module_write.proofs.InMemoryGrown.{items_at-kept}
 use Rattle.name_bits.specs.declared.bits.Bits.{Bits}
@@ -24,79 +21,19 @@ use Rattle.pcal_tree.specs.InMemory.{assignments_at}
 use Rattle.pcal_tree.proofs.InMemoryEach.{past_one_more}
 use Rattle.pcal_tree.proofs.InMemoryGrown.{assignments_at-kept}
 use Rattle.action_builder.specs.Assigned.{Names, head_of, heads}
-use Rattle.action_builder.specs.SingleProcess.{in_place_of, graft_item, graft_items}
-use Rattle.action_builder.specs.Written.{keys_of, own, side_of, primed, old_stack, onto, settings_of}
+use Rattle.action_builder.specs.Written.{keys_of, own, side_of, primed, onto, settings_of}
 use Rattle.action_builder.specs.laws.Ready.{LeftSides}
 use Rattle.action_builder.proofs.FitStatements.{SomeKeys, Beside, InParts}
 use Rattle.action_builder.proofs.Names.{one_in}
 use Rattle.right_sides.specs.declared.after.After.{After}
-use Rattle.right_sides.specs.After.{put_one, put_items, after_tree, after_items, AfterIn}
+use Rattle.right_sides.specs.After.{after_tree, after_items, AfterIn}
 use Rattle.right_sides.specs.Keys.{left_keys}
 use Rattle.right_sides.specs.Groups.{Group, groups_at, grouped, past_all, past_groups}
 use Rattle.right_sides.specs.Parts.{AreKeyed, IsPlain}
 use Rattle.right_sides.specs.Settings.{settings_in, ArePlain, names_of, AreKnown}
+use Rattle.right_sides.proofs.AfterLaws.{onto_nothing, onto_onto, items_last, after_onto, after_nothing, after_setting, after_tree-kept}
 use Rattle.right_sides.proofs.KeyLaws.{keys_left}
 use Rattle.right_sides.proofs.GroupLaws.{same_names, same_itself}
-
--- ---- lists of items
-
-pub onto_nothing : (is : Items) → onto is no_items ≡ is
-onto_nothing no_items = refl
-onto_nothing (item i is) = ap (item i) (onto_nothing is)
-
-pub onto_onto : (is js ks : Items) → onto (onto is js) ks ≡ onto is (onto js ks)
-onto_onto no_items js ks = refl
-onto_onto (item i is) js ks = ap (item i) (onto_onto is js ks)
-
-pub items_last : (ts : List Tree) (is : List Item) (i : Item) → items_at ts (is ++ i ∷ []) ≡ onto (items_at ts is) (item (item_at ts i) no_items)
-items_last ts [] i = refl
-items_last ts (k ∷ is) i = ap (item (item_at ts k)) (items_last ts is i)
-
--- ---- what is put in after that
-
-graft_onto : (g : Graft) (is js : Items) → graft_items g (onto is js) ≡ onto (graft_items g is) (graft_items g js)
-graft_onto g no_items js = refl
-graft_onto g (item i is) js = ap (item (graft_item g i)) (graft_onto g is js)
-
-put_onto : (x : Word) (o : Option Tree) (is js : Items) → put_items x o (onto is js) ≡ onto (put_items x o is) (put_items x o js)
-put_onto x None is js = refl
-put_onto x (Some e) is js = graft_onto (in_place_of x e) is js
-
-put_nothing : (x : Word) (o : Option Tree) → put_items x o no_items ≡ no_items
-put_nothing x None = refl
-put_nothing x (Some e) = refl
-
-put_setting : (x : Word) (o : Option Tree) (y : Word) (t : Tree) → put_items x o (item (setting y t) no_items) ≡ item (setting y (put_one x o t)) no_items
-put_setting x None y t = refl
-put_setting x (Some e) y t = refl
-
-module _ (ts : List Tree) (a : After) where
-  pub after_onto : (is js : Items) → after_items ts a (onto is js) ≡ onto (after_items ts a is) (after_items ts a js)
-  after_onto is js = ap (put_items self (option_map (at ts) a.single)) (put_onto old_stack (option_map (at ts) a.old) is js) ∙ put_onto self (option_map (at ts) a.single) (put_items old_stack (option_map (at ts) a.old) is) (put_items old_stack (option_map (at ts) a.old) js)
-
-  pub after_nothing : after_items ts a no_items ≡ no_items
-  after_nothing = ap (put_items self (option_map (at ts) a.single)) (put_nothing old_stack (option_map (at ts) a.old)) ∙ put_nothing self (option_map (at ts) a.single)
-
-  pub after_setting : (y : Word) (t : Tree) → after_items ts a (item (setting y t) no_items) ≡ item (setting y (after_tree ts a t)) no_items
-  after_setting y t =
-      ap (put_items self (option_map (at ts) a.single)) (put_setting old_stack (option_map (at ts) a.old) y t) ∙ put_setting self (option_map (at ts) a.single) y (put_one old_stack (option_map (at ts) a.old) t)
-
-maybe_kept : (ts us : List Tree) → Keeps ts us → (o : Option ℕ) → MaybeIn (length ts) o → option_map (at us) o ≡ option_map (at ts) o
-maybe_kept ts us k None h = refl
-maybe_kept ts us k (Some e) h = ap Some (k.same e h)
-
-maybe_more : (m n : ℕ) (o : Option ℕ) → m ≤ n → MaybeIn m o → MaybeIn n o
-maybe_more m n None le h = tt
-maybe_more m n (Some e) le h = omega (arith, le, h)
-
-pub after_tree-kept : (ts us : List Tree) → Keeps ts us → (a : After) → AfterIn (length ts) a → (t : Tree) → after_tree us a t ≡ after_tree ts a t
-after_tree-kept ts us k a h t = λ j. put_one self (maybe_kept ts us k a.single h.single j) (put_one old_stack (maybe_kept ts us k a.old h.old j) t)
-
-pub after_items-kept : (ts us : List Tree) → Keeps ts us → (a : After) → AfterIn (length ts) a → (is : Items) → after_items us a is ≡ after_items ts a is
-after_items-kept ts us k a h is = λ j. put_items self (maybe_kept ts us k a.single h.single j) (put_items old_stack (maybe_kept ts us k a.old h.old j) is)
-
-pub AfterIn-more : (m n : ℕ) (a : After) → m ≤ n → AfterIn m a → AfterIn n a
-AfterIn-more m n a le h = record { old = maybe_more m n a.old le h.old; single = maybe_more m n a.single le h.single }
 
 -- ---- one setting
 
@@ -162,16 +99,16 @@ set_more old ts us before out others A a gs i x ms h less past put name list kee
     record {
       kept = Keeps-then old ts us h.kept keeps;
       items = λ plain.
-        let parts = plain_parts (groups_at old (take i gs)) (g.0, assignments_at old g.1.items) (subst ArePlain next plain) in
-        let all = settings_in A (groups_at old (take i gs)) in
-        let last : Tree = primed A (side_of g.0 (assignments_at old g.1.items)) in
-        said (subst IsPlain (sym same) parts.1)
-        ∙ (λ j. onto (h.items parts.0 j) (item (setting (name g w.1 j) (after_tree ts a (primed A (side_of (name g w.1 j) (same j))))) no_items))
-        ∙ ap (λ t. onto (onto (items_at old before) (after_items old a all)) (item (setting g.0 t) no_items)) (after_tree-kept old ts h.kept a put last)
-        ∙ ap (onto (onto (items_at old before) (after_items old a all))) (sym (after_setting old a g.0 last))
-        ∙ onto_onto (items_at old before) (after_items old a all) (after_items old a (item (setting g.0 last) no_items))
-        ∙ ap (onto (items_at old before)) (sym (after_onto old a all (item (setting g.0 last) no_items)))
-        ∙ ap (λ (is : Items). onto (items_at old before) (after_items old a is)) (sym (ap (settings_in A) next ∙ settings_last A (groups_at old (take i gs)) (g.0, assignments_at old g.1.items)));
+          let parts = plain_parts (groups_at old (take i gs)) (g.0, assignments_at old g.1.items) (subst ArePlain next plain) in
+          let all = settings_in A (groups_at old (take i gs)) in
+          let last : Tree = primed A (side_of g.0 (assignments_at old g.1.items)) in
+          said (subst IsPlain (sym same) parts.1)
+          ∙ (λ j. onto (h.items parts.0 j) (item (setting (name g w.1 j) (after_tree ts a (primed A (side_of (name g w.1 j) (same j))))) no_items))
+          ∙ ap (λ t. onto (onto (items_at old before) (after_items old a all)) (item (setting g.0 t) no_items)) (after_tree-kept old ts h.kept a put last)
+          ∙ ap (onto (onto (items_at old before) (after_items old a all))) (sym (after_setting old a g.0 last))
+          ∙ onto_onto (items_at old before) (after_items old a all) (after_items old a (item (setting g.0 last) no_items))
+          ∙ ap (onto (items_at old before)) (sym (after_onto old a all (item (setting g.0 last) no_items)))
+          ∙ ap (λ (is : Items). onto (items_at old before) (after_items old a is)) (sym (ap (settings_in A) next ∙ settings_last A (groups_at old (take i gs)) (g.0, assignments_at old g.1.items)));
       within = within;
     }
 

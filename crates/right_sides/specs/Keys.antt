@@ -1,6 +1,6 @@
 -- The subscripts and fields of a left side, node by node from the outermost one in ("A PlusCal User's Manual", section 3.2.1).
 use Rattle.std.specs.Prelude.{ℕ, List, [], ◌∷◌, ◌++◌}
-use Rattle.tla_tree.specs.Tree.{apply, select, Form, strict, Tree, node, Trees, no_trees, tree}
+use Rattle.tla_tree.specs.Tree.{apply, select, strict, Tree, node, Trees, no_trees, tree}
 use Rattle.tla_tree.specs.Pool.{at}
 use Rattle.action_builder.specs.Written.{Key, sub, fixed, subs}
 

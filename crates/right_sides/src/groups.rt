@@ -21,12 +21,7 @@ use tla_tree::Name;
 pub type Groups = IndexMap<Name, Vec<Assignment>>;
 
 // One more assignment, to this variable.
-fn add(
-    alloc: Global,
-    groups: &mut Groups,
-    name: Name,
-    one: Assignment,
-) -> Result<(), AllocError>
+fn add(alloc: Global, groups: &mut Groups, name: Name, one: Assignment) -> Result<(), AllocError>
     ensures groups { (ts : List Tree) → OnOk result (groups_at ts groups.new.entries ≡ with_group (groups_at ts groups.old.entries) name (at ts one.left) (at ts one.right)) }
     ensures past { OnOk result (past_groups groups.new.entries ≤ max (past_groups groups.old.entries) (past_assignment one)) }
 {
@@ -45,18 +40,14 @@ fn add(
 /// # Errors
 ///
 /// Only for want of memory.
-pub fn grouped(
-    alloc: Global,
-    pool: &Pool,
-    assignments: &[Assignment],
-) -> Result<Groups, AllocError>
+pub fn grouped(alloc: Global, pool: &Pool, assignments: &[Assignment]) -> Result<Groups, AllocError>
     requires { past_all assignments.now ≤ length pool.now }
     ensures groups { IfOk result (λ r. groups_at pool.now r.entries ≡ grouped (assignments_at pool.now assignments.now)) }
     ensures within { IfOk result (λ r. past_groups r.entries ≤ length pool.now) }
 {
     let mut groups = IndexMap::new(alloc);
-    for i in 0..assignments.len() {
-        let Assignment { left, right } = assignments[i];
+    for one in assignments {
+        let Assignment { left, right } = *one;
         let name = variable(alloc, pool, left)?;
         add(alloc, &mut groups, name, Assignment { left, right })?;
     }

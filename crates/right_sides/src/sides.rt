@@ -40,11 +40,8 @@ fn add_slot(
         return Ok(());
     }
     parts.push(one.right)?;
-    let node = pool.node(one.left);
-    slots.push(Slot {
-        path,
-        place: node.place,
-    })?;
+    let place = pool.node(one.left).place;
+    slots.push(Slot { path, place })?;
     Ok(())
 }
 
@@ -66,8 +63,8 @@ fn except(
     let mut slots = Vec::new(alloc);
     let mut parts = Vec::new(alloc);
     parts.push(whole)?;
-    for i in 0..group.len() {
-        add_slot(alloc, &*pool, &group[i], &mut slots, &mut parts)?;
+    for one in group {
+        add_slot(alloc, &*pool, one, &mut slots, &mut parts)?;
     }
     if slots.is_empty() {
         return Ok(None);
@@ -92,15 +89,15 @@ pub fn side(
     ensures within { IfOk result (λ r. r < length pool.new) }
     ensures kept { Keeps pool.old pool.new }
 {
-    if group.len() == 0 {
+    if group.is_empty() {
         return named(alloc, pool, name.copied()?);
     }
-    let Assignment { left, right } = group[0];
-    let node = pool.node(left);
+    let first = &group[0];
+    let node = pool.node(first.left);
     let place = node.place;
     let whole = pool.put(Form::Name(name.copied()?), place, Vec::new(alloc))?;
     match except(alloc, pool, whole, place, group)? {
         Some(made) => Ok(made),
-        None => Ok(right),
+        None => Ok(first.right),
     }
 }

@@ -1,20 +1,19 @@
 //! The settings that are written for the assignments of one statement.
 
-ghost use Rattle.std.specs.Prelude.{◌≡◌, ◌≤◌, length, map, IfOk, OnOk};
+ghost use Rattle.std.specs.Prelude.{◌≡◌, ◌≤◌, length, IfOk, OnOk};
 ghost use Rattle.tla_token.specs.Signs.{is_among};
 ghost use Rattle.tla_tree.specs.Tree.{Word};
-ghost use Rattle.tla_tree.specs.Pool.{at, Keeps};
-ghost use Rattle.module_tree.specs.Module.{setting, item, no_items};
+ghost use Rattle.tla_tree.specs.Pool.{Keeps};
+ghost use Rattle.module_tree.specs.Module.{no_items};
 ghost use Rattle.pcal_tree.specs.InMemory.{assignments_at};
 ghost use Rattle.name_bits.specs.NamesIn.{names_in, most};
 ghost use Rattle.module_write.specs.InMemory.{items_at, past_items};
 ghost use Rattle.action_builder.specs.Assigned.{heads};
-ghost use Rattle.action_builder.specs.Written.{onto, primed, side_of, settings_of};
+ghost use Rattle.action_builder.specs.Written.{onto, settings_of};
 ghost use Rattle.action_builder.specs.laws.Ready.{LeftSides};
 ghost use Rattle.action_builder.proofs.FitStatements.{InParts};
-ghost use Rattle.right_sides.specs.After.{after_tree, after_items, AfterIn};
+ghost use Rattle.right_sides.specs.After.{after_items, AfterIn};
 ghost use Rattle.right_sides.specs.Groups.{groups_at, past_all, past_groups};
-ghost use Rattle.right_sides.specs.Parts.{IsPlain};
 ghost use Rattle.right_sides.specs.Settings.{settings_in, ArePlain};
 
 use crate::after::{After, written};
@@ -25,31 +24,6 @@ use name_bits::{Bits, Order};
 use pcal_tree::algorithm::Assignment;
 use std::alloc::{AllocError, Global};
 use tla_pool::Pool;
-use tla_tree::Name;
-
-// The setting of a variable with these assignments, onto items before it.
-fn setting(
-    alloc: Global,
-    pool: &mut Pool,
-    order: &Order,
-    assigned: &Bits,
-    after: &After,
-    name: &Name,
-    group: &[Assignment],
-    out: &mut Vec<Item>,
-) -> Result<(), AllocError>
-    requires there { past_all group.now ≤ length pool.old }
-    requires put { AfterIn (length pool.old) after.now }
-    requires before { past_items out.old.items ≤ length pool.old }
-    ensures items { IsPlain (assignments_at pool.old group.now) → OnOk result (items_at pool.new out.new.items ≡ onto (items_at pool.old out.old.items) (item (setting name.now (after_tree pool.old after.now (primed (is_among (names_in order.now assigned.now)) (side_of name.now (assignments_at pool.old group.now))))) no_items)) }
-    ensures within { OnOk result (past_items out.new.items ≤ length pool.new) }
-    ensures kept { Keeps pool.old pool.new }
-{
-    let right = side(alloc, pool, name, group)?;
-    let made = written(alloc, pool, order, assigned, after, right)?;
-    out.push(Item::Setting(name.copied()?, made))?;
-    Ok(())
-}
 
 // The settings of the variables of groups, onto items before them.
 fn group_settings(
@@ -70,8 +44,9 @@ fn group_settings(
 {
     for number in 0..groups.len() {
         let name = name_at(groups, number);
-        let group = group_at(groups, number);
-        setting(alloc, pool, order, assigned, after, name, group, out)?;
+        let right = side(alloc, pool, name, group_at(groups, number))?;
+        let made = written(alloc, pool, order, assigned, after, right)?;
+        out.push(Item::Setting(name.copied()?, made))?;
     }
     Ok(())
 }

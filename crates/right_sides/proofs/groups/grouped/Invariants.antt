@@ -3,5 +3,5 @@ use Rattle.std.proofs.Common.{take}
 use Rattle.right_sides.proofs.GroupLaws.{GroupedTo}
 use Rattle.right_sides.proofs.groups.grouped.Given as goal
 
-abbrev pub invariant-loop-i : goal.invariant-loop-i
-invariant-loop-i l = GroupedTo l.pool l.groups.entries (take l.i l.assignments)
+abbrev pub invariant-loop-one : goal.invariant-loop-one
+invariant-loop-one l = GroupedTo l.pool l.groups.entries (take l.one-index l.assignments)

@@ -1,5 +1,5 @@
 -- Proves that a right side goes behind its subscripts.
-use Rattle.std.proofs.Common.{List, ℕ, length, sym, subst, ◌∙◌, arith}
+use Rattle.std.proofs.Common.{length, sym, subst, ◌∙◌, arith}
 use Rattle.tla_tree.specs.Pool.{at, AllBelow}
 use Rattle.tla_tree.proofs.PoolNumbers.{AllBelow-push}
 use Rattle.right_sides.specs.Keys.{left_keys}

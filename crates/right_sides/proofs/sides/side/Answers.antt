@@ -1,5 +1,5 @@
 -- Proves that the right side is what is assigned, or an EXCEPT.
-use Rattle.std.proofs.Common.{ℕ, [], ◌∷◌, ◌≡◌, ◌<◌, Option, slice_index_or, length, sym, ap, subst, ◌∙◌, arith, MatchOption, IfSome}
+use Rattle.std.proofs.Common.{ℕ, [], ◌∷◌, ◌≡◌, ◌<◌, Option, slice_index_or, length, sym, ap, subst, ◌∙◌, arith, false-eqb, MatchOption, IfSome}
 use Rattle.std.proofs.lemmas.List.{get_or_default}
 use Rattle.tla_tree.specs.Tree.{Word, node, name, root_place}
 use Rattle.tla_tree.specs.Pool.{Entry, at, trees_at}
@@ -20,7 +20,7 @@ returns-in-Some-clause-tree c = λ plain.
     let us = c.put.new.self in
     let ms = c.args.group.now in
     let m = slice_index_or ms 0 unset in
-    let some : 0 < length ms = omega (arith, c.if-group-eq0.false) in
+    let some : 0 < length ms = (let one = false-eqb (length ms) 0 c.if-is_empty.ensures in omega (arith, one)) in
     let place = ap root_place c.node-node.ensures.tree ∙ ap (λ (n : Entry). n.place) (sym c.node.view_is) in
     let whole = c.in_ok-whole.ensures.tree ∙ (λ j. node (name (c.in_ok-copied-2.ensures j)) c.node.inside.place (trees_at ts (c.new.ensures.items j))) in
     let made = c.in_ok-made.ensures in
@@ -34,7 +34,7 @@ returns-in-None-clause-tree c = λ plain.
     let us = c.put.new.self in
     let ms = c.args.group.now in
     let m = slice_index_or ms 0 unset in
-    let some : 0 < length ms = omega (arith, c.if-group-eq0.false) in
+    let some : 0 < length ms = (let one = false-eqb (length ms) 0 c.if-is_empty.ensures in omega (arith, one)) in
     let made = c.in_ok-made.ensures in
     side_right ts us c.except.new.pool c.in_ok-whole.ensures.kept made.kept c.args.name.now ms m c.requires (get_or_default ms 0 unset m some) some plain
     (subst (λ (o : Option ℕ). MatchOption o (slots_at us ms ≡ []) (λ r. at c.except.new.pool r ≡ node (pure.strict (pure.except (slots_at us ms))) c.node.inside.place (trees_from (at us c.in_ok-whole.whole ∷ all_parts_at us ms)))) c.in-None.is made.tree)

@@ -1,7 +1,6 @@
 -- Proves that the settings of a statement are those of its groups.
 use Rattle.std.proofs.Common.{ap, ◌∙◌}
 use Rattle.tla_token.specs.Signs.{is_among}
-use Rattle.tla_tree.specs.Pool.{at}
 use Rattle.module_tree.specs.Module.{Items}
 use Rattle.module_write.specs.InMemory.{items_at}
 use Rattle.name_bits.specs.NamesIn.{names_in}
