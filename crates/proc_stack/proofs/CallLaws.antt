@@ -7,7 +7,7 @@ use Rattle.tla_tree.specs.Pool.{at, trees_at, Keeps}
 use Rattle.tla_tree.proofs.PoolNumbers.{map_at-kept}
 use Rattle.pcal_tree.specs.declared.algorithm.Procedure.{Procedure as Called}
 use Rattle.pcal_tree.specs.Algorithm.{nowhere, Declaration, Routine, locals, procedure_routine, Assignments, no_assignments, assignment, Naming, Statements, assign, then}
-use Rattle.pcal_tree.specs.InMemory.{declaration_at, declarations_at, procedure_at, past_numbers, past_declaration, past_procedure}
+use Rattle.pcal_tree.specs.InMemory.{declaration_at, procedure_at, past_numbers, past_declaration, past_procedure}
 use Rattle.pcal_tree.proofs.InMemoryEach.{past_all_below}
 use Rattle.pcal_tree.proofs.InMemoryGrown.{each_kept}
 use Rattle.pcal_tree.specs.Program.{Program}
@@ -21,7 +21,7 @@ use Rattle.draft.proofs.NameLaws.{words_declared, both_declared}
 use Rattle.proc_stack.specs.Moves.{in_order}
 use Rattle.proc_stack.specs.Pieces.{frame_tree, first_of, selected, value_kept, frame_for, pushed, joined, field_sides, arguments_sides, entry, variable_move, entered}
 use Rattle.proc_stack.proofs.MadeLaws.{declaration_kept}
-use Rattle.proc_stack.proofs.PieceLaws.{joined_both, others_are, arguments_are, names_kept, fields_kept, frame_is, in_front, order_both, variables_are}
+use Rattle.proc_stack.proofs.PieceLaws.{others_are, arguments_are, names_kept, fields_kept, frame_is, in_front, order_both, variables_are}
 
 -- a procedure in memory, by its names in a program
 module _ (P : Program) (q : ℕ) (ts : List Tree) (p : Called) (N : Naming) (named : N ≡ P.naming) where
@@ -103,7 +103,7 @@ module _ (P : Program) (q : ℕ) (ts : List Tree) (p : Called) (N : Naming) (nam
         let b = nat_eq u.number q in
         let first = entered N q ts p (selected (first_of stack) pc) (cond b (Some (first_of stack)) None) (stack_rest nowhere) (map (at ts) es) in
         let behind : Assignments → Statements = λ (m : Assignments). then (spot nowhere) (assign (assignment (name_at nowhere stack) (pushed_on P routine nowhere (selected (first_of stack) pc) (values_kept P u routine nowhere nowhere) (stack_rest nowhere)) (arguments_assigned (written_all P routine routine.params) (trees_at ts es))))
-            (variables_written P routine (λ d. nowhere) (λ d. initial_tree P routine d.start) routine.variables (then (spot nowhere) (assign m) (in_order (jump ∷ [])))) in
+        (variables_written P routine (λ d. nowhere) (λ d. initial_tree P routine d.start) routine.variables (then (spot nowhere) (assign m) (in_order (jump ∷ [])))) in
         ap in_order (e ∙ (λ j. paired (sym number j) (map (at ts) es)) ∙ append_assoc first (others u.number ∷ []) (jump ∷ []))
         ∙ entered_is (selected (first_of stack) pc) (cond b (Some (first_of stack)) None) (values_kept P u routine nowhere nowhere) (stack_rest nowhere) (map (at ts) es) (kept_by b refl) (others u.number ∷ jump ∷ [])
         ∙ ap behind (others_are_restored b)

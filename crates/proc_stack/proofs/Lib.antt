@@ -1,5 +1,5 @@
 -- Lemmas for the contracts of this crate.
 pub mod MadeLaws
-mod PieceLaws
+pub mod PieceLaws
 mod CallLaws
 mod ArgumentLaws

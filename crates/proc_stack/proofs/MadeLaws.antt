@@ -1,5 +1,5 @@
 -- What is made in memory behind what was there, as the pool grows.
-use Rattle.std.proofs.Common.{◌≡◌, ℕ, ◌+◌, ◌<◌, ◌≤◌, max, List, [], ◌∷◌, ◌++◌, length, map, take, get_or, Option, Some, None, option_map, refl, sym, ap, subst, ◌∙◌, append_assoc, arith}
+use Rattle.std.proofs.Common.{◌≡◌, ℕ, ◌+◌, ◌<◌, ◌≤◌, max, List, [], ◌∷◌, ◌++◌, length, map, take, get_or, Vec, Global, Option, Some, None, option_map, refl, sym, ap, ◌∙◌, append_assoc, arith}
 use Rattle.std.proofs.lemmas.List.{map-append, map_push, take_more, take_all}
 use Rattle.tla_tree.specs.Tree.{Tree}
 use Rattle.tla_tree.specs.Pool.{at, Keeps}
@@ -10,8 +10,8 @@ use Rattle.pcal_tree.specs.declared.algorithm.Declaration.{Declaration as Kept}
 use Rattle.pcal_tree.specs.Algorithm.{no_assignments, assignment}
 use Rattle.pcal_tree.specs.InMemory.{assignments_at, declaration_at, past_number, past_assignment, past_declaration}
 use Rattle.pcal_tree.proofs.InMemoryGrown.{each_kept, assignments_at-kept, start_at-kept}
-use Rattle.proc_stack.specs.Moves.{move_at, past_sides, past_move}
-use Rattle.proc_stack.specs.Made.{Adds, sides_at, AddsSides}
+use Rattle.proc_stack.specs.Moves.{move_at, moves_at, past_move, past_moves}
+use Rattle.proc_stack.specs.Made.{Adds, sides_at}
 use Rattle.proc_stack.specs.Pieces.{joined}
 
 -- what a member stands for stays as the pool grows
@@ -26,6 +26,9 @@ sides_grow ts us k m h = λ j. assignment (k.same m.left (omega (arith, h)) j) (
 
 pub moves_grow : Grows past_move move_at
 moves_grow ts us k m h = assignments_at-kept ts us k m.items h
+
+pub moves_at-kept : (ts us : List Tree) → Keeps ts us → (ms : List (Vec Assignment Global)) → past_moves ms ≤ length ts → moves_at us ms ≡ moves_at ts ms
+moves_at-kept ts us k ms h = each_kept ts us k (move_at us) (move_at ts) past_move (moves_grow ts us k) ms h
 
 append_none : {A : Type 0} (xs : List A) → xs ++ [] ≡ xs
 append_none [] = refl
@@ -50,9 +53,9 @@ module _ {A B : Type 0} (past : A → ℕ) (f : List Tree → A → B) where
     made = g.made ++ h.made;
     behind = h.behind ∙ ap (λ (l : List A). l ++ h.made) g.behind ∙ append_assoc xs g.made h.made;
     within = (
-      let all = ap greatest (map-append past g.made h.made) ∙ greatest_both (map past g.made) (map past h.made) in
-      omega (arith, all, g.within, h.within, k.longer)
-    );
+        let all = ap greatest (map-append past g.made h.made) ∙ greatest_both (map past g.made) (map past h.made) in
+        omega (arith, all, g.within, h.within, k.longer)
+        );
     stand =
         map-append (f us) g.made h.made
         ∙ (λ j. (each_kept ts us k (f us) (f ts) past (grows ts us k) g.made g.within ∙ g.stand) j ++ h.stand j);
@@ -83,9 +86,9 @@ module _ {A B : Type 0} (past : A → ℕ) (f : List Tree → A → B) where
   -- behind nothing
   pub made_within : (ts : List Tree) (xs ys : List A) (these : List B) → xs ≡ [] → Adds past f ts xs ys these → greatest (map past ys) ≤ length ts
   made_within ts xs ys these none g = (
-    let all = ap (λ (l : List A). greatest (map past l)) (g.behind ∙ ap (λ (l : List A). l ++ g.made) none) in
-    omega (arith, all, g.within)
-  )
+      let all = ap (λ (l : List A). greatest (map past l)) (g.behind ∙ ap (λ (l : List A). l ++ g.made) none) in
+      omega (arith, all, g.within)
+      )
 
   pub made_stand : (ts : List Tree) (xs ys : List A) (these : List B) → xs ≡ [] → Adds past f ts xs ys these → map (f ts) ys ≡ these
   made_stand ts xs ys these none g = ap (map (f ts)) (g.behind ∙ ap (λ (l : List A). l ++ g.made) none) ∙ g.stand

@@ -1,13 +1,13 @@
 -- Assignments of jumps, calls and returns by their pieces.
 use Rattle.std.proofs.Common.{◌≡◌, ℕ, List, [], ◌∷◌, ◌++◌, map, Some, None, Option, refl, sym, ap, ◌∙◌}
 use Rattle.tla_token.specs.Signs.{is_among}
-use Rattle.tla_tree.specs.Tree.{Word, strict, fields, Tree, node, Trees, tree, graft}
+use Rattle.tla_tree.specs.Tree.{Word, Tree, Trees, tree, graft}
 use Rattle.tla_tree.specs.TreeOf.{trees_from}
-use Rattle.pcal_tree.specs.Algorithm.{nowhere, Start, unset, equals, among, Declaration, Routine, locals, Assignments, no_assignments, assignment, Naming, Statements, assign, done, then}
+use Rattle.pcal_tree.specs.Algorithm.{nowhere, Start, unset, equals, among, Declaration, Routine, locals, Assignments, no_assignments, assignment, Naming, Statements, assign, then}
 use Rattle.pcal_tree.specs.Program.{Program}
-use Rattle.pcal_tree.specs.Variables.{pc, stack, declared, written_all}
+use Rattle.pcal_tree.specs.Variables.{pc, stack, declared}
 use Rattle.prime_subst.specs.Readers.{renames_of}
-use Rattle.action_builder.specs.Jumps.{name_at, text_at, one_assignment, kept_field, stack_rest, fields_restored, return_assignments, names_at, kept_fields, fields_of, arguments_assigned, pushed_on, variables_written, spot}
+use Rattle.action_builder.specs.Jumps.{name_at, one_assignment, kept_field, stack_rest, fields_restored, return_assignments, names_at, kept_fields, fields_of, arguments_assigned, pushed_on, variables_written, spot}
 use Rattle.action_builder.specs.LabelActions.{initial_tree}
 use Rattle.proc_stack.specs.Made.{Sides}
 use Rattle.proc_stack.specs.Moves.{in_order}

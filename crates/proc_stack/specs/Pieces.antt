@@ -8,7 +8,7 @@ use Rattle.tla_tree.specs.TreeOf.{trees_from}
 use Rattle.module_tree.specs.Formulas.{unset_value}
 use Rattle.pcal_tree.specs.declared.algorithm.Procedure.{Procedure as Called}
 use Rattle.pcal_tree.specs.InMemory.{declaration_at}
-use Rattle.pcal_tree.specs.Algorithm.{nowhere, Start, equals, Declaration, Routine, locals, Assignments, no_assignments, assignment, Naming}
+use Rattle.pcal_tree.specs.Algorithm.{nowhere, Start, equals, Declaration, Routine, Assignments, no_assignments, assignment, Naming}
 use Rattle.pcal_tree.specs.Program.{Program}
 use Rattle.pcal_tree.specs.Calls.{frame_fields}
 use Rattle.pcal_tree.specs.Variables.{stack, pc}

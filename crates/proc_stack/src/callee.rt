@@ -43,7 +43,7 @@ pub fn local_names(alloc: Global, procedure: &Procedure) -> Result<NameList, All
 
 /// Names of a routine's parameters and variables, with what they are written by.
 #[derive(Clone, Copy)]
-pub struct Locals<'a> {
+pub(crate) struct Locals<'a> {
     /// The number of the routine.
     pub unit: usize,
     /// The names, as they stand in the text.

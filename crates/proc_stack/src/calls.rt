@@ -234,7 +234,14 @@ fn add_entry(
         names: names.as_slice(),
         naming: draft.naming,
     };
-    let first = entry(alloc, pool, &locals, saved, &callee.procedure.params, arguments)?;
+    let first = entry(
+        alloc,
+        pool,
+        &locals,
+        saved,
+        &callee.procedure.params,
+        arguments,
+    )?;
     out.push(first)?;
     add_starts(alloc, pool, &locals, &callee.procedure.variables, out)
 }
@@ -242,11 +249,7 @@ fn add_entry(
 // ---- what comes after
 
 // The written name of a procedure's first label.
-fn first_label(
-    alloc: Global,
-    draft: &Draft<'_>,
-    callee: &Callee<'_>,
-) -> Result<Name, AllocError>
+fn first_label(alloc: Global, draft: &Draft<'_>, callee: &Callee<'_>) -> Result<Name, AllocError>
     ensures { IfOk result (λ r. (P : Program) (ts : List Tree) → naming_of draft.now.naming.now ≡ P.naming → let p = procedure_routine callee.now.number (procedure_at ts callee.now.procedure.now) in r ≡ label_name P p (first_label_of p)) }
 {
     draft.first_label(alloc, callee.number, &callee.procedure.body, b"Error")
@@ -267,23 +270,7 @@ fn add_jump(
     Ok(())
 }
 
-// Adds what a return restores where another procedure is called: `x := Head(st).x`, st being the stack as it was.
-fn add_others(
-    alloc: Global,
-    pool: &mut Pool,
-    locals: &Locals<'_>,
-    itself: bool,
-    out: &mut Vec<Vec<Assignment>>,
-) -> Result<(), AllocError>
-    ensures made { OnOk result (AddsMoves pool.new out.old.items out.new.items (cond itself no_assignments (joined (map (field_sides ((naming_of locals.now.naming.now).local locals.now.unit) (first_of old_stack)) locals.now.names.now) no_assignments) ∷ [])) }
-    ensures kept { Keeps pool.old pool.new }
-{
-    let sides = others(alloc, pool, locals, itself)?;
-    out.push(sides)?;
-    Ok(())
-}
-
-// The same, by itself.
+// What a return restores where another procedure is called: `x := Head(st).x`, st being the stack as it was; else nothing.
 fn others(
     alloc: Global,
     pool: &mut Pool,
@@ -303,6 +290,22 @@ fn others(
     Ok(sides)
 }
 
+// Adds that as an assignment of its own.
+fn add_others(
+    alloc: Global,
+    pool: &mut Pool,
+    locals: &Locals<'_>,
+    itself: bool,
+    out: &mut Vec<Vec<Assignment>>,
+) -> Result<(), AllocError>
+    ensures made { OnOk result (AddsMoves pool.new out.old.items out.new.items (cond itself no_assignments (joined (map (field_sides ((naming_of locals.now.naming.now).local locals.now.unit) (first_of old_stack)) locals.now.names.now) no_assignments) ∷ [])) }
+    ensures kept { Keeps pool.old pool.new }
+{
+    let sides = others(alloc, pool, locals, itself)?;
+    out.push(sides)?;
+    Ok(())
+}
+
 // ---- calls
 
 /// The assignments of a call of a procedure with these arguments, which goes back to the label of this written name: the stack and the
@@ -310,7 +313,7 @@ fn others(
 ///
 /// # Errors
 ///
-/// Only for want of memory.
+/// Only for want of memory; the pool may then have more nodes than before.
 pub fn call_moves(
     alloc: Global,
     pool: &mut Pool,
@@ -339,7 +342,7 @@ pub fn call_moves(
 ///
 /// # Errors
 ///
-/// Only for want of memory.
+/// Only for want of memory; the pool may then have more nodes than before.
 pub fn call_return_moves(
     alloc: Global,
     pool: &mut Pool,

@@ -13,16 +13,13 @@ ghost use Rattle.proc_stack.specs.Made.{AddsTrees};
 ghost use Rattle.proc_stack.specs.Pieces.{frame_tree, value_kept, fields_for, parts_for, frame_for};
 
 use crate::callee::{Callee, Locals, local_names};
-use crate::pieces::{field, text, word};
+use crate::pieces::{NOWHERE, field, text, word};
 use draft::Draft;
 use module_write::formulas::named;
 use std::alloc::{AllocError, Global};
 use tla_pool::Pool;
 use tla_pool::form::{Form, Strict};
-use tla_token::Place;
 use tla_tree::{Name, NameList, NodeId};
-
-const NOWHERE: Place = Place { line: 0, col: 0 };
 
 // Adds the written names of these names.
 fn add_written(locals: &Locals<'_>, into: &mut NameList) -> Result<(), AllocError>
@@ -111,8 +108,8 @@ fn add_values(
 ///
 /// # Errors
 ///
-/// Only for want of memory.
-pub fn frame_from(
+/// Only for want of memory; the pool may then have more nodes than before.
+pub(crate) fn frame_from(
     alloc: Global,
     pool: &mut Pool,
     locals: &Locals<'_>,
@@ -135,7 +132,7 @@ pub fn frame_from(
 ///
 /// # Errors
 ///
-/// Only for want of memory.
+/// Only for want of memory; the pool may then have more nodes than before.
 pub fn frame_of(
     alloc: Global,
     pool: &mut Pool,

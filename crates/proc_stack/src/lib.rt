@@ -5,10 +5,10 @@ pub mod callee;
 pub mod calls;
 pub mod frame;
 pub mod moves;
-pub mod pieces;
-pub mod saving;
+mod pieces;
+mod saving;
 
-pub use callee::Callee;
+pub use callee::{Callee, local_names};
 pub use calls::{call_moves, call_return_moves};
 pub use frame::frame_of;
-pub use moves::{jump_move, return_moves};
+pub use moves::{jump_move, return_moves, to_label};

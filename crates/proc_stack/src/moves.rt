@@ -29,12 +29,8 @@ use tla_tree::{Name, NodeId};
 ///
 /// # Errors
 ///
-/// Only for want of memory.
-pub fn to_label(
-    alloc: Global,
-    pool: &mut Pool,
-    label: &Name,
-) -> Result<Vec<Assignment>, AllocError>
+/// Only for want of memory; the pool may then have more nodes than before.
+pub fn to_label(alloc: Global, pool: &mut Pool, label: &Name) -> Result<Vec<Assignment>, AllocError>
     ensures made { IfOk result (λ r. assignments_at pool.new r.items ≡ one_assignment (name_at nowhere pc) (text_at nowhere label.now)) }
     ensures within { IfOk result (λ r. past_sides r.items ≤ length pool.new) }
     ensures kept { Keeps pool.old pool.new }
@@ -49,7 +45,7 @@ pub fn to_label(
 ///
 /// # Errors
 ///
-/// Only for want of memory.
+/// Only for want of memory; the pool may then have more nodes than before.
 pub fn jump_move(
     alloc: Global,
     pool: &mut Pool,
@@ -88,8 +84,8 @@ fn add_field(
 ///
 /// # Errors
 ///
-/// Only for want of memory.
-pub fn add_fields(
+/// Only for want of memory; the pool may then have more nodes than before.
+pub(crate) fn add_fields(
     alloc: Global,
     pool: &mut Pool,
     locals: &Locals<'_>,
@@ -124,11 +120,7 @@ fn add_label_kept(
 }
 
 // Adds `stack := Tail(stack)`.
-fn add_rest(
-    alloc: Global,
-    pool: &mut Pool,
-    out: &mut Vec<Assignment>,
-) -> Result<(), AllocError>
+fn add_rest(alloc: Global, pool: &mut Pool, out: &mut Vec<Assignment>) -> Result<(), AllocError>
     ensures made { OnOk result (AddsSides pool.new out.old.items out.new.items (assignment (name_at nowhere stack) (stack_rest nowhere) ∷ [])) }
     ensures kept { Keeps pool.old pool.new }
 {
@@ -158,7 +150,7 @@ fn add_return(
 ///
 /// # Errors
 ///
-/// Only for want of memory.
+/// Only for want of memory; the pool may then have more nodes than before.
 pub fn return_moves(
     alloc: Global,
     pool: &mut Pool,

@@ -14,7 +14,8 @@ use tla_pool::form::{Form, Strict};
 use tla_token::Place;
 use tla_tree::{Name, NodeId, Op, Text};
 
-const NOWHERE: Place = Place { line: 0, col: 0 };
+/// No place.
+pub const NOWHERE: Place = Place { line: 0, col: 0 };
 
 /// The name of these bytes.
 ///
@@ -31,7 +32,7 @@ pub fn word(alloc: Global, bytes: &[u8]) -> Result<Name, AllocError>
 ///
 /// # Errors
 ///
-/// Only for want of memory.
+/// Only for want of memory; the pool may then have more nodes than before.
 pub fn variable(alloc: Global, pool: &mut Pool, bytes: &[u8]) -> Result<NodeId, AllocError>
     ensures tree { IfOk result (λ r. at pool.new r ≡ name_at nowhere bytes.now) }
     ensures within { IfOk result (λ r. r < length pool.new) }
@@ -45,7 +46,7 @@ pub fn variable(alloc: Global, pool: &mut Pool, bytes: &[u8]) -> Result<NodeId, 
 ///
 /// # Errors
 ///
-/// Only for want of memory.
+/// Only for want of memory; the pool may then have more nodes than before.
 pub fn text(alloc: Global, pool: &mut Pool, bytes: &[u8]) -> Result<NodeId, AllocError>
     ensures tree { IfOk result (λ r. at pool.new r ≡ text_at nowhere bytes.now) }
     ensures within { IfOk result (λ r. r < length pool.new) }
@@ -76,7 +77,7 @@ fn applied(
 ///
 /// # Errors
 ///
-/// Only for want of memory.
+/// Only for want of memory; the pool may then have more nodes than before.
 pub fn first_record(alloc: Global, pool: &mut Pool, bytes: &[u8]) -> Result<NodeId, AllocError>
     ensures tree { IfOk result (λ r. at pool.new r ≡ first_of bytes.now) }
     ensures within { IfOk result (λ r. r < length pool.new) }
@@ -90,7 +91,7 @@ pub fn first_record(alloc: Global, pool: &mut Pool, bytes: &[u8]) -> Result<Node
 ///
 /// # Errors
 ///
-/// Only for want of memory.
+/// Only for want of memory; the pool may then have more nodes than before.
 pub fn other_records(alloc: Global, pool: &mut Pool) -> Result<NodeId, AllocError>
     ensures tree { IfOk result (λ r. at pool.new r ≡ stack_rest nowhere) }
     ensures within { IfOk result (λ r. r < length pool.new) }
@@ -104,7 +105,7 @@ pub fn other_records(alloc: Global, pool: &mut Pool) -> Result<NodeId, AllocErro
 ///
 /// # Errors
 ///
-/// Only for want of memory.
+/// Only for want of memory; the pool may then have more nodes than before.
 pub fn field(
     alloc: Global,
     pool: &mut Pool,
@@ -125,7 +126,7 @@ pub fn field(
 ///
 /// # Errors
 ///
-/// Only for want of memory.
+/// Only for want of memory; the pool may then have more nodes than before.
 pub fn pushed(
     alloc: Global,
     pool: &mut Pool,

@@ -28,12 +28,8 @@ pub struct Saved {
 ///
 /// # Errors
 ///
-/// Only for want of memory.
-pub fn saved_by_call(
-    alloc: Global,
-    pool: &mut Pool,
-    back: &Name,
-) -> Result<Saved, AllocError>
+/// Only for want of memory; the pool may then have more nodes than before.
+pub fn saved_by_call(alloc: Global, pool: &mut Pool, back: &Name) -> Result<Saved, AllocError>
     ensures saved { IfOk result (λ r. IsSaved pool.new r (text_at nowhere back.now) None (name_at nowhere stack)) }
     ensures kept { Keeps pool.old pool.new }
 {
@@ -61,12 +57,8 @@ fn label_kept(alloc: Global, pool: &mut Pool, frame: NodeId) -> Result<NodeId, A
 ///
 /// # Errors
 ///
-/// Only for want of memory.
-pub fn saved_by_return(
-    alloc: Global,
-    pool: &mut Pool,
-    itself: bool,
-) -> Result<Saved, AllocError>
+/// Only for want of memory; the pool may then have more nodes than before.
+pub fn saved_by_return(alloc: Global, pool: &mut Pool, itself: bool) -> Result<Saved, AllocError>
     ensures saved { IfOk result (λ r. IsSaved pool.new r (selected (first_of stack) pc) (cond itself (Some (first_of stack)) None) (stack_rest nowhere)) }
     ensures kept { Keeps pool.old pool.new }
 {

@@ -1,5 +1,5 @@
 -- Proves that each parameter has its argument.
-use Rattle.std.proofs.Common.{ℕ, ◌+◌, ◌<◌, List, [], ◌∷◌, length, take, get_or, arith}
+use Rattle.std.proofs.Common.{◌+◌, ◌<◌, [], ◌∷◌, length, take, get_or, arith}
 use Rattle.tla_tree.specs.Pool.{at}
 use Rattle.tla_tree.proofs.PoolNumbers.{Keeps-then, past_at, same_default}
 use Rattle.pcal_tree.specs.InMemory.{past_number, past_assignment}
@@ -39,9 +39,9 @@ loop-i-preserved c =
     let said = c.in_ok-add_argument.ensures in (
       Keeps-then old middle end before said.kept,
       adds_same past_assignment sides_at end c.args.out.now.items c.add_argument.new.out.items _ (given local old (take (i + 1) ps) (take (i + 1) es))
-      (arguments_more local old ps es i p e c.index-params-i.is here fewer less)
-      (adds_then past_assignment sides_at sides_grow middle end said.kept c.args.out.now.items c.loop-i.out.items c.add_argument.new.out.items (given local old (take i ps) (take i es)) (one ∷ []) c.loop-i.invariant.1
-      (adds_same past_assignment sides_at end c.loop-i.out.items c.add_argument.new.out.items _ (one ∷ []) (λ j. argument_sides local p.name.word (before.same e below j) ∷ []) said.made)),
+          (arguments_more local old ps es i p e c.index-params-i.is here fewer less)
+          (adds_then past_assignment sides_at sides_grow middle end said.kept c.args.out.now.items c.loop-i.out.items c.add_argument.new.out.items (given local old (take i ps) (take i es)) (one ∷ []) c.loop-i.invariant.1
+          (adds_same past_assignment sides_at end c.loop-i.out.items c.add_argument.new.out.items _ (one ∷ []) (λ j. argument_sides local p.name.word (before.same e below j) ∷ []) said.made)),
     )
 
 pub returns-clause-made : goal.returns-clause-made

@@ -1,9 +1,7 @@
 -- Proves that the stack and the parameters come first, and then the variables.
-use Rattle.std.proofs.Common.{List, [], ◌∷◌, ◌++◌, length, map, option_map, ap, ◌∙◌, arith}
+use Rattle.std.proofs.Common.{[], ◌∷◌, ◌++◌, map, option_map, ap, ◌∙◌, arith}
 use Rattle.std.proofs.lemmas.Result.{on_ok_weaker}
-use Rattle.tla_tree.specs.Tree.{Word, Tree}
 use Rattle.tla_tree.specs.Pool.{at}
-use Rattle.pcal_tree.specs.declared.algorithm.Declaration.{Declaration as Kept}
 use Rattle.pcal_tree.specs.Algorithm.{Declaration, Assignments}
 use Rattle.pcal_tree.specs.InMemory.{declaration_at, past_declaration}
 use Rattle.pcal_tree.proofs.InMemoryGrown.{each_kept}

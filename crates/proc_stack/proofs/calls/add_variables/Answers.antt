@@ -1,8 +1,6 @@
 -- Proves that an assignment is added for each variable.
-use Rattle.std.proofs.Common.{List, ap, arith}
-use Rattle.tla_tree.specs.Tree.{Tree}
+use Rattle.std.proofs.Common.{ap, arith}
 use Rattle.tla_tree.proofs.PoolNumbers.{Keeps-then, past_at}
-use Rattle.pcal_tree.specs.declared.algorithm.Declaration.{Declaration as Kept}
 use Rattle.pcal_tree.specs.Algorithm.{Declaration, Assignments}
 use Rattle.pcal_tree.specs.InMemory.{declaration_at, past_declaration}
 use Rattle.written_names.specs.Units.{naming_of}

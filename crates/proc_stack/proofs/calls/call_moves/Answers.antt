@@ -1,6 +1,6 @@
 -- Proves that these are the assignments of a call.
-use Rattle.std.proofs.Common.{List, [], ◌∷◌, ◌++◌, map, option_map, Option, None, ap, ◌∙◌, arith}
-use Rattle.tla_tree.specs.Tree.{Word, Tree}
+use Rattle.std.proofs.Common.{List, [], ◌∷◌, ◌++◌, map, option_map, None, ap, ◌∙◌}
+use Rattle.tla_tree.specs.Tree.{Word}
 use Rattle.tla_tree.specs.Pool.{at}
 use Rattle.pcal_tree.specs.Algorithm.{nowhere, Assignments}
 use Rattle.pcal_tree.specs.Variables.{pc, stack}

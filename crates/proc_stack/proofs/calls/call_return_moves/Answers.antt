@@ -1,8 +1,8 @@
 -- Proves that these are the assignments of a call with a return.
 use Rattle.std.proofs.Common.{◌≡◌, nat_eq, cond, List, [], ◌∷◌, ◌++◌, map, option_map, Some, None, sym, ap, ◌∙◌}
-use Rattle.tla_tree.specs.Tree.{Word, Tree}
+use Rattle.tla_tree.specs.Tree.{Word}
 use Rattle.tla_tree.specs.Pool.{at}
-use Rattle.pcal_tree.specs.Algorithm.{nowhere, Assignments, no_assignments}
+use Rattle.pcal_tree.specs.Algorithm.{nowhere, Assignments}
 use Rattle.pcal_tree.specs.Calls.{label_name, first_label}
 use Rattle.pcal_tree.specs.Variables.{pc, stack}
 use Rattle.written_names.specs.Units.{naming_of}
@@ -36,8 +36,8 @@ returns-clause-tree c = λ P u d number variables own.
     let jump : Word → Assignments = λ l. one_assignment (name_at nowhere pc) (text_at nowhere l) in
     let to : Assignments = jump c.in_ok-label.label in
     let all = adds_then past_move move_at moves_grow later end last.kept c.new-moves.result.items c.add_others.new.out.items c.add_jump.new.out.items (first ++ other ∷ []) (to ∷ [])
-        (adds_then past_move move_at moves_grow late later c.in_ok-add_others.ensures.kept c.new-moves.result.items c.add_entry.new.out.items c.add_others.new.out.items first (other ∷ []) c.in_ok-add_entry.ensures.made c.in_ok-add_others.ensures.made)
-        last.made in
+    (adds_then past_move move_at moves_grow late later c.in_ok-add_others.ensures.kept c.new-moves.result.items c.add_entry.new.out.items c.add_others.new.out.items first (other ∷ []) c.in_ok-add_entry.ensures.made c.in_ok-add_others.ensures.made)
+    last.made in
     let behind = λ (l : Word) (ms : List Assignments). (ms ++ other ∷ []) ++ jump l ∷ [] in
     pair_is P q old procedure named d.naming u xs variables mine n number es _
     (made_stand past_move move_at end c.new-moves.result.items c.add_jump.new.out.items _ c.new-moves.ensures.items all
@@ -49,5 +49,5 @@ returns-clause-within c =
     let other = c.in_ok-add_others.ensures in
     let last = c.in_ok-add_jump.ensures in
     let all = adds_then past_move move_at moves_grow c.add_others.new.pool c.add_jump.new.pool last.kept c.new-moves.result.items c.add_others.new.out.items c.add_jump.new.out.items _ _
-        (adds_then past_move move_at moves_grow c.add_entry.new.pool c.add_others.new.pool other.kept c.new-moves.result.items c.add_entry.new.out.items c.add_others.new.out.items _ _ c.in_ok-add_entry.ensures.made other.made) last.made in
+    (adds_then past_move move_at moves_grow c.add_entry.new.pool c.add_others.new.pool other.kept c.new-moves.result.items c.add_entry.new.out.items c.add_others.new.out.items _ _ c.in_ok-add_entry.ensures.made other.made) last.made in
     made_within past_move move_at c.add_jump.new.pool c.new-moves.result.items c.add_jump.new.out.items _ c.new-moves.ensures.items all

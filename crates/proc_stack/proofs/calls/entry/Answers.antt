@@ -1,5 +1,5 @@
 -- Proves that these are the stack and the parameters.
-use Rattle.std.proofs.Common.{List, [], ◌∷◌, length, map, option_map, ap, ◌∙◌, arith}
+use Rattle.std.proofs.Common.{List, [], ◌∷◌, length, map, option_map, ap, ◌∙◌}
 use Rattle.tla_tree.specs.Tree.{Tree}
 use Rattle.tla_tree.specs.Pool.{at}
 use Rattle.tla_tree.proofs.PoolNumbers.{map_at-kept}

@@ -1,7 +1,7 @@
 -- Proves that a record has its procedure, where it goes back to, and what is kept.
-use Rattle.std.proofs.Common.{List, [], ◌∷◌, map, option_map, Option, ap, ◌∙◌, arith}
+use Rattle.std.proofs.Common.{[], ◌∷◌, map, option_map, Option, ap, ◌∙◌, arith}
 use Rattle.std.proofs.lemmas.Result.{on_ok_weaker}
-use Rattle.tla_tree.specs.Tree.{Word, Tree}
+use Rattle.tla_tree.specs.Tree.{Tree}
 use Rattle.tla_tree.specs.Pool.{at}
 use Rattle.pcal_tree.specs.Algorithm.{nowhere}
 use Rattle.pcal_tree.specs.InMemory.{past_number}

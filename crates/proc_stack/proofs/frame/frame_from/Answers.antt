@@ -1,15 +1,15 @@
 -- Proves that this is the record: it has a value for each of its fields.
-use Rattle.std.proofs.Common.{◌≡◌, ℕ, ◌≤◌, List, length, map, option_map, ap, ◌∙◌, arith}
+use Rattle.std.proofs.Common.{length, option_map, ap, ◌∙◌, arith}
 use Rattle.std.proofs.lemmas.Result.{IfOk-weaker}
 use Rattle.std.proofs.lemmas.List.{length-map}
-use Rattle.tla_tree.specs.Tree.{Word, strict, fields, Tree, node}
+use Rattle.tla_tree.specs.Tree.{strict, fields, node}
 use Rattle.tla_tree.specs.TreeOf.{trees_from}
 use Rattle.tla_tree.specs.Pool.{at}
 use Rattle.pcal_tree.specs.Algorithm.{nowhere}
 use Rattle.pcal_tree.specs.InMemory.{past_number}
 use Rattle.pcal_tree.proofs.InMemoryEach.{past_all_below}
 use Rattle.written_names.specs.Units.{naming_of}
-use Rattle.proc_stack.specs.Pieces.{value_kept, fields_for, parts_for}
+use Rattle.proc_stack.specs.Pieces.{value_kept, parts_for}
 use Rattle.proc_stack.proofs.MadeLaws.{made_within, made_stand}
 use Rattle.proc_stack.proofs.frame.frame_from.Goals as goal
 

@@ -1,5 +1,4 @@
 -- Proves that an assignment is added for each name.
-use Rattle.std.proofs.Common.{arith}
 use Rattle.tla_tree.specs.Pool.{at}
 use Rattle.tla_tree.proofs.PoolNumbers.{Keeps-then}
 use Rattle.pcal_tree.specs.Algorithm.{nowhere, assignment}

@@ -1,5 +1,5 @@
 -- Proves that a return sets pc, the parameters and variables, and the stack.
-use Rattle.std.proofs.Common.{List, [], ◌∷◌, ◌++◌, map, ◌∙◌}
+use Rattle.std.proofs.Common.{[], ◌∷◌, ◌++◌, map, ◌∙◌}
 use Rattle.std.proofs.lemmas.Result.{on_ok_weaker}
 use Rattle.tla_tree.specs.Pool.{at}
 use Rattle.tla_tree.proofs.PoolNumbers.{Keeps-then}

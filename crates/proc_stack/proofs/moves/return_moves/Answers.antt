@@ -1,5 +1,5 @@
 -- Proves that these are the assignments of a return.
-use Rattle.std.proofs.Common.{List, [], ap, ◌∙◌}
+use Rattle.std.proofs.Common.{List, ap, ◌∙◌}
 use Rattle.pcal_tree.specs.Algorithm.{no_assignments}
 use Rattle.pcal_tree.specs.InMemory.{past_assignment}
 use Rattle.written_names.specs.Units.{naming_of}
