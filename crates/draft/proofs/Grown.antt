@@ -1,5 +1,5 @@
 -- A draft stays one of its program as the pool grows.
-use Rattle.std.proofs.Common.{◌≡◌, ◌≤◌, List, length, ◌∙◌, arith}
+use Rattle.std.proofs.Common.{List, ◌∙◌, arith}
 use Rattle.tla_tree.specs.Tree.{Tree}
 use Rattle.tla_tree.specs.Pool.{Keeps}
 use Rattle.pcal_tree.specs.Program.{Program}

@@ -1,2 +1,5 @@
 -- Lemmas for the contracts of this crate.
 pub mod Grown
+pub mod Behind
+pub mod NameLaws
+mod LabelLaws

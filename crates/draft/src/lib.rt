@@ -2,5 +2,6 @@
 #![tactic(auto)]
 
 pub mod draft;
+pub mod variables;
 
 pub use draft::Draft;

@@ -1,18 +1,18 @@
 -- The steps of a body, one for each label in the order of the text ("A PlusCal User's Manual", section 3.7, labels).
-use Rattle.std.specs.Prelude.{List, [], ◌∷◌, ◌++◌, map, Some}
+use Rattle.std.specs.Prelude.{List, [], ◌∷◌, ◌++◌, map, flat_map}
 use Rattle.tla_tree.specs.Tree.{Word}
 use Rattle.module_tree.specs.Formulas.{self}
 use Rattle.module_tree.specs.Module.{test, Items, item, all_of, Action}
-use Rattle.pcal_tree.specs.Algorithm.{Statement, branch, either, with, while, Statements, done, then, mark, Branches, no_branches, or, Routine}
+use Rattle.pcal_tree.specs.Algorithm.{Statement, branch, either, with, while, Statements, done, then, mark, Branches, no_branches, or, Main, alone, processes, Routine}
 use Rattle.pcal_tree.specs.Run.{unlabelled, label_of}
 use Rattle.pcal_tree.specs.StepStart.{Begin}
 use Rattle.pcal_tree.specs.Expand.{graft_all}
 use Rattle.pcal_tree.specs.Program.{Program}
 use Rattle.pcal_tree.specs.Calls.{label_name}
-use Rattle.pcal_tree.specs.Takers.{Taken}
+use Rattle.pcal_tree.specs.Takers.{Taken, taken_main}
 use Rattle.pcal_tree.specs.Variables.{vars}
 use Rattle.action_builder.specs.Jumps.{written_jumps}
-use Rattle.action_builder.specs.LabelActions.{parameter_of, items_by, no_jump_places, written_initials, at_test}
+use Rattle.action_builder.specs.LabelActions.{parameter_of, items_by, no_jump_places, written_initials, at_test, own_action, taken_procedures}
 use Rattle.action_builder.specs.OwnVariables.{is_own_variable}
 use Rattle.action_builder.specs.Prepared.{prepared, action_items}
 use Rattle.action_builder.specs.WrittenNames.{renames}
@@ -56,3 +56,15 @@ step_action P t s = record {
 
 abbrev pub step_actions : Program → Taken → List Action
 step_actions P t = map (step_action P t) (steps unlabelled t.routine.body t.routine.exit)
+
+-- of a procedure or process, and then its own
+abbrev pub routine_steps : Program → Taken → List Action
+routine_steps P t = step_actions P t ++ own_action P t ∷ []
+
+abbrev pub main_steps : Program → Main → List Action
+main_steps P (alone ss) = flat_map (step_actions P) (taken_main P.algorithm (alone ss))
+main_steps P (processes ps) = flat_map (routine_steps P) (taken_main P.algorithm (processes ps))
+
+-- all, in the order of the text
+abbrev pub actions_by_steps : Program → List Action
+actions_by_steps P = flat_map (routine_steps P) (taken_procedures P.algorithm) ++ main_steps P P.algorithm.main

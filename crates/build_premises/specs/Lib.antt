@@ -1,0 +1,4 @@
+-- What builders of written steps are given of an accepted algorithm.
+pub mod Everywhere
+pub mod OldNames
+pub mod Buildable

@@ -1,0 +1,2 @@
+-- The translation of an algorithm, step by step.
+pub mod RegionBySteps

@@ -1,0 +1,11 @@
+//! Expressions as they are written in a step, and the settings that are written for the assignments of one statement.
+#![tactic(auto)]
+
+pub mod after;
+pub mod groups;
+pub mod keys;
+pub mod sides;
+pub mod statement;
+
+pub use after::{After, written};
+pub use statement::settings;
