@@ -1,4 +1,4 @@
--- What lists of statements and branches offend, one after another, and the paths behind them.
+-- What lists of statements and branches offend, one after another, and the paths behind them. Its laws of paths stand in `WaysLaws` of `label_steps` too, where they are said of what is gathered.
 use Rattle.std.proofs.Common.{◌≡◌, List, [], ◌++◌, Bool, true, false, ◌||◌, Option, Some, None, refl, sym, ap, ◌∙◌, subst}
 use Rattle.tla_token.specs.declared.rule.Rule.{Rule}
 use Rattle.tla_tree.specs.Tree.{Name}

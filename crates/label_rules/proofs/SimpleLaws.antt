@@ -1,4 +1,4 @@
--- What a statement with none in it offends where it is gone through along all paths. The first four lemmas stand in `WaysLaws` of `label_steps` too, where they are said of what is gathered.
+-- What a statement with none in it offends where it is gone through along all paths. The first three lemmas stand in `WaysLaws` of `label_steps` too, where they are said of what is gathered.
 use Rattle.std.proofs.Common.{◌≡◌, List, [], ◌++◌, Bool, false, ◌||◌, Option, None, refl, sym, ◌∙◌, subst, cond}
 use Rattle.std.specs.Option.{option_map}
 use Rattle.tla_token.specs.declared.place.Place.{Place}
