@@ -1,5 +1,5 @@
 -- What is put in after variables are primed: an expression for the old stack, and then that of a single process for `self`
--- ("A PlusCal User's Manual", section 3.3, processes, and section 3.5, procedures).
+-- ("A PlusCal User's Manual", section 3.3, processes, and section 3.4, procedures).
 use Rattle.std.specs.Prelude.{ℕ, List, Option, Some, None}
 use Rattle.std.specs.Option.{option_map}
 use Rattle.tla_tree.specs.Tree.{Word, Tree, graft}

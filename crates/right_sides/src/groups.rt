@@ -20,7 +20,7 @@ use tla_tree::Name;
 /// Variables in the order of their first assignments, each with all of its assignments in their order.
 pub type Groups = IndexMap<Name, Vec<Assignment>>;
 
-// One more assignment, to this variable.
+// One more assignment, to this variable: its group is taken out, and put back with one more.
 fn add(alloc: Global, groups: &mut Groups, name: Name, one: Assignment) -> Result<(), AllocError>
     ensures groups { (ts : List Tree) → OnOk result (groups_at ts groups.new.entries ≡ with_group (groups_at ts groups.old.entries) name (at ts one.left) (at ts one.right)) }
     ensures past { OnOk result (past_groups groups.new.entries ≤ max (past_groups groups.old.entries) (past_assignment one)) }
@@ -35,7 +35,7 @@ fn add(alloc: Global, groups: &mut Groups, name: Name, one: Assignment) -> Resul
     Ok(())
 }
 
-/// Groups the assignments of one statement by their variables. Each is looked up once.
+/// Groups the assignments of one statement by their variables, which are looked up.
 ///
 /// # Errors
 ///
