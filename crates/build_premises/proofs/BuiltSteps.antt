@@ -18,7 +18,7 @@ use Rattle.translation.proofs.PlacedStatements.{procedure_placed, body_placed_in
 use Rattle.translation.proofs.TidySteps.{PartsOf}
 use Rattle.build_premises.specs.Everywhere.{EverywhereOne, Everywhere, EverywhereSome}
 use Rattle.build_premises.specs.Buildable.{CallsNamed, HasOne, buildable, Buildable, SettledFor}
-use Rattle.build_premises.specs.OldNames.{NoOld}
+use Rattle.step_forms.specs.OldNames.{NoOld}
 use Rattle.build_premises.proofs.JumpsSettled.{buildable_settled}
 use Rattle.build_premises.proofs.PartsLaws.{less, no_old, everywhere_pass, WrittenOut, WrittenOutSome, written_out_pass}
 use Rattle.build_premises.proofs.StepParts.{each_step}

@@ -7,7 +7,11 @@ pub mod WrittenBodies
 pub mod BuiltSteps
 pub mod ListsApart
 pub mod VariablesApart
+pub mod PlainParts
+pub mod StepStrings
+pub mod StepsInParts
 pub mod OpenedSteps
 pub mod OpenableAlgorithms
+pub mod OpenedParts
 pub mod FewVariables
 pub mod CheckedVariables

@@ -8,7 +8,7 @@ use Rattle.action_builder.specs.laws.Settling.{EachBind}
 use Rattle.translation.proofs.FromLabels.{Passes}
 use Rattle.translation.proofs.TidySteps.{PartsOf}
 use Rattle.build_premises.specs.Everywhere.{Parts, EverywhereOne, Everywhere, EverywhereSome}
-use Rattle.build_premises.specs.OldNames.{NoOldOne, NoOld, NoOldSome}
+use Rattle.step_forms.specs.OldNames.{NoOldOne, NoOld, NoOldSome}
 
 -- ---- less is asked
 

@@ -6,6 +6,7 @@ use Rattle.tla_tree.specs.Tree.{Word}
 use Rattle.module_tree.specs.Formulas.{self}
 use Rattle.pcal_tree.specs.Algorithm.{Statements, Routine, procedure_routines}
 use Rattle.pcal_tree.specs.Calls.{routine_named}
+use Rattle.pcal_tree.specs.Expand.{graft_all}
 use Rattle.pcal_tree.specs.Program.{Program}
 use Rattle.pcal_tree.specs.Variables.{vars}
 use Rattle.action_builder.specs.Jumps.{written_jumps}
@@ -13,7 +14,11 @@ use Rattle.action_builder.specs.LabelActions.{no_jump_places, written_initials}
 use Rattle.action_builder.specs.OwnVariables.{is_own_variable}
 use Rattle.action_builder.specs.Prepared.{prepared}
 use Rattle.action_builder.specs.Written.{old_stack}
+use Rattle.action_builder.specs.WrittenNames.{renames}
 use Rattle.action_builder.specs.laws.Ready.{LeftSides, Settled}
+use Rattle.step_forms.specs.OldNames.{NoOld}
+use Rattle.step_forms.specs.PartsAssigned.{AllInParts}
+use Rattle.step_forms.specs.Steps.{Step}
 use Rattle.build_premises.specs.Everywhere.{Parts, anything, Everywhere}
 
 -- there is a procedure of the name
@@ -44,3 +49,18 @@ Buildable P ss = Everywhere (buildable P) ss
 -- statements of a step of the routine u, from the label `here` with the exit l, have their jumps settled
 abbrev pub SettledFor : Program → Routine → Word → Word → Statements → Type 0
 SettledFor P u here l ss = Settled (is_among (vars P)) (prepared (written_jumps P u (written_initials P) no_jump_places) self (is_own_variable P) here l ss)
+
+-- and once that is done, several assignments to one variable in a statement are each to a part of it
+abbrev pub InPartsFor : Program → Routine → Word → Word → Statements → Type 0
+InPartsFor P u here l ss = AllInParts (prepared (written_jumps P u (written_initials P) no_jump_places) self (is_own_variable P) here l ss)
+
+-- ---- all that is wanted of a step
+
+-- statements of the routine u, in their written names, from the label `here` with the exit l
+pub record FitsFor (P : Program) (u : Routine) (here l : Word) (ss : Statements) : Type 0 where
+  pub settled : SettledFor P u here l ss
+  pub parts : InPartsFor P u here l ss
+  pub fresh : NoOld ss
+
+abbrev pub StepFits : Program → Routine → Step → Type 0
+StepFits P u s = FitsFor P u s.label s.begins.exit (graft_all (renames P u) s.begins.items)

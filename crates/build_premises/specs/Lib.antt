@@ -1,4 +1,3 @@
 -- What builders of written steps are given of an accepted algorithm.
 pub mod Everywhere
-pub mod OldNames
 pub mod Buildable

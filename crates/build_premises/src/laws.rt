@@ -24,8 +24,8 @@ ghost use Rattle.promise.specs.Headline.{Stands};
 ghost use Rattle.file_answer.specs.Checking.{AnswersChecking};
 ghost use Rattle.translation.specs.laws.AcceptedAlgorithm.{IsAcceptedInFile};
 ghost use Rattle.translation.specs.laws.WritableAlgorithm.{IsWritableAlgorithm};
-ghost use Rattle.build_premises.specs.OldNames.{NoOld};
-ghost use Rattle.build_premises.specs.Buildable.{CallsNamed, Buildable, SettledFor};
+ghost use Rattle.step_forms.specs.OldNames.{NoOld};
+ghost use Rattle.build_premises.specs.Buildable.{CallsNamed, Buildable, SettledFor, InPartsFor, StepFits};
 
 /// An accepted algorithm can be written, and breaks no rule on names and labels; and its macro calls can be written out.
 pub fn accepted_algorithms_break_no_rule()
@@ -60,6 +60,26 @@ pub fn what_can_be_built_is_settled()
         → SettledFor (with_names o g) u l b.exit (graft_all (renames (with_names o g) u) b.items) }
     ensures steps { (o : Outside) (g : Algorithm) → IsWritableAlgorithm o g → label_offences g ≡ [] → (u : Routine) → OneOf u (routines g) → (s : Step) → OneOf s (steps unlabelled (expanded (reverse g.macros) u.body) u.exit)
         → SettledFor (with_names o g) u s.label s.begins.exit (graft_all (renames (with_names o g) u) s.begins.items) }
+{}
+
+/// Such statements of an algorithm that can be written assign a variable several times in one statement only where each assignment is to a part of it, also once names are
+/// written and jumps, loops, calls and returns are assignments.
+pub fn whole_variables_are_assigned_once()
+    ensures labels { (o : Outside) (g : Algorithm) → IsWritableAlgorithm o g → (u : Routine) → OneOf u (routines g) → (l : Word) (b : Begin) → at_label u l ≡ Some b
+        → InPartsFor (with_names o g) u l b.exit (written_statements (with_names o g) u b.items) }
+    ensures begins { (o : Outside) (g : Algorithm) → IsWritableAlgorithm o g → (u : Routine) → OneOf u (routines g) → (l : Word) (b : Begin) → begin l unlabelled (expanded (reverse g.macros) u.body) u.exit ≡ Some b
+        → InPartsFor (with_names o g) u l b.exit (graft_all (renames (with_names o g) u) b.items) }
+    ensures steps { (o : Outside) (g : Algorithm) → IsWritableAlgorithm o g → (u : Routine) → OneOf u (routines g) → (s : Step) → OneOf s (steps unlabelled (expanded (reverse g.macros) u.body) u.exit)
+        → InPartsFor (with_names o g) u s.label s.begins.exit (graft_all (renames (with_names o g) u) s.begins.items) }
+    ensures opened { (o : Outside) (g : Algorithm) → IsWritableAlgorithm o g → IsOpenable g → (u : Routine) → OneOf u (routines (opened g)) → (s : Step) → OneOf s (steps unlabelled u.body u.exit)
+        → InPartsFor (opened_program (with_names o g)) u s.label s.begins.exit (graft_all (renames (opened_program (with_names o g)) u) s.begins.items) }
+{}
+
+/// Each step of an accepted algorithm with its macro calls written out has all that is wanted of it: its statements are settled, assign whole variables once, and keep no
+/// old stack of their own.
+pub fn accepted_steps_fit()
+    ensures fit { (o : Outside) (g : Algorithm) → IsAcceptedInFile o g → (u : Routine) → OneOf u (routines (opened g)) → (s : Step) → OneOf s (steps unlabelled u.body u.exit)
+        → StepFits (opened_program (with_names o g)) u s }
 {}
 
 /// The variables of the translation have different names, those that a routine declares have, and so have procedures.

@@ -2,3 +2,5 @@
 pub mod LeftOver
 pub mod Steps
 pub mod Opened
+pub mod OldNames
+pub mod PartsAssigned
