@@ -1,0 +1,16 @@
+//! The formulas of a translation that are no label's action: Init, the disjuncts of Next, ProcSet, Terminating and Termination, and the
+//! actions of procedures and processes.
+#![tactic(auto)]
+
+pub mod done;
+pub mod forms;
+pub mod init;
+pub mod labels;
+pub mod model_values;
+pub mod names;
+pub mod next;
+pub mod numbers;
+pub mod process_sets;
+pub mod starts;
+pub mod takers;
+pub mod ways;
