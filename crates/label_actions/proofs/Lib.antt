@@ -1,0 +1,7 @@
+-- Lemmas for the contracts of this crate.
+pub mod Grown
+pub mod StepsAdded
+pub mod FirstSteps
+pub mod NumbersApart
+pub mod UnitLaws
+pub mod ProgramLaws
