@@ -1,5 +1,5 @@
 -- Which routine a call enters: the first procedure of the name.
-use Rattle.std.proofs.Common.{◌≡◌, ℕ, suc, ◌+◌, ◌≤◌, List, [], ◌∷◌, length, map, Bool, true, false, cond, not, bytes_eq, MatchOption, Option, Some, None, refl, sym, ap, subst, ◌∙◌, arith}
+use Rattle.std.proofs.Common.{◌≡◌, ℕ, suc, ◌+◌, ◌≤◌, List, [], ◌∷◌, ◌++◌, length, map, Bool, true, false, cond, not, bytes_eq, MatchOption, Option, Some, None, refl, sym, ap, subst, ◌∙◌, arith}
 use Rattle.std.specs.Prelude.{nat_lt, position, slice_get}
 use Rattle.std.specs.List.{position_or_len}
 use Rattle.std.specs.Option.{option_map}
@@ -9,9 +9,18 @@ use Rattle.std.proofs.lemmas.Option.{none-some, same_Some, slice_get-map, slice_
 use Rattle.tla_tree.specs.Tree.{Word, Tree}
 use Rattle.pcal_tree.specs.declared.algorithm.Algorithm as code
 use Rattle.pcal_tree.specs.declared.algorithm.Procedure as code_procedure
-use Rattle.pcal_tree.specs.Algorithm.{Procedure, numbered, procedure_routine, procedure_routines, Algorithm}
+use Rattle.pcal_tree.specs.Algorithm.{Procedure, Routine, locals, numbered, procedure_routine, procedure_routines, main_routines, Algorithm}
 use Rattle.pcal_tree.specs.Calls.{routine_named}
 use Rattle.pcal_tree.specs.InMemory.{macro_at, procedure_at, algorithm_at}
+use Rattle.pcal_tree.specs.Processes.{OneOf}
+use Rattle.pcal_tree.specs.Program.{Program}
+use Rattle.pcal_tree.specs.Variables.{declared}
+use Rattle.pcal_tree.proofs.OneStand.{one_number}
+use Rattle.pcal_tree.proofs.TroubleLaws.{one_left}
+use Rattle.draft.specs.RoutineNames.{words_of}
+use Rattle.draft.proofs.NameLaws.{both_declared}
+use Rattle.step_items.specs.declared.desk.Desk.{Desk}
+use Rattle.step_items.specs.Desks.{IsDesk}
 
 pub on_none : {T : Type 0} (o : Option T) (A : Type 0) (B : T → Type 0) → o ≡ None → A → MatchOption o A B
 on_none o A B e a = subst (λ r. MatchOption r A B) (sym e) a
@@ -78,3 +87,11 @@ module _ (ts : List Tree) (a : code.Algorithm) (A : Algorithm) (same : algorithm
   called_none none =
       let as_many : length a.procedures.items ≡ length titles = sym (length-map a.procedures.items (procedure_at ts)) ∙ ap (λ (b : Algorithm). length b.procedures) same ∙ sym (length-map A.procedures title) ∙ ap length listed in
       past (position_or_len (is_named x) titles) refl (omega (arith, as_many, position_past (is_named x) titles none))
+
+-- a routine of a program that has a procedure's number has the procedure's names
+pub own_names : (ts : List Tree) (d : Desk) (P : Program) (u : Routine) (x : Option Tree) → IsDesk ts d P u x → (n : ℕ) (q : code_procedure.Procedure) → OneOf (procedure_routine n (procedure_at ts q)) (procedure_routines P.algorithm) → d.unit ≡ n
+    → d.names.now ≡ words_of q.params.items ++ words_of q.variables.items
+own_names ts d P u x h n q one e =
+    let p : Routine = procedure_routine n (procedure_at ts q) in
+    let same : u ≡ p = one_number P.algorithm u p h.one (one_left p (procedure_routines P.algorithm) (main_routines P.algorithm P.algorithm.main) one) (h.number ∙ e) in
+    sym h.listed ∙ ap (λ (w : Routine). declared (locals w)) same ∙ both_declared ts q.params.items q.variables.items

@@ -42,6 +42,7 @@ desk_more m n d le h = record { draft = (let b = h.draft in omega (arith, le, b)
 pub desk_grown : (ts us : List Tree) → Keeps ts us → (d : Desk) (P : Program) (u : Routine) (x : Option Tree) → IsDesk ts d P u x → IsDesk us d P u (option_map (at us) d.single)
 desk_grown ts us k d P u x h = record {
   draft = draft_kept ts us k d.draft.now P h.draft;
+  one = h.one;
   number = h.number;
   ordered = h.ordered;
   listed = h.listed;
@@ -54,6 +55,7 @@ desk_grown ts us k d P u x h = record {
 pub desk_kept : (ts us : List Tree) → Keeps ts us → (d : Desk) (P : Program) (u : Routine) (x : Option Tree) → DeskIn (length ts) d → IsDesk ts d P u x → IsDesk us d P u x
 desk_kept ts us k d P u x b h = record {
   draft = draft_kept ts us k d.draft.now P h.draft;
+  one = h.one;
   number = h.number;
   ordered = h.ordered;
   listed = h.listed;

@@ -11,6 +11,7 @@ ghost use Rattle.pcal_tree.specs.Algorithm.{Span, Routine, procedure_routine, pr
 ghost use Rattle.pcal_tree.specs.Expand.{graft_assignments, graft_all};
 ghost use Rattle.pcal_tree.specs.InMemory.{assignments_at, procedure_at, past_assignment, past_algorithm, past_numbers, past_procedure};
 ghost use Rattle.pcal_tree.specs.Calls.{routine_named};
+ghost use Rattle.pcal_tree.specs.Processes.{OneOf};
 ghost use Rattle.pcal_tree.specs.Program.{Program};
 ghost use Rattle.pcal_tree.specs.Run.{Partner as partner_tree};
 ghost use Rattle.pcal_tree.specs.Variables.{stack, vars};
@@ -225,7 +226,7 @@ fn enter_and_leave(
     requires arguments { past_numbers arguments.now ≤ length pool.old }
     requires procedure { past_procedure callee.now.procedure.now ≤ length pool.old }
     requires items { past_items out.old.items ≤ length pool.old }
-    ensures made { (P : Program) (u : Routine) (x : Option Tree) → IsDesk pool.old desk.now P u x → Plain P (graft_all (own_of P) (pair_of P u (procedure_routine callee.now.number (procedure_at pool.old callee.now.procedure.now)) (trees_at pool.old arguments.now))) → IfOk result (λ r. Writes P (put_items self x) pool.old pool.new out.old.items out.new.items before.now r (graft_all (own_of P) (pair_of P u (procedure_routine callee.now.number (procedure_at pool.old callee.now.procedure.now)) (trees_at pool.old arguments.now)))) }
+    ensures made { (P : Program) (u : Routine) (x : Option Tree) → IsDesk pool.old desk.now P u x → OneOf (procedure_routine callee.now.number (procedure_at pool.old callee.now.procedure.now)) (procedure_routines P.algorithm) → Plain P (graft_all (own_of P) (pair_of P u (procedure_routine callee.now.number (procedure_at pool.old callee.now.procedure.now)) (trees_at pool.old arguments.now))) → IfOk result (λ r. Writes P (put_items self x) pool.old pool.new out.old.items out.new.items before.now r (graft_all (own_of P) (pair_of P u (procedure_routine callee.now.number (procedure_at pool.old callee.now.procedure.now)) (trees_at pool.old arguments.now)))) }
     ensures within { OnOk result (past_items out.new.items ≤ length pool.new) }
     ensures kept { Keeps pool.old pool.new }
 {
@@ -291,7 +292,7 @@ fn enter_with(
     requires arguments { past_numbers arguments.now ≤ length pool.old }
     requires procedure { past_procedure callee.now.procedure.now ≤ length pool.old }
     requires items { past_items out.old.items ≤ length pool.old }
-    ensures made { (P : Program) (u : Routine) (x : Option Tree) → IsDesk pool.old desk.now P u x → (s : Span) (j : partner_tree) → IsPartner partner.now j → Plain P (graft_all (own_of P) (call_with P u (written_initials P) no_jump_places s (trees_at pool.old arguments.now) follow.now j (procedure_routine callee.now.number (procedure_at pool.old callee.now.procedure.now)))) → IfOk result (λ r. Writes P (put_items self x) pool.old pool.new out.old.items out.new.items before.now r (graft_all (own_of P) (call_with P u (written_initials P) no_jump_places s (trees_at pool.old arguments.now) follow.now j (procedure_routine callee.now.number (procedure_at pool.old callee.now.procedure.now))))) }
+    ensures made { (P : Program) (u : Routine) (x : Option Tree) → IsDesk pool.old desk.now P u x → OneOf (procedure_routine callee.now.number (procedure_at pool.old callee.now.procedure.now)) (procedure_routines P.algorithm) → (s : Span) (j : partner_tree) → IsPartner partner.now j → Plain P (graft_all (own_of P) (call_with P u (written_initials P) no_jump_places s (trees_at pool.old arguments.now) follow.now j (procedure_routine callee.now.number (procedure_at pool.old callee.now.procedure.now)))) → IfOk result (λ r. Writes P (put_items self x) pool.old pool.new out.old.items out.new.items before.now r (graft_all (own_of P) (call_with P u (written_initials P) no_jump_places s (trees_at pool.old arguments.now) follow.now j (procedure_routine callee.now.number (procedure_at pool.old callee.now.procedure.now))))) }
     ensures within { OnOk result (past_items out.new.items ≤ length pool.new) }
     ensures kept { Keeps pool.old pool.new }
 {

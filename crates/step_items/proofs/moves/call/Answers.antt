@@ -16,6 +16,7 @@ use Rattle.pcal_tree.specs.Calls.{routine_named}
 use Rattle.pcal_tree.specs.Expand.{graft_all}
 use Rattle.pcal_tree.specs.InMemory.{procedure_at}
 use Rattle.pcal_tree.specs.Variables.{vars}
+use Rattle.pcal_tree.proofs.StepVariables.{named_one}
 use Rattle.action_builder.specs.Jumps.{spot, call_to}
 use Rattle.action_builder.specs.LabelActions.{no_jump_places, written_initials}
 use Rattle.action_builder.specs.Written.{onto}
@@ -38,7 +39,7 @@ returns-in-Some-clause-made c = λ P u x h s j is plain.
     let put : trees_at us c.deref.result.now ≡ grafts (renames P u) (trees_at ts c.args.arguments.now) = ap (trees_at us) c.deref.ensures.value ∙ c.in_ok-named.ensures.tree P u x h in
     let of : Option Routine → Trees → Statements = λ o es. graft_all (own_of P) (call_to P u (written_initials P) no_jump_places s es c.args.follow.now j o) in
     let same : of (Some p) (trees_at us c.deref.result.now) ≡ of (routine_named c.args.name.now.word (procedure_routines P.algorithm)) (grafts (renames P u) (trees_at ts c.args.arguments.now)) = λ k. of (sym found k) (put k) in
-    if_ok c.enter_with.result _ _ (c.enter_with.ensures.made P u x desk s j is (subst (Plain P) (sym same) plain)) (λ r w.
+    if_ok c.enter_with.result _ _ (c.enter_with.ensures.made P u x desk (named_one c.args.name.now.word (procedure_routines P.algorithm) p found) s j is (subst (Plain P) (sym same) plain)) (λ r w.
     subst (Writes P (put_items self x) ts c.enter_with.new.pool c.args.out.now.items c.enter_with.new.out.items c.args.before.now r) same
     (writes_from P (put_items self x) ts us c.enter_with.new.pool c.args.out.now.items c.enter_with.new.out.items c.args.before.now r (of (Some p) (trees_at us c.deref.result.now)) kept c.requires.items w))
 

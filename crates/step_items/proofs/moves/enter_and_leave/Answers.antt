@@ -16,6 +16,7 @@ use Rattle.proc_stack.specs.Moves.{in_order, moves_at}
 use Rattle.right_sides.specs.declared.after.After.{After}
 use Rattle.step_items.specs.Writing.{own_of, Plain}
 use Rattle.step_items.proofs.DeskLaws.{maybe_more, desk_kept}
+use Rattle.step_items.proofs.CallLaws.{own_names}
 use Rattle.step_items.proofs.WritesLaws.{if_ok}
 use Rattle.step_items.proofs.MoveLaws.{writes_old, procedure_kept}
 use Rattle.step_items.proofs.moves.enter_and_leave.Goals as goal
@@ -27,7 +28,7 @@ set_all-requires-clause-after c = record {
 }
 
 pub returns-clause-made : goal.returns-clause-made
-returns-clause-made c = λ P u x h plain.
+returns-clause-made c = λ P u x h one plain.
     let ts = c.args.pool.now in
     let mid = c.stack_before.new.pool in
     let us = c.call_return_moves.new.pool in
@@ -40,7 +41,7 @@ returns-clause-made c = λ P u x h plain.
     let a : After = record { old = Some c.in_ok-old.old; single = desk.single } in
     let same : in_order (moves_at us c.deref.result.now) ≡ pair_body P u p nowhere nowhere (trees_at ts c.args.arguments.now) (λ d. nowhere) (λ d. initial_tree P p d.start) =
     ap (λ (rows : List (Vec Assignment Global)). in_order (moves_at us rows)) c.deref.ensures.value
-    ∙ c.in_ok-rows.ensures.tree P u before.draft before.number before.listed
+    ∙ c.in_ok-rows.ensures.tree P u before.draft before.number before.listed (own_names ts desk P u x h n c.args.callee.now.procedure.now one)
     ∙ (λ j.
     let q : Routine = procedure_routine n (procedure_kept ts mid first c.args.callee.now.procedure.now c.requires.procedure j) in
     pair_body P u q nowhere nowhere (numbers_kept ts mid first c.args.arguments.now c.requires.arguments j) (λ d. nowhere) (λ d. initial_tree P q d.start)) in

@@ -15,7 +15,7 @@ use Rattle.step_items.specs.Writing.{own_of, Plain, Writes}
 use Rattle.step_items.proofs.moves.enter_with.Goals as goal
 
 pub returns-in-None-clause-made : goal.returns-in-None-clause-made
-returns-in-None-clause-made c = λ P u x h s j is.
+returns-in-None-clause-made c = λ P u x h one s j is.
     let ts = c.args.pool.now in
     let p : Routine = procedure_routine c.args.callee.now.number (procedure_at ts c.args.callee.now.procedure.now) in
     let same : j ≡ tree.no_partner = subst (λ (o : Partner). IsPartner o j) c.in-None.is is in
@@ -24,7 +24,7 @@ returns-in-None-clause-made c = λ P u x h s j is.
     (graft_all (own_of P) (call_with P u (written_initials P) no_jump_places s (trees_at ts c.args.arguments.now) c.args.follow.now k p)))) (sym same) (c.enter.ensures.made P u x h)
 
 pub returns-in-Goto-clause-made : goal.returns-in-Goto-clause-made
-returns-in-Goto-clause-made c = λ P u x h s j is.
+returns-in-Goto-clause-made c = λ P u x h one s j is.
     let ts = c.args.pool.now in
     let p : Routine = procedure_routine c.args.callee.now.number (procedure_at ts c.args.callee.now.procedure.now) in
     let same : j ≡ tree.goto_partner c.in-Goto.label.now = subst (λ (o : Partner). IsPartner o j) c.in-Goto.is is in
@@ -33,10 +33,10 @@ returns-in-Goto-clause-made c = λ P u x h s j is.
     (graft_all (own_of P) (call_with P u (written_initials P) no_jump_places s (trees_at ts c.args.arguments.now) c.args.follow.now k p)))) (sym same) (c.enter-in-Goto.ensures.made P u x h)
 
 pub returns-in-Return-clause-made : goal.returns-in-Return-clause-made
-returns-in-Return-clause-made c = λ P u x h s j is.
+returns-in-Return-clause-made c = λ P u x h one s j is.
     let ts = c.args.pool.now in
     let p : Routine = procedure_routine c.args.callee.now.number (procedure_at ts c.args.callee.now.procedure.now) in
     let same = subst (λ (o : Partner). IsPartner o j) c.in-Return.is is in
     subst (λ (k : tree.Partner). Plain P (graft_all (own_of P) (call_with P u (written_initials P) no_jump_places s (trees_at ts c.args.arguments.now) c.args.follow.now k p))
     → IfOk c.enter_and_leave.result (λ r. Writes P (put_items self x) ts c.enter_and_leave.new.pool c.args.out.now.items c.enter_and_leave.new.out.items c.args.before.now r
-    (graft_all (own_of P) (call_with P u (written_initials P) no_jump_places s (trees_at ts c.args.arguments.now) c.args.follow.now k p)))) (sym same.1) (c.enter_and_leave.ensures.made P u x h)
+    (graft_all (own_of P) (call_with P u (written_initials P) no_jump_places s (trees_at ts c.args.arguments.now) c.args.follow.now k p)))) (sym same.1) (c.enter_and_leave.ensures.made P u x h one)

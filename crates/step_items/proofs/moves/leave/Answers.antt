@@ -1,4 +1,4 @@
--- Proves that the assignments of a return is set.
+-- Proves that the assignments of a return are set.
 use Rattle.std.proofs.Common.{length, sym, ap, ◌∙◌, subst}
 use Rattle.tla_token.specs.Signs.{is_among}
 use Rattle.tla_token.specs.Places.{nowhere}
