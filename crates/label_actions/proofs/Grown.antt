@@ -96,6 +96,7 @@ module _ (ts us : List Tree) (k : Keeps ts us) where
   works_kept d t P v within taker w = record {
     desk = record {
       draft = draft_kept ts us k d.draft.now P w.desk.draft;
+      one = w.desk.one;
       number = w.desk.number;
       ordered = w.desk.ordered;
       listed = w.desk.listed;
@@ -103,7 +104,6 @@ module _ (ts us : List Tree) (k : Keeps ts us) where
       empty = w.desk.empty;
       single = maybe_kept d.single within.single ∙ w.desk.single;
       few = w.desk.few;
-      same = w.desk.same;
     };
     takers = taker_at-kept ts us k t taker ∙ w.takers;
   }

@@ -2,6 +2,6 @@
 pub mod Grown
 pub mod StepsAdded
 pub mod FirstSteps
-pub mod NumbersApart
+pub mod RoutinesListed
 pub mod UnitLaws
 pub mod ProgramLaws

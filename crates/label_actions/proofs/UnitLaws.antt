@@ -21,7 +21,7 @@ use Rattle.label_actions.specs.declared.unit.Basis.{Basis}
 use Rattle.label_actions.specs.declared.unit.Unit as code
 use Rattle.label_actions.specs.Fitting.{AllFit, StepFits, IsActable}
 use Rattle.label_actions.specs.Units.{IsBasis, BasisIn, IsUnit, UnitIn}
-use Rattle.label_actions.proofs.NumbersApart.{every_of}
+use Rattle.label_actions.proofs.RoutinesListed.{every_of}
 
 module _ (ts us : List Tree) (k : Keeps ts us) where
   pub basis_kept : (b : Basis) (P : Program) → BasisIn (length ts) b → IsBasis ts b P → IsBasis us b P

@@ -9,7 +9,7 @@ use Rattle.draft.proofs.Behind.{numbered_more}
 use Rattle.step_forms.specs.Steps.{routine_steps}
 use Rattle.module_formulas.specs.TakersIn.{taker_at, taken_procedure}
 use Rattle.module_formulas.proofs.Grown.{taker_at-kept, taker_in-kept}
-use Rattle.label_actions.proofs.NumbersApart.{has_numbered}
+use Rattle.label_actions.proofs.RoutinesListed.{has_numbered}
 use Rattle.label_actions.proofs.UnitLaws.{basis_kept, grows_more}
 use Rattle.label_actions.proofs.program.add_procedures.Goals as goal
 

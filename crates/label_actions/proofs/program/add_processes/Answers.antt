@@ -8,7 +8,7 @@ use Rattle.pcal_tree.proofs.InMemoryGrown.{declarations_at-kept, statements_at-k
 use Rattle.module_write.specs.InMemory.{actions_at}
 use Rattle.draft.proofs.Behind.{numbered_more}
 use Rattle.step_forms.specs.Steps.{routine_steps}
-use Rattle.label_actions.proofs.NumbersApart.{has_numbered}
+use Rattle.label_actions.proofs.RoutinesListed.{has_numbered}
 use Rattle.label_actions.proofs.ProgramLaws.{takers_kept}
 use Rattle.label_actions.proofs.UnitLaws.{basis_kept, grows_more}
 use Rattle.label_actions.proofs.program.add_processes.Goals as goal

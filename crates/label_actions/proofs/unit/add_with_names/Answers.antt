@@ -9,7 +9,6 @@ use Rattle.module_write.specs.InMemory.{actions_at}
 use Rattle.step_forms.specs.Steps.{Step, steps, step_action}
 use Rattle.label_actions.specs.Fitting.{AllFit}
 use Rattle.label_actions.specs.Added.{self_of}
-use Rattle.label_actions.proofs.NumbersApart.{same_number}
 use Rattle.label_actions.proofs.UnitLaws.{unit_fits}
 use Rattle.label_actions.proofs.unit.add_with_names.Goals as goal
 
@@ -24,6 +23,7 @@ returns-clause-made c =
     g P t (record {
       desk = record {
         draft = b.draft;
+        one = one;
         number = u.number;
         ordered = ordered;
         listed = listed;
@@ -31,7 +31,6 @@ returns-clause-made c =
         empty = b.empty;
         single = c.single_of.ensures.stands ts ∙ ap self_of u.takers;
         few = a.few;
-        same = λ p h e. ap (λ (v : Routine). declared (locals v)) (same_number P.algorithm t.routine p one h e);
       };
       takers = u.takers;
     }) (subst (AllFit P t.routine) (sym e) (unit_fits P t.routine a one))
