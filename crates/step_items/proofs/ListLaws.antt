@@ -16,7 +16,8 @@ use Rattle.step_forms.specs.LeftOver.{left_over}
 use Rattle.step_forms.proofs.LeftLaws.{jumping_left, still_left, settled_left, put_followed}
 use Rattle.step_forms.proofs.WrittenLaws.{Unmarked}
 use Rattle.step_items.specs.Branching.{to_end}
-use Rattle.step_items.specs.Writing.{jumps_of, own_of, first_part, ends_first, branch_part, either_part, with_part, to_write, to_finish, AllInParts, Plain}
+use Rattle.step_forms.specs.PartsAssigned.{AllInParts}
+use Rattle.step_items.specs.Writing.{jumps_of, own_of, first_part, ends_first, branch_part, either_part, with_part, to_write, to_finish, Plain}
 
 -- ---- by a test
 

@@ -31,7 +31,8 @@ use Rattle.right_sides.specs.declared.after.After.{After}
 use Rattle.right_sides.specs.After.{put_items, after_items, AfterIn}
 use Rattle.step_items.specs.declared.desk.Desk.{Desk}
 use Rattle.step_items.specs.Desks.{DeskIn, IsDesk}
-use Rattle.step_items.specs.Writing.{AllInParts, Plain, Writes}
+use Rattle.step_forms.specs.PartsAssigned.{AllInParts}
+use Rattle.step_items.specs.Writing.{Plain, Writes}
 use Rattle.step_items.proofs.DeskLaws.{maybe_more}
 use Rattle.step_items.proofs.WritesLaws.{writes_from}
 

@@ -14,7 +14,8 @@ use Rattle.step_forms.specs.OldNames.{NoOldSome}
 use Rattle.right_sides.specs.After.{put_items}
 use Rattle.step_items.specs.declared.desk.Reach.{Reach}
 use Rattle.step_items.specs.Branching.{to_end, Side, PlainBranches, FitBranches, each_branch}
-use Rattle.step_items.specs.Writing.{to_write, to_finish, SomeInParts, Plain, Writes}
+use Rattle.step_forms.specs.PartsAssigned.{SomeInParts}
+use Rattle.step_items.specs.Writing.{to_write, to_finish, Plain, Writes}
 use Rattle.step_items.proofs.ListLaws.{end_finish, end_still, end_plain}
 use Rattle.step_items.proofs.RowSteps.{JumpsWithin}
 

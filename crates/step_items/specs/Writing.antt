@@ -25,9 +25,9 @@ use Rattle.action_builder.specs.Settled.{WrittenJumps, jumps_one, jumps, jumps_s
 use Rattle.action_builder.specs.Written.{onto, write}
 use Rattle.action_builder.specs.WrittenNames.{renames}
 use Rattle.action_builder.specs.laws.Ready.{Settled}
-use Rattle.action_builder.proofs.FitStatements.{InParts}
 use Rattle.step_forms.specs.LeftOver.{left_over}
 use Rattle.step_forms.specs.OldNames.{NoOld}
+use Rattle.step_forms.specs.PartsAssigned.{AllInParts}
 
 -- ---- of a routine
 
@@ -91,25 +91,6 @@ abbrev pub with_part : WrittenJumps → Word → Span → Binds → Statements �
 with_part W l at bs b = then at (with bs (left_over W unlabelled l b)) done
 
 -- ---- what is asked of them
-
--- of several assignments to one variable in a statement each is to a part of it
-abbrev mutual
-  pub InPartsOne : Statement → Type 0
-  InPartsOne (assign ms) = InParts ms
-  InPartsOne (branch e a b) = AllInParts a × AllInParts b
-  InPartsOne (either bs) = SomeInParts bs
-  InPartsOne (with bs b) = AllInParts b
-  InPartsOne (while e b) = AllInParts b
-  InPartsOne _ = Unit {0}
-
-  pub AllInParts : Statements → Type 0
-  AllInParts done = Unit {0}
-  AllInParts (then at st rest) = InPartsOne st × AllInParts rest
-  AllInParts (mark l k rest) = AllInParts rest
-
-  pub SomeInParts : Branches → Type 0
-  SomeInParts no_branches = Unit {0}
-  SomeInParts (or b bs) = AllInParts b × SomeInParts bs
 
 -- statements without jumps that assign variables alone, for all of which items are written
 pub record Plain (P : Program) (S : Statements) : Type 0 where
