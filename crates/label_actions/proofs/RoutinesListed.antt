@@ -1,9 +1,8 @@
 -- Routines by their index in a list, and what holds of each routine of a list.
-use Rattle.std.proofs.Common.{◌≡◌, ℕ, suc, zero, ◌+◌, ◌<◌, ◌≤◌, List, [], ◌∷◌, length, get_or, map, refl, sym, ap, ◌∙◌, inl, inr, ◌⊎◌, arith}
+use Rattle.std.proofs.Common.{◌≡◌, ℕ, suc, zero, ◌+◌, ◌<◌, List, [], ◌∷◌, length, get_or, map, refl, inl, inr, arith}
 use Rattle.std.specs.List.{AllByRecursion}
-use Rattle.pcal_tree.specs.Algorithm.{Main, alone, processes, Routine, numbered, procedure_routine, process_routine, first_procedure, first_process, procedure_routines, main_routines, routines, Algorithm}
+use Rattle.pcal_tree.specs.Algorithm.{Routine, numbered}
 use Rattle.pcal_tree.specs.Processes.{OneOf}
-use Rattle.pcal_tree.proofs.RoutineNames.{one_either}
 
 -- the member of an index
 pub has_numbered : {X A : Type 0} (r : ℕ → A → Routine) (to : X → A) (n : ℕ) (xs : List X) (i m : ℕ) (x : X) → x ≡ get_or xs i x → i < length xs → m ≡ n + i → OneOf (r m (to x)) (numbered r n (map to xs))

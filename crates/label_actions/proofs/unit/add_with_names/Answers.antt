@@ -1,10 +1,8 @@
 -- Proves that the actions of the labels of a unit are those of its steps.
 use Rattle.std.proofs.Common.{◌≡◌, List, ◌++◌, map, length, sym, ap, subst, ◌∙◌}
 use Rattle.std.proofs.lemmas.Result.{on_ok_weaker}
-use Rattle.pcal_tree.specs.Algorithm.{Routine, locals}
 use Rattle.pcal_tree.specs.InMemory.{statements_at}
 use Rattle.pcal_tree.specs.Run.{unlabelled}
-use Rattle.pcal_tree.specs.Variables.{declared}
 use Rattle.module_write.specs.InMemory.{actions_at}
 use Rattle.step_forms.specs.Steps.{Step, steps, step_action}
 use Rattle.label_actions.specs.Fitting.{AllFit}

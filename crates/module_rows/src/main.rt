@@ -1,0 +1,18 @@
+//! `module_rows`: reads rows of modules from `rows.txt`, and prints each with its translation.
+#![tactic(auto)]
+
+mod answers;
+mod written;
+
+use answers::put_rows;
+use std::io::Write;
+use std::{fs, io};
+
+/// The rows of the file, and what is written of each.
+fn main(rt: HostRuntime) -> io::Result<()> {
+    let alloc = rt.alloc();
+    let text = fs::read_to_string(&rt, "rows.txt")?;
+    let mut told = Vec::new(alloc);
+    put_rows(alloc, &mut told, text.as_str())?;
+    rt.stdout().write_all(&told)
+}
