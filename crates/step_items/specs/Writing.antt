@@ -9,7 +9,7 @@ use Rattle.module_write.specs.declared.«module».Item.{Item}
 use Rattle.module_write.specs.InMemory.{items_at}
 use Rattle.pcal_tree.specs.declared.algorithm.Stmt.{Stmt}
 use Rattle.pcal_tree.specs.InMemory.{statements_at}
-use Rattle.pcal_tree.specs.Algorithm.{nowhere, Span, Binds, Statement, assign, branch, either, with, while, Statements, done, then, mark, Branches, no_branches, or, Routine}
+use Rattle.pcal_tree.specs.Algorithm.{nowhere, Span, Binds, Statement, branch, either, with, Statements, done, then, mark, Branches, Routine}
 use Rattle.pcal_tree.specs.Expand.{graft_all}
 use Rattle.pcal_tree.specs.Program.{Program}
 use Rattle.pcal_tree.specs.Run.{unlabelled}
