@@ -42,24 +42,6 @@ fn expression(bind: &Bind) -> NodeId
 }
 
 impl Walk {
-    // A first value.
-    #[tactic(auto, using(crate::proofs::TellLaws::adds_none))]
-    fn start(
-        &mut self,
-        sight: &Sight,
-        pool: &Pool,
-        declaration: &Declaration,
-    ) -> Result<(), AllocError>
-        requires { past_declaration declaration.now ≤ length pool.now }
-        ensures { OnOk result ((K : Word → Bool) → Adds sight.now K self.old self.new (λ ms r. start_rebinds ms K (start_at pool.now declaration.now.start) r)) }
-    {
-        match &declaration.start {
-            Start::Unset => Ok(()),
-            Start::Equals(e) => self.expr(sight, pool, *e),
-            Start::Among(e) => self.expr(sight, pool, *e),
-        }
-    }
-
     /// First values.
     ///
     /// # Errors
@@ -75,7 +57,11 @@ impl Walk {
         ensures { OnOk result ((K : Word → Bool) → Adds sight.now K self.old self.new (λ ms r. starts_rebind ms K (declarations_at pool.now list.now) r)) }
     {
         for i in 0..list.len() {
-            self.start(sight, pool, &list[i])?;
+            match &list[i].start {
+                Start::Unset => {}
+                Start::Equals(e) => self.expr(sight, pool, *e)?,
+                Start::Among(e) => self.expr(sight, pool, *e)?,
+            }
         }
         Ok(())
     }

@@ -63,27 +63,15 @@ impl Keeps {
     pub fn add(&mut self, name: &Name, kept: Kept) -> Result<(), AllocError>
         ensures { OnOk result (self.new.kept.entries ≡ insert_entry (pointwise ◌==◌) self.old.kept.entries name.now kept) }
     {
-        self.kept.insert(name.copied()?, kept)?;
-        Ok(())
-    }
-}
-
-impl Calls {
-    /// Nothing is kept.
-    pub fn new(alloc: Global, process: Name) -> Calls
-        ensures process { result.process ≡ process }
-        ensures macros { result.macros.kept.entries ≡ [] }
-        ensures procedures { result.procedures.kept.entries ≡ [] }
-    {
-        Calls {
-            alloc,
-            process,
-            macros: Keeps {
-                kept: IndexMap::new(alloc),
-            },
-            procedures: Keeps {
-                kept: IndexMap::new(alloc),
-            },
+        match name.copied() {
+            Ok(key) => {
+                self.kept.insert(key, kept)?;
+                Ok(())
+            }
+            Err(error) => {
+                drop(kept);
+                Err(error)
+            }
         }
     }
 }

@@ -76,8 +76,13 @@ impl Walk {
         ensures { OnOk result (MacroKept near.now far.now pool.now one.now self.old self.new calls.old calls.new) }
     {
         let mut kept = Kept::new(calls.alloc);
-        self.gone_through(near, far, calls, pool, one, &mut kept)?;
-        calls.macros.add(&one.name.name, kept)
+        match self.gone_through(near, far, calls, pool, one, &mut kept) {
+            Ok(()) => calls.macros.add(&one.name.name, kept),
+            Err(error) => {
+                drop(kept);
+                Err(error)
+            }
+        }
     }
 
     /// Macros: what is kept of each for those after it, and their own texts.
@@ -116,8 +121,13 @@ impl Keeps {
         ensures { OnOk result (ProcedureKept sight.now pool.now procedure.now self.old self.new) }
     {
         let mut kept = Kept::new(alloc);
-        kept.found.starts(sight, pool, &procedure.variables)?;
-        self.add(&procedure.name.name, kept)
+        match kept.found.starts(sight, pool, &procedure.variables) {
+            Ok(()) => self.add(&procedure.name.name, kept),
+            Err(error) => {
+                drop(kept);
+                Err(error)
+            }
+        }
     }
 
     /// What is kept of procedures: of the initial values of their variables, in which text is put in for `self` alone.

@@ -40,11 +40,11 @@ impl Walk {
         let identities = [process.identity];
         let args = each_brings(calls.alloc, pool, &identities)?;
         let place = Place { line: 1, col: 1 };
-        let params = [PlacedName {
+        let param = PlacedName {
             name: calls.process.copied()?,
             place,
-        }];
-        self.put(near, &params, found, &args)
+        };
+        self.put(near, std::slice::from_ref(&param), found, &args)
     }
 
     // The body of a process.
@@ -63,7 +63,9 @@ impl Walk {
             return self.body(near, calls, pool, &process.body);
         }
         let mut found = Walk::new(calls.alloc);
-        self.single(near, own, calls, pool, process, &mut found)
+        let outcome = self.single(near, own, calls, pool, process, &mut found);
+        drop(found);
+        outcome
     }
 
     // Processes.

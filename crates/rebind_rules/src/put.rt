@@ -36,41 +36,20 @@ fn argument<'a>(params: &[PlacedName], args: &'a [Vec<Piece>], name: &Name) -> O
 }
 
 impl Walk {
-    // What an argument brings.
-    fn piece(&mut self, sight: &Sight, piece: &Piece) -> Result<(), AllocError>
-        ensures { OnOk result (Adds sight.now any_name self.old self.new (λ ms r. rebound_all ms r (flat_map (piece_names r) (list_of (piece.now ∷ []))))) }
-    {
-        match piece {
-            Piece::Binds(name) => self.name(sight, name),
-            Piece::Frees(name) => self.standing(sight, name),
-        }
-    }
-
-    // All that it brings.
+    // All that an argument brings.
     fn pieces(&mut self, sight: &Sight, list: &[Piece]) -> Result<(), AllocError>
         ensures { OnOk result (Adds sight.now any_name self.old self.new (λ ms r. rebound_all ms r (flat_map (piece_names r) (list_of list.now)))) }
     {
         for piece in list {
-            self.piece(sight, piece)?;
-        }
-        Ok(())
-    }
-
-    // What an argument brings where a name is bound, and no other matters.
-    fn piece_under(&mut self, sight: &Sight, piece: &Piece, under: &Name) -> Result<(), AllocError>
-        ensures { OnOk result (Adds sight.now any_name self.old self.new (λ ms r. rebound_all ms (naming (under.now ∷ []) []) (flat_map (piece_names r) (list_of (piece.now ∷ []))))) }
-    {
-        match piece {
-            Piece::Binds(name) => {
-                let same = under.is(&name.name);
-                self.offence(sight.rebinds(same, &name.name), name.place);
+            match piece {
+                Piece::Binds(name) => self.name(sight, name)?,
+                Piece::Frees(name) => self.standing(sight, name)?,
             }
-            Piece::Frees(name) => self.beneath(sight, name, under)?,
         }
         Ok(())
     }
 
-    // All that it brings.
+    // All that an argument brings where a name is bound, and no other matters.
     fn pieces_under(
         &mut self,
         sight: &Sight,
@@ -80,7 +59,13 @@ impl Walk {
         ensures { OnOk result (Adds sight.now any_name self.old self.new (λ ms r. rebound_all ms (naming (under.now ∷ []) []) (flat_map (piece_names r) (list_of list.now)))) }
     {
         for piece in list {
-            self.piece_under(sight, piece, under)?;
+            match piece {
+                Piece::Binds(name) => {
+                    let same = under.is(&name.name);
+                    self.offence(sight.rebinds(same, &name.name), name.place);
+                }
+                Piece::Frees(name) => self.beneath(sight, name, under)?,
+            }
         }
         Ok(())
     }

@@ -12,14 +12,14 @@ ghost use Rattle.rebind_rules.specs.Telling.{Adds, IsNew};
 ghost use Rattle.rebind_rules.specs.Macros.{macro_names};
 ghost use Rattle.rebind_rules.specs.Whole.{AreNone, AreAlone, AreSights, Begins, insides};
 
-use crate::kept::Calls;
+use crate::kept::{Calls, Keeps};
 use crate::outside::bind_units;
 use crate::sight::Sight;
 use crate::walk::Walk;
 use algorithm_limits::bound::Bound;
+use indexmap::IndexMap;
 use module_outside::outside::Outside;
 use outside_sight::modules::Modules;
-use outside_sight::sight::Sight as Seen;
 use pcal_tree::algorithm::{Algorithm, Macro};
 use std::alloc::{AllocError, Global};
 use tla_pool::Pool;
@@ -43,18 +43,21 @@ pub struct Whole {
 }
 
 // The standard modules among these.
-fn modules_among(alloc: Global, extended: &[PlacedName]) -> Result<Modules, AllocError>
-    ensures { IfOk result (λ m. AreModules m (words extended.now)) }
+#[tactic(auto, using(outside_sight::proofs::ModuleLaws::none_extended, outside_sight::proofs::ModuleLaws::names_extended, outside_sight::proofs::ModuleLaws::all_extended))]
+fn modules_among(extended: &[PlacedName]) -> Modules
+    ensures { AreModules result (words extended.now) }
 {
-    let seen = Seen::new(alloc, extended, &[])?;
-    Ok(seen.modules)
-}
-
-// The name of a process's identifier.
-fn process_name(alloc: Global) -> Result<Name, AllocError>
-    ensures { IfOk result (λ n. n ≡ codes "self") }
-{
-    Ok(Name::new(Vec::from_slice(alloc, b"self")?))
+    let mut modules = Modules {
+        naturals: false,
+        integers: false,
+        sequences: false,
+        finite_sets: false,
+        tlc: false,
+    };
+    for one in extended {
+        modules = modules.with(one.name.bytes());
+    }
+    modules
 }
 
 // The names for which text may be put in, in macros.
@@ -69,29 +72,7 @@ fn add_params(names: &mut Bound, process: &Name, macros: &[Macro]) -> Result<(),
     Ok(())
 }
 
-// Where none may be.
-fn alone(alloc: Global, modules: Modules) -> Sight
-    ensures modules { result.modules ≡ modules }
-    ensures stands { result.stands ≡ [] }
-{
-    Sight {
-        modules,
-        stands: Bound::new(alloc),
-    }
-}
-
 impl Sights {
-    // No text is put in anywhere.
-    fn new(alloc: Global, modules: Modules) -> Sights
-        ensures { AreAlone modules result }
-    {
-        Sights {
-            near: alone(alloc, modules),
-            own: alone(alloc, modules),
-            far: alone(alloc, modules),
-        }
-    }
-
     // Text may be put in for the name of a process's identifier and for parameters.
     fn stand(&mut self, process: &Name, macros: &[Macro]) -> Result<(), AllocError>
         ensures { OnOk result ((m : Modules) → AreAlone m self.old → process.now ≡ codes "self" → AreSights m macros.now self.new) }
@@ -130,8 +111,30 @@ impl Whole {
         ensures walk { IsNew result.walk }
     {
         Whole {
-            sights: Sights::new(alloc, modules),
-            calls: Calls::new(alloc, process),
+            sights: Sights {
+                near: Sight {
+                    modules,
+                    stands: Bound::new(alloc),
+                },
+                own: Sight {
+                    modules,
+                    stands: Bound::new(alloc),
+                },
+                far: Sight {
+                    modules,
+                    stands: Bound::new(alloc),
+                },
+            },
+            calls: Calls {
+                alloc,
+                process,
+                macros: Keeps {
+                    kept: IndexMap::new(alloc),
+                },
+                procedures: Keeps {
+                    kept: IndexMap::new(alloc),
+                },
+            },
             walk: Walk::new(alloc),
         }
     }
@@ -176,8 +179,8 @@ pub fn rebind_refusal(
     requires { past_algorithm algorithm.now ≤ length pool.now }
     ensures { IfOk result (λ r. r ≡ first (rebind_offences_of (algorithm_at pool.now algorithm.now) (outside_at pool.now outside.now))) }
 {
-    let modules = modules_among(alloc, &outside.extended)?;
-    let process = process_name(alloc)?;
-    let mut whole = Whole::new(alloc, modules, process);
+    let modules = modules_among(&outside.extended);
+    let process = Vec::from_slice(alloc, b"self")?;
+    let mut whole = Whole::new(alloc, modules, Name::new(process));
     whole.first_offence(pool, algorithm, outside)
 }

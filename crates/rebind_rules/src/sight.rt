@@ -3,7 +3,6 @@
 ghost use Rattle.std.specs.Prelude.{◌≡◌, ◌==◌, ◌&&◌, not, List, codes};
 ghost use Rattle.std.specs.List.{list_any};
 ghost use Rattle.std.specs.Cmp.Lexicographic.{pointwise};
-ghost use Rattle.tla_token.specs.Words.{is_own as is_own_of};
 ghost use Rattle.tla_tree.specs.Tree.{Word};
 ghost use Rattle.outside_sight.specs.ModulesIn.{AreModules};
 ghost use Rattle.pcal_tree.specs.OffencesRebind.{may_rebind};
@@ -29,13 +28,6 @@ static OWN: [&str; 11] = [
     "defaultInitValue",
 ];
 
-// Whether the translation defines this name itself.
-fn is_own(word: &[u8]) -> bool
-    ensures { result ≡ is_own_of word.now }
-{
-    is_among(&OWN, word)
-}
-
 /// The standard modules that are extended, and the names for which other text may be put in.
 #[derive(Drop)]
 pub struct Sight {
@@ -44,20 +36,12 @@ pub struct Sight {
 }
 
 impl Sight {
-    // Whether it is an offence against this rule that a name is bound again; own and standard names are another rule's.
-    #[tactic(auto, using(crate::proofs::ScopeLaws::may_rebind_in))]
-    fn may_rebind(&self, name: &Name) -> bool
-        ensures { (ms : List Word) → AreModules self.now.modules ms → result ≡ may_rebind ms name.now }
-    {
-        !(is_own(name.bytes()) || self.modules.is_standard(name.bytes()))
-    }
-
-    /// Whether a name that is bound offends, where it is in scope or isn't.
-    #[tactic(auto, using(crate::proofs::ScopeLaws::rebinds_in))]
+    /// Whether a name that is bound offends, where it is in scope or isn't; own and standard names are another rule's.
+    #[tactic(auto, using(crate::proofs::ScopeLaws::may_rebind_in, crate::proofs::ScopeLaws::rebinds_in))]
     pub fn rebinds(&self, in_scope: bool, name: &Name) -> bool
         ensures { (ms : List Word) → AreModules self.now.modules ms → result ≡ (in_scope && may_rebind ms name.now) }
     {
-        let counts = self.may_rebind(name);
+        let counts = !(is_among(&OWN, name.bytes()) || self.modules.is_standard(name.bytes()));
         in_scope && counts
     }
 

@@ -12,8 +12,8 @@ use Rattle.rebind_rules.specs.Telling.{Adds}
 use Rattle.rebind_rules.proofs.KeepLaws.{found_tells}
 use Rattle.rebind_rules.proofs.kept.Keeps.procedure.Goals as goal
 
-pub returns : goal.returns
-returns c =
+pub returns-in-Ok : goal.returns-in-Ok
+returns-in-Ok c =
     on_ok_weaker c.add.result
     (λ a.
     let ts = c.args.pool.now in
@@ -25,6 +25,6 @@ returns c =
       tells = λ K.
           found_tells g K c.new-kept.result.found c.starts.new.self (λ ms s. starts_rebind ms K (declarations_at ts c.args.procedure.now.variables.items) s) c.new-kept.ensures.found
           (subst (λ (ds : List Declaration). Adds g K c.new-kept.result.found c.starts.new.self (λ ms r. starts_rebind ms K (declarations_at ts ds) r)) (c.deref.ensures.value ∙ ap (λ (p : Procedure). p.variables.items) c.procedure.view_is)
-          (c.in_ok-starts.ensures K));
+          (c.in-Ok.ensures K));
       puts = subst (λ (p : Procedure). c.add.new.self.kept.entries ≡ insert_entry equal c.args.self.now.kept.entries p.name.word d) c.procedure.view_is a;
     }) c.add.ensures

@@ -9,12 +9,12 @@ use Rattle.pcal_tree.specs.OffencesRebind.{any_name, body_rebinds}
 use Rattle.rebind_rules.proofs.KeepLaws.{found_tells}
 use Rattle.rebind_rules.proofs.walk.Walk.one_macro.Goals as goal
 
-pub returns : goal.returns
-returns c =
+pub returns-in-Ok : goal.returns-in-Ok
+returns-in-Ok c =
     on_ok_weaker c.add.result
     (λ a.
     let d = c.gone_through.new.kept in
-    let h = c.in_ok-gone_through.ensures in
+    let h = c.in-Ok.ensures in
     record {
       kept = d;
       params = h.params c.new-kept.ensures.params;

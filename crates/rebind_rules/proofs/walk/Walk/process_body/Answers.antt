@@ -20,9 +20,9 @@ returns-then-process c =
 
 pub returns : goal.returns
 returns c =
-    on_ok_weaker c.single.result
+    on_ok_weaker c.single-outcome.result
     (λ a C ps h k o.
     let ts = c.args.pool.now in
     let p = c.args.process.now in
-    subst (λ (b : Bool). Adds c.args.near.now any_name c.args.self.now c.single.new.self (λ ms r. body_rebinds ms ps (C ms) (statements_at ts p.body.items) (body_scope b (at ts p.identity) r))) (sym c.if-process.false)
-    (a C ps c.new-found.ensures h o)) c.single.ensures
+    subst (λ (b : Bool). Adds c.args.near.now any_name c.args.self.now c.single-outcome.new.self (λ ms r. body_rebinds ms ps (C ms) (statements_at ts p.body.items) (body_scope b (at ts p.identity) r))) (sym c.if-process.false)
+    (a C ps c.new-found.ensures h o)) c.single-outcome.ensures

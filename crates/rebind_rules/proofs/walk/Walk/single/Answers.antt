@@ -1,7 +1,7 @@
 -- Proves that the body of a single process is looked at where its identifier is put in.
 use Rattle.std.proofs.Common.{List, [], ◌∷◌, ap, ◌∙◌, subst}
 use Rattle.std.proofs.lemmas.Result.{on_ok_weaker}
-use Rattle.tla_tree.specs.Tree.{Word, no_trees, tree}
+use Rattle.tla_tree.specs.Tree.{Word, Name, no_trees, tree}
 use Rattle.tla_tree.specs.Pool.{at}
 use Rattle.pcal_tree.specs.declared.algorithm.Stmt.{Stmt}
 use Rattle.pcal_tree.specs.InMemory.{statements_at}
@@ -24,4 +24,5 @@ returns c =
     (found_tells c.args.own.now any_name c.args.found.now found (λ ms s. body_rebinds ms ps (C ms) (statements_at ts p.body.items) s) n
     (subst (λ (ys : List Stmt). Adds c.args.own.now any_name c.args.found.now found (λ ms s. body_rebinds ms ps (C ms) (statements_at ts ys) s)) c.deref.ensures.value (c.in_ok-body.ensures C ps o)))
     (subst (λ (w : Word). Adds c.args.near.now any_name c.args.self.now c.put.new.self (λ ms r. told ms found (putting_in (record { word = w; place = record { line = 1; col = 1 } } ∷ []) (tree t no_trees) r r))) c.in_ok-copied.ensures
-    (a (tree t no_trees) (ap lists_of c.deref-2.ensures.value ∙ c.in_ok-args.ensures)))) c.put.ensures
+    (subst (λ (ns : List Name). Adds c.args.near.now any_name c.args.self.now c.put.new.self (λ ms r. told ms found (putting_in ns (tree t no_trees) r r))) c.from_ref.ensures.value
+    (a (tree t no_trees) (ap lists_of c.deref-2.ensures.value ∙ c.in_ok-args.ensures))))) c.put.ensures
