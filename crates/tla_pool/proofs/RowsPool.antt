@@ -47,8 +47,15 @@ another_place_is_another_node h =
     let lines : 1 ≡ 2 = ap (λ (n : Entry). n.place.line) ((same_entry-Decides one one_there).0 h) in
     omega (arith, lines)
 
-place_and_parts_are_hashed : fed_entry both ≡ fed.u64 4294967297 ++ fed.usize 0 ++ fed.usize 0
+-- behind the parts the length of the word, here 0
+place_and_parts_are_hashed : fed_entry both ≡ fed.u64 4294967297 ++ fed.usize 0 ++ fed.usize 0 ++ fed.usize 0
 place_and_parts_are_hashed = refl
+
+abbrev x : Entry
+x = record { form = name (120 ∷ []); place = here; parts = [] }
+
+a_name_is_hashed_by_its_word : fed_entry x ≡ fed.u64 4294967297 ++ fed.usize 1 ++ fed.u8 120
+a_name_is_hashed_by_its_word = refl
 
 a_tree_has_its_form : root_form (node conjunction here (tree leaf (tree leaf no_trees))) ≡ conjunction
 a_tree_has_its_form = refl

@@ -2,6 +2,7 @@
 
 ghost use Rattle.std.specs.Prelude.{◌≡◌, IfOk, IsTrue, ◌↔◌};
 ghost use Rattle.tla_pool.specs.FormOf.{step_of, steps_of, slot_of, slots_of, strict_of, groups_of, form_of};
+ghost use Rattle.tla_tree.specs.PoolEquality.{word_of};
 
 use std::alloc::{AllocError, Global};
 use tla_token::Place;
@@ -293,6 +294,17 @@ fn copied_groups(
 }
 
 impl Form {
+    /// The word of a name, a primed name or a string; for any other form no bytes.
+    pub fn word(&self) -> &[u8]
+        ensures { result.now ≡ word_of (form_of self.now) }
+    {
+        match self {
+            Form::String(text) => text.bytes(),
+            Form::Name(name) | Form::Next(name) => name.bytes(),
+            _ => b"".as_slice(),
+        }
+    }
+
     /// The same form once more.
     ///
     /// # Errors

@@ -86,5 +86,6 @@ impl Hash for Node {
         let place = u64::from(line) * PAST_COLUMNS + u64::from(col);
         place.hash(state);
         usize::hash_slice(&self.parts, state);
+        self.form.word().hash(state);
     }
 }
