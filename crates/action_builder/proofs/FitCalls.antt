@@ -14,7 +14,8 @@ use Rattle.action_builder.specs.Jumps.{name_at, text_at, one_assignment, spot, j
 use Rattle.action_builder.specs.Written.{old_stack}
 use Rattle.action_builder.specs.laws.Jumps.{Unlike, AllUnlike}
 use Rattle.action_builder.proofs.FitTrees.{Fits, AllFit, HasIdentifiers, writable_fits, all_fit_more}
-use Rattle.action_builder.proofs.FitStatements.{AssignmentsFit, Beside, InParts, OrOld, StatementsFit, IsPlain}
+use Rattle.action_builder.proofs.FitStatements.{AssignmentsFit, OrOld, StatementsFit, IsPlain}
+use Rattle.action_builder.specs.laws.InParts.{Beside, InParts}
 use Rattle.action_builder.proofs.FitSettled.{PartnerFits, identifiers_or}
 use Rattle.action_builder.proofs.FitJumps.{identifier_field, NamesFit, unlike_first, parameters_first, differ, pc_name, stack_name, named_fits, text_fits, field_fits, rest_fits, names_fit, kept_fit, pushed_fits, one_fits, restored_fit, arguments_fit, fields_fit, jump_fits}
 use Rattle.action_builder.proofs.Equal.{other-name}

@@ -7,7 +7,8 @@ use Rattle.pcal_tree.specs.Algorithm.{Name, Span, Statement, assign, await, prin
 use Rattle.pcal_tree.specs.Run.{unlabelled, label_of, Partner, goto_partner, partner_of}
 use Rattle.action_builder.specs.Settled.{WrittenJumps, jumps_one, jumps, jumps_some, settled_one, settled, settled_some}
 use Rattle.action_builder.proofs.FitTrees.{AllFit, HasIdentifiers}
-use Rattle.action_builder.proofs.FitStatements.{InParts, OrOld, StatementFits, StatementsFit, OrsFit, IsPlain}
+use Rattle.action_builder.proofs.FitStatements.{OrOld, StatementFits, StatementsFit, OrsFit, IsPlain}
+use Rattle.action_builder.specs.laws.InParts.{InParts}
 
 -- what is asked of a statement that is not settled yet: procedures are of the kind C, and no macro call is left
 abbrev pub IsLoose : (Word → Type 0) → Statement → Type 0

@@ -11,7 +11,8 @@ use Rattle.pcal_tree.specs.Algorithm.{nowhere, Assignments, no_assignments, assi
 use Rattle.action_builder.specs.Assigned.{head_of}
 use Rattle.action_builder.specs.Written.{Key, sub, fixed, subs, keys_in, keys_of, keys_first, steps_of, subscripts, own, slots_of, slot_trees, except_of, sets_whole, side_of}
 use Rattle.action_builder.proofs.FitTrees.{Fits, AllFit, name_fits}
-use Rattle.action_builder.proofs.FitStatements.{AssignmentsFit, SomeKeys, Beside, InParts}
+use Rattle.action_builder.proofs.FitStatements.{AssignmentsFit}
+use Rattle.action_builder.specs.laws.InParts.{SomeKeys, Beside, InParts}
 
 -- ---- keys
 

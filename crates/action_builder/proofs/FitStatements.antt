@@ -7,6 +7,7 @@ use Rattle.pcal_tree.specs.Algorithm.{Assignments, no_assignments, assignment, B
 use Rattle.pcal_tree.specs.Expand.{placed_at, graft_left, graft_assignments, graft_binds, graft_one, graft_all, graft_some}
 use Rattle.action_builder.specs.Assigned.{head_of, head_first}
 use Rattle.action_builder.specs.Written.{Key, fixed, subs, keys_in, keys_of, keys_first, old_stack}
+use Rattle.action_builder.specs.laws.InParts.{SomeKeys, Beside, InParts}
 use Rattle.action_builder.proofs.FitTrees.{Fits, AllFit, IsPut, Puts, graft_fits, grafts_fit, fits_more}
 
 -- ---- assignments
@@ -15,19 +16,6 @@ use Rattle.action_builder.proofs.FitTrees.{Fits, AllFit, IsPut, Puts, graft_fits
 abbrev pub AssignmentsFit : (Word → Type 0) → Assignments → Type 0
 AssignmentsFit N no_assignments = Unit {0}
 AssignmentsFit N (assignment l e ms) = IsIdentifier (head_of l) × Fits N l × Fits N e × AssignmentsFit N ms
-
-abbrev pub SomeKeys : List Key → Type 0
-SomeKeys [] = ⊥
-SomeKeys (k ∷ ks) = Unit {0}
-
--- of two assignments to one variable each is to a part of it
-abbrev pub Beside : Tree → Assignments → Type 0
-Beside l no_assignments = Unit {0}
-Beside l (assignment m e ms) = (bytes_eq (head_of l) (head_of m) ≡ true → SomeKeys (keys_of l) × SomeKeys (keys_of m)) × Beside l ms
-
-abbrev pub InParts : Assignments → Type 0
-InParts no_assignments = Unit {0}
-InParts (assignment l e ms) = Beside l ms × InParts ms
 
 -- ---- statements
 

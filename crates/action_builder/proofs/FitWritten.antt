@@ -15,7 +15,8 @@ use Rattle.action_builder.specs.Written.{own, side_of, primed, left_of, unchange
 use Rattle.action_builder.specs.Prepared.{none, action_items}
 use Rattle.action_builder.proofs.FitTrees.{Fits, HasIdentifiers, graft_fits, primes_put}
 use Rattle.action_builder.proofs.FitItems.{ItemsFit, SomeFit, BranchesFit, graft_items_fit, in_place_put, onto_fits, filled_fits}
-use Rattle.action_builder.proofs.FitStatements.{AssignmentsFit, BindsFit, OrOld, StatementFits, StatementsFit, OrsFit, InParts, IsPlain}
+use Rattle.action_builder.proofs.FitStatements.{AssignmentsFit, BindsFit, OrOld, StatementFits, StatementsFit, OrsFit, IsPlain}
+use Rattle.action_builder.specs.laws.InParts.{InParts}
 use Rattle.action_builder.proofs.FitSides.{each_of, side_fits}
 use Rattle.action_builder.proofs.Names.{each_name}
 

@@ -9,3 +9,4 @@ pub mod Grafts
 pub mod Sample
 pub mod WrittenScope
 pub mod StepsOfLabels
+pub mod InParts

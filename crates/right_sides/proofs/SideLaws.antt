@@ -18,7 +18,7 @@ use Rattle.tla_pool.specs.declared.form.Slot as code_slot
 use Rattle.tla_pool.specs.declared.form.Step.{Step}
 use Rattle.tla_pool.specs.FormOf.{slot_of, slots_of as slots_in, steps_of as path_of}
 use Rattle.action_builder.specs.Written.{Key, sub, fixed, keys_of, steps_of, subscripts, slots_of, slot_trees, except_of, sets_whole, side_of}
-use Rattle.action_builder.proofs.FitStatements.{SomeKeys}
+use Rattle.action_builder.specs.laws.InParts.{SomeKeys}
 use Rattle.right_sides.specs.Groups.{past_all}
 use Rattle.right_sides.specs.Keys.{left_keys, key_trees}
 use Rattle.right_sides.specs.Parts.{slot_for, trees_for, slot_at, parts_at, slots_at, all_parts_at, AreKeyed, IsPlain}

@@ -23,7 +23,7 @@ use Rattle.pcal_tree.proofs.InMemoryGrown.{assignments_at-kept}
 use Rattle.action_builder.specs.Assigned.{Names, head_of, heads}
 use Rattle.action_builder.specs.Written.{keys_of, own, side_of, primed, onto, settings_of}
 use Rattle.action_builder.specs.laws.Ready.{LeftSides}
-use Rattle.action_builder.proofs.FitStatements.{SomeKeys, Beside, InParts}
+use Rattle.action_builder.specs.laws.InParts.{SomeKeys, Beside, InParts}
 use Rattle.action_builder.proofs.Names.{one_in}
 use Rattle.right_sides.specs.declared.after.After.{After}
 use Rattle.right_sides.specs.After.{after_tree, after_items, AfterIn}

@@ -7,7 +7,7 @@ use Rattle.tla_tree.specs.Pool.{at}
 use Rattle.pcal_tree.specs.declared.algorithm.Assignment.{Assignment}
 use Rattle.pcal_tree.specs.Algorithm.{Assignments, no_assignments, assignment}
 use Rattle.action_builder.specs.Written.{Key, keys_of, steps_of}
-use Rattle.action_builder.proofs.FitStatements.{SomeKeys}
+use Rattle.action_builder.specs.laws.InParts.{SomeKeys}
 use Rattle.right_sides.specs.Keys.{left_keys, key_trees}
 
 -- a slot for a left side with keys, and none for a whole variable

@@ -11,7 +11,7 @@ ghost use Rattle.module_write.specs.InMemory.{items_at, past_items};
 ghost use Rattle.action_builder.specs.Assigned.{heads};
 ghost use Rattle.action_builder.specs.Written.{onto, settings_of};
 ghost use Rattle.action_builder.specs.laws.Ready.{LeftSides};
-ghost use Rattle.action_builder.proofs.FitStatements.{InParts};
+ghost use Rattle.action_builder.specs.laws.InParts.{InParts};
 ghost use Rattle.right_sides.specs.After.{after_items, AfterIn};
 ghost use Rattle.right_sides.specs.Groups.{groups_at, past_all, past_groups};
 ghost use Rattle.right_sides.specs.Settings.{settings_in, ArePlain};

@@ -1,5 +1,5 @@
 -- Statements in which no variable is assigned whole beside another assignment of it ("A PlusCal User's Manual", section 3.2.1, multiple assignment).
-use Rattle.action_builder.proofs.FitStatements.{InParts}
+use Rattle.action_builder.specs.laws.InParts.{InParts}
 use Rattle.pcal_tree.specs.Algorithm.{Statement, assign, branch, either, with, while, Statements, done, then, mark, Branches, no_branches, or}
 
 -- of several assignments to one variable in a statement each is to a part of it

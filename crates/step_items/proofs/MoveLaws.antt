@@ -24,7 +24,7 @@ use Rattle.action_builder.specs.Assigned.{Names, assigned_in}
 use Rattle.action_builder.specs.Jumps.{spot}
 use Rattle.action_builder.specs.Written.{old_stack, onto, primed, write}
 use Rattle.action_builder.specs.laws.Ready.{LeftSides, Settled}
-use Rattle.action_builder.proofs.FitStatements.{InParts}
+use Rattle.action_builder.specs.laws.InParts.{InParts}
 use Rattle.step_forms.proofs.WrittenLaws.{onto_none, Unmarked}
 use Rattle.proc_stack.specs.Moves.{in_order, moves_at}
 use Rattle.right_sides.specs.declared.after.After.{After}

@@ -23,7 +23,7 @@ ghost use Rattle.action_builder.specs.LabelActions.{no_jump_places, written_init
 ghost use Rattle.action_builder.specs.Written.{primed};
 ghost use Rattle.action_builder.specs.WrittenNames.{renames};
 ghost use Rattle.action_builder.specs.laws.Ready.{LeftSides};
-ghost use Rattle.action_builder.proofs.FitStatements.{InParts};
+ghost use Rattle.action_builder.specs.laws.InParts.{InParts};
 ghost use Rattle.proc_stack.specs.Moves.{in_order, moves_at, past_moves};
 ghost use Rattle.right_sides.specs.After.{AfterIn, after_items, put_items};
 ghost use Rattle.step_items.specs.Desks.{DeskIn, IsDesk};

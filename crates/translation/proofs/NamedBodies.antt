@@ -16,7 +16,8 @@ use Rattle.action_builder.specs.Assigned.{head_of, head_first}
 use Rattle.action_builder.specs.Written.{sub, fixed, keys_of, keys_first, subs, old_stack}
 use Rattle.action_builder.specs.WrittenNames.{renames}
 use Rattle.action_builder.proofs.FitTrees.{Fits, IsPut, Puts, name_fits, writable_fits, writable_all_fit}
-use Rattle.action_builder.proofs.FitStatements.{AssignmentsFit, BindsFit, StatementFits, StatementsFit, OrsFit, HeadsAre, SomeKeys, some_after, Beside, InParts, LeavesOld, head_graft, head_left, parts_graft, graft_all_fits}
+use Rattle.action_builder.proofs.FitStatements.{AssignmentsFit, BindsFit, StatementFits, StatementsFit, OrsFit, HeadsAre, some_after, LeavesOld, head_graft, head_left, parts_graft, graft_all_fits}
+use Rattle.action_builder.specs.laws.InParts.{SomeKeys, Beside, InParts}
 use Rattle.action_builder.proofs.FitSettled.{IsLoose}
 use Rattle.translation.specs.laws.WritableAlgorithm.{IsLeftSide, AreWritableAssignments, AreWritableBinds, IsWritableStatement, AreWritableStatements, AreWritableBranches}
 use Rattle.action_builder.proofs.Names.{each_name}

@@ -8,7 +8,7 @@ use Rattle.pcal_tree.specs.InMemory.{assignments_at}
 use Rattle.pcal_tree.specs.Variables.{vars}
 use Rattle.action_builder.specs.Jumps.{spot}
 use Rattle.action_builder.specs.laws.Ready.{LeftSides}
-use Rattle.action_builder.proofs.FitStatements.{InParts}
+use Rattle.action_builder.specs.laws.InParts.{InParts}
 use Rattle.step_items.specs.Writing.{own_of}
 use Rattle.step_items.proofs.DeskLaws.{desk_kept}
 use Rattle.step_items.proofs.WritesLaws.{if_ok}

@@ -6,7 +6,7 @@ use Rattle.pcal_tree.specs.Algorithm.{Assignments}
 use Rattle.pcal_tree.specs.InMemory.{assignments_at}
 use Rattle.pcal_tree.specs.Variables.{vars}
 use Rattle.action_builder.specs.laws.Ready.{LeftSides}
-use Rattle.action_builder.proofs.FitStatements.{InParts}
+use Rattle.action_builder.specs.laws.InParts.{InParts}
 use Rattle.step_items.proofs.WritesLaws.{both_ok, after_more, writes_settings}
 use Rattle.step_items.proofs.moves.set.Goals as goal
 

@@ -13,7 +13,7 @@ use Rattle.pcal_tree.proofs.InMemoryGrown.{assignments_at-kept}
 use Rattle.name_bits.specs.NamesIn.{AllApart}
 use Rattle.action_builder.specs.Jumps.{spot}
 use Rattle.action_builder.specs.laws.Ready.{LeftSides}
-use Rattle.action_builder.proofs.FitStatements.{InParts}
+use Rattle.action_builder.specs.laws.InParts.{InParts}
 use Rattle.tla_token.specs.Signs.{is_among}
 use Rattle.tla_token.specs.Places.{nowhere}
 use Rattle.proc_stack.specs.Moves.{in_order, moves_at}
