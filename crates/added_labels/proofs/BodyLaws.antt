@@ -23,12 +23,12 @@ use Rattle.pcal_tree.proofs.InMemoryEach.{past_one_more}
 use Rattle.label_steps.specs.AroundIn.{effects_around, names_of}
 use Rattle.label_steps.specs.KnownIn.{AreMacros}
 use Rattle.label_steps.proofs.TwiceLaws.{in_procedure, outside}
-use Rattle.added_labels.specs.declared.place.Plan.{Plan}
+use Rattle.placed_labels.specs.declared.place.Plan.{Plan}
 use Rattle.added_labels.specs.declared.seen.Where.{Where}
 use Rattle.added_labels.specs.Chosen.{begins_with}
 use Rattle.added_labels.specs.Decided.{chosen}
-use Rattle.added_labels.specs.InMemory.{AreLeft, PutsAll}
-use Rattle.added_labels.specs.Placed.{macro_with, past_macro, procedure_with, past_procedure, process_with, past_process, each_with, past_each, main_with, past_macros, all_names}
+use Rattle.placed_labels.specs.InMemory.{AreLeft, PutsAll}
+use Rattle.added_labels.specs.Bodies.{macro_with, past_macro, procedure_with, past_procedure, process_with, past_process, each_with, past_each, main_with, past_macros, all_names}
 use Rattle.added_labels.specs.Sight.{effects_of}
 use Rattle.added_labels.specs.WithLabels.{BodyWith, OneWith, EachWith, MainWith, IsSilent, IsOutside, Begun}
 use Rattle.added_labels.proofs.RootLaws.{with_labels_alike}

@@ -31,7 +31,7 @@ use Rattle.added_labels.specs.Decided as decided
 use Rattle.added_labels.specs.Decided.{stand, held_inside, due_behind, path_behind, behind, held, ending, held_some, path_behind_some, chosen_inside, chosen, chosen_some}
 use Rattle.added_labels.specs.Sight.{is_due, is_while, here, offends, is_kept, SeesOne, SeesList, Begins, IsKept}
 use Rattle.added_labels.specs.Chosen.{StandsNow, OnPath, ChoosesOne, ChoosesList, ChoosesBranch, ChoosesBranches, begins_with}
-use Rattle.added_labels.proofs.PlaceLaws.{same_statement}
+use Rattle.placed_labels.proofs.PlaceLaws.{same_statement}
 use Rattle.added_labels.proofs.SightLaws.{some, some_both, here_is, or_three, Quiet, never_assigned, Into, Out, Labelled, Ended, due_if, path_same, has_alike, simple_facts, joined_none, joined_three, begins_anew, kept_begins}
 
 -- ---- before which statement a label is added

@@ -10,7 +10,8 @@ use Rattle.pcal_tree.specs.Paths.{Effect, Effects, Path, joined, rounds, nothing
 use Rattle.pcal_tree.specs.OffencesSteps.{Before, holds_one, holds, holds_some, due_after, at_label, at_first, inside, procedure_effects, outer_effects}
 use Rattle.pcal_tree.specs.Labelled.{Supply, names_after, labelled_if, needs_label, before, add_inside, add, add_some, add_to_macros, add_to_procedures, add_to_processes, add_to_main, with_labels}
 use Rattle.added_labels.specs.Decided.{stand, held_inside, due_behind, path_behind, behind, held, ending, held_some, path_behind_some, chosen_inside, chosen, chosen_some}
-use Rattle.added_labels.specs.Placed.{Plan, past_inside, past, past_some, placed_inside, placed, placed_some, past_macro, macros_with, past_macros, past_procedure, procedures_with, past_procedures, process_with, past_process, each_with, main_with, all_with, all_names}
+use Rattle.placed_labels.specs.Placed.{Plan, past_inside, past, past_some, placed_inside, placed, placed_some}
+use Rattle.added_labels.specs.Bodies.{past_macro, macros_with, past_macros, past_procedure, procedures_with, past_procedures, process_with, past_process, each_with, main_with, all_with, all_names}
 
 abbrev pub plan : List Bool → Supply → Plan
 plan ws s = record { wanted = ws; names = s }

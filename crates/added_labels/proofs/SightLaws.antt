@@ -27,8 +27,8 @@ use Rattle.pcal_tree.proofs.SetLaws.{Same, same_both, meets_same}
 use Rattle.label_steps.specs.declared.sides.Step.{Step}
 use Rattle.label_steps.specs.KnownIn.{Assigns}
 use Rattle.std.specs.Option.{is_some}
-use Rattle.added_labels.specs.InMemory.{IsPlaceOf}
-use Rattle.added_labels.proofs.PlaceLaws.{same_statement}
+use Rattle.placed_labels.specs.InMemory.{IsPlaceOf}
+use Rattle.placed_labels.proofs.PlaceLaws.{same_statement}
 use Rattle.pcal_tree.specs.Run.{Partner, partner_of}
 use Rattle.pcal_tree.specs.Tests.{is_empty}
 use Rattle.pcal_tree.specs.Offences.{offence_if}

@@ -1,7 +1,6 @@
 -- Words in which the contracts of this crate are said.
 pub mod Decided
-pub mod Placed
-pub mod InMemory
+pub mod Bodies
 pub mod Sight
 pub mod Chosen
 pub mod WithLabels

@@ -10,10 +10,10 @@ use Rattle.pcal_tree.specs.Labelled.{Supply}
 use Rattle.pcal_tree.specs.OffencesSteps.{Before}
 use Rattle.pcal_tree.specs.Paths.{Effect, Effects}
 use Rattle.label_steps.specs.KnownIn.{AreMacros}
-use Rattle.added_labels.specs.declared.place.Plan.{Plan}
+use Rattle.placed_labels.specs.declared.place.Plan.{Plan}
 use Rattle.added_labels.specs.declared.seen.Where.{Where}
-use Rattle.added_labels.specs.InMemory.{AreLeft}
-use Rattle.added_labels.specs.Placed.{body_with, names_past, each_with, past_each, main_with, macros_with, past_macros, all_names}
+use Rattle.placed_labels.specs.InMemory.{AreLeft}
+use Rattle.added_labels.specs.Bodies.{body_with, names_past, each_with, past_each, main_with, macros_with, past_macros, all_names}
 
 -- these names are left behind it
 pub record With {X : Type 0} (old new : Plan) (is was : X) (f : Supply → X → X) (g : Supply → X → Supply) (s : Supply) : Type 0 where

@@ -11,8 +11,7 @@ ghost use Rattle.pcal_tree.specs.Tests.{is_empty};
 ghost use Rattle.label_steps.specs.KnownIn.{AreMacros};
 ghost use Rattle.added_labels.specs.WithLabels.{Begun};
 
-use crate::names::Names;
-use crate::place::Plan;
+use crate::bodies::{in_macros, in_main, in_procedures};
 use crate::seen::Where;
 use crate::typed::typed_names;
 use algorithm_limits::labels::{MOST_LABELS, labels};
@@ -22,6 +21,8 @@ use label_steps::around::Around;
 use label_steps::known::Known;
 use label_steps::macros::known_macros;
 use pcal_tree::algorithm::{Algorithm, Main};
+use placed_labels::names::Names;
+use placed_labels::place::Plan;
 use std::alloc::{AllocError, Global};
 use std::mem::replace;
 use tla_pool::Pool;
@@ -81,7 +82,7 @@ pub fn with_macros(
     };
     let mut changed = algorithm;
     let macros = replace(&mut changed.macros, Vec::new(alloc));
-    changed.macros = plan.macros(alloc, pool, &place, macros)?;
+    changed.macros = in_macros(alloc, pool, &mut plan, &place, macros)?;
     Ok((plan, changed))
 }
 
@@ -113,11 +114,11 @@ pub fn with_routines(
     };
     let mut changed = algorithm;
     let procedures = replace(&mut changed.procedures, Vec::new(alloc));
-    changed.procedures = plan.procedures(alloc, pool, &mut place, procedures)?;
+    changed.procedures = in_procedures(alloc, pool, &mut plan, &mut place, procedures)?;
     place.around.name = None;
     place.around.own = Vec::new(alloc);
     let main = replace(&mut changed.main, Main::Alone(Vec::new(alloc)));
-    changed.main = plan.main(alloc, pool, &place, main)?;
+    changed.main = in_main(alloc, pool, &mut plan, &place, main)?;
     Ok(changed)
 }
 

@@ -15,11 +15,11 @@ ghost use Rattle.added_labels.specs.Decided.{chosen};
 ghost use Rattle.added_labels.specs.Sight.{IsNext, effects_of, offends};
 ghost use Rattle.added_labels.specs.Chosen.{StandsNow, ChoosesOne, ChoosesList, ChoosesBranch, ChoosesBranches, OnPath, begins_with};
 
-use crate::place::place_of;
 use crate::seen::{Next, Seen, Where, next_of};
 use crate::within::{begin, finish};
 use label_steps::path::Path;
 use pcal_tree::algorithm::Stmt;
+use placed_labels::place::place_of;
 use std::alloc::{AllocError, Global};
 use tla_pool::Pool;
 

@@ -4,8 +4,6 @@
 pub mod add;
 pub mod bodies;
 pub mod choose;
-pub mod names;
-pub mod place;
 pub mod seen;
 pub mod typed;
 pub mod within;

@@ -11,11 +11,11 @@ ghost use Rattle.label_steps.specs.KnownIn.{AreMacros};
 ghost use Rattle.label_steps.specs.PathsIn.{Behind};
 ghost use Rattle.added_labels.specs.Sight.{IsNext, effects_of, is_due, SeesOne, SeesList, SeesBranch, SeesBranches, Begins, Finishes, Rounds};
 
-use crate::place::place_of;
 use crate::seen::{Next, Seen, Where, next_of, one_of};
 use label_steps::due::jumps;
 use label_steps::path::Path;
 use pcal_tree::algorithm::{Simple, Stmt};
+use placed_labels::place::place_of;
 use std::alloc::{AllocError, Global};
 use std::mem::replace;
 use tla_pool::Pool;

@@ -11,7 +11,6 @@ pub mod PlainParts
 pub mod StepStrings
 pub mod StepsInParts
 pub mod OpenedSteps
-pub mod OpenableAlgorithms
 pub mod OpenedParts
 pub mod FewVariables
 pub mod CheckedVariables

@@ -20,7 +20,7 @@ use Rattle.translation.specs.laws.WritableAlgorithm.{IsWritableAlgorithm}
 use Rattle.translation.proofs.NamesApart.{writable}
 use Rattle.build_premises.specs.Buildable.{InPartsFor, StepFits}
 use Rattle.build_premises.proofs.BuiltSteps.{buildable_no_old}
-use Rattle.build_premises.proofs.OpenableAlgorithms.{accepted_openable}
+use Rattle.region_forms.proofs.OpenedRegions.{accepted_openable}
 use Rattle.build_premises.proofs.OpenedSteps.{routine_opened, opened_built, opened_settled}
 use Rattle.build_premises.proofs.StepsInParts.{step_parts}
 

@@ -27,12 +27,11 @@ ghost use Rattle.translation.specs.laws.WritableAlgorithm.{IsWritableAlgorithm};
 ghost use Rattle.step_forms.specs.OldNames.{NoOld};
 ghost use Rattle.build_premises.specs.Buildable.{CallsNamed, Buildable, SettledFor, InPartsFor, StepFits};
 
-/// An accepted algorithm can be written, and breaks no rule on names and labels; and its macro calls can be written out.
+/// An accepted algorithm can be written, and breaks no rule on names and labels.
 pub fn accepted_algorithms_break_no_rule()
     ensures writable { (o : Outside) (g : Algorithm) → IsAcceptedInFile o g → IsWritableAlgorithm o g }
     ensures names { (o : Outside) (g : Algorithm) → IsAcceptedInFile o g → name_offences g o ≡ [] }
     ensures labels { (o : Outside) (g : Algorithm) → IsAcceptedInFile o g → label_offences g ≡ [] }
-    ensures openable { (o : Outside) (g : Algorithm) → IsAcceptedInFile o g → IsOpenable g }
 {}
 
 /// In each routine of an algorithm that can be written and breaks no rule on labels, with macro calls written out and in its written names, each left side begins with

@@ -22,7 +22,7 @@ use Rattle.expansion.specs.Expanded.{expanded_procedure, expanded_process}
 use Rattle.expansion.proofs.PutTwice.{all_none}
 use Rattle.expansion_size.proofs.FrameLaws.{put_outside}
 use Rattle.expansion.proofs.BodyLaws.{newest_kept}
-use Rattle.expansion.proofs.Lists.{MadeOf, Grows}
+use Rattle.macro_arguments.proofs.Lists.{MadeOf, Grows}
 
 -- outside macros what is written is the expansion
 pub outside_written : (ts : List Tree) (ms : List Macro) (ss : List Stmt) → written ts ms Outside ss ≡ expanded (newest_first ts ms) (statements_at ts ss)

@@ -21,12 +21,12 @@ use Rattle.pcal_tree.proofs.InMemoryGrown.{binds_at-kept, statements_at-kept, ea
 use Rattle.expansion_size.specs.FramesIn.{newest_first, put_by, past_frames}
 use Rattle.expansion_size.specs.declared.frames.Frames.{Frames}
 use Rattle.expansion_size.specs.declared.frames.Frames.TheVariants.{Called}
-use Rattle.expansion.specs.FramesStay.{put_anywhere, put_kept}
-use Rattle.expansion.specs.Expressions.{StandBinds}
+use Rattle.macro_arguments.specs.FramesStay.{put_anywhere, put_kept}
+use Rattle.macro_arguments.specs.Expressions.{StandBinds}
 use Rattle.expansion.specs.Written.{put_out, expand_first, written, written_some, inside_written, body_written, Stand, StandSome}
 use Rattle.expansion.proofs.PutTwice.{all_twice, joined_done, joined_again, put_joined}
 use Rattle.expansion_size.proofs.FrameLaws.{put_called}
-use Rattle.expansion.proofs.Lists.{MadeOf, Grows}
+use Rattle.macro_arguments.proofs.Lists.{MadeOf, Grows}
 
 -- ---- one after another
 

@@ -8,6 +8,7 @@ use Rattle.pcal_tree.specs.Expand.{placed_at, graft_left, graft_assignments, gra
 use Rattle.pcal_tree.specs.OffencesSteps.{called_with, nothing_put}
 use Rattle.pcal_tree.proofs.TargetLaws.{Anywhere}
 use Rattle.expansion_size.proofs.GraftLaws.{graft_called, grafts_called, graft_none, grafts_none}
+use Rattle.macro_arguments.proofs.TreeLaws.{left_none}
 use Rattle.expansion.specs.Written.{put_out}
 
 -- ---- a left side keeps its place
@@ -68,9 +69,6 @@ module _ (g : Graft) (free : Anywhere g) (ps : List Name) (us : Trees) where
     some_twice (or b bs) = λ z. or (all_twice b z) (some_twice bs z)
 
 -- ---- nothing put in
-
-pub left_none : (l : Tree) → graft_left nothing_put l ≡ l
-left_none (node m at ts) = ap (placed_at at) (graft_none (node m at ts))
 
 assignments_none : (ms : Assignments) → graft_assignments nothing_put ms ≡ ms
 assignments_none no_assignments = refl

@@ -1,5 +1,3 @@
 -- What algorithms are with their macro calls written out, in memory.
-pub mod FramesStay
-pub mod Expressions
 pub mod Written
 pub mod Expanded

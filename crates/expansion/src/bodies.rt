@@ -10,10 +10,10 @@ ghost use Rattle.pcal_tree.specs.InMemory.{span_of, stmt_at, past_numbers, past_
 ghost use Rattle.expansion_size.specs.FramesIn.{put_by, past_frames, newest_first};
 ghost use Rattle.expansion.specs.Written.{expand_first, inside_written, written, written_some, Stand, StandSome};
 
-use crate::expressions::expression;
 use crate::macros::newest;
 use crate::parts::{binds, simple};
 use expansion_size::frames::Frames;
+use macro_arguments::expressions::expression;
 use pcal_tree::algorithm::{Macro, Simple, Span, Stmt};
 use std::alloc::{AllocError, Global};
 use tla_pool::Pool;

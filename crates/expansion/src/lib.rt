@@ -3,7 +3,6 @@
 
 pub mod algorithm;
 pub mod bodies;
-pub mod expressions;
 pub mod macros;
 pub mod parts;
 

@@ -7,10 +7,10 @@ ghost use Rattle.tla_tree.specs.Nesting.{greatest};
 ghost use Rattle.pcal_tree.specs.Expand.{graft_left, graft_assignments, graft_binds, graft_one};
 ghost use Rattle.pcal_tree.specs.InMemory.{assignments_at, bind_at, binds_at, simple_at, past_assignment, past_bind, past_binds, past_simple};
 ghost use Rattle.expansion_size.specs.FramesIn.{put_by, past_frames};
-ghost use Rattle.expansion.specs.Expressions.{StandAssignments, StandBinds, StandSimple, bind_put};
+ghost use Rattle.macro_arguments.specs.Expressions.{StandAssignments, StandBinds, StandSimple, bind_put};
 
-use crate::expressions::{expression, expressions, left_side};
 use expansion_size::frames::Frames;
+use macro_arguments::expressions::{expression, expressions, left_side};
 use pcal_tree::algorithm::{Assignment, Bind, Simple};
 use std::alloc::{AllocError, Global};
 use tla_pool::Pool;

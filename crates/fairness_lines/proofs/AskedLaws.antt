@@ -15,12 +15,12 @@ use Rattle.fairness.specs.ReachedProcedures.{reached}
 use Rattle.fairness.specs.Demands.{all_steps, label_steps, demands_in, demands_of, main_demands, demands}
 use Rattle.fairness.specs.MarkedLabels.{strong_labels}
 use Rattle.fairness_lines.specs.declared.demands.Demand as code
-use Rattle.fairness_lines.specs.declared.labels.Wanted.TheVariants as wanted
-use Rattle.fairness_lines.specs.Wanted.{written_label, labels_of}
+use Rattle.marked_labels.specs.declared.labels.Wanted.TheVariants as wanted
+use Rattle.marked_labels.specs.Wanted.{written_label, labels_of}
 use Rattle.fairness_lines.specs.Asked.{Asked, of_all, of_routine, of_label, asked, asked_in, asked_of_process, asked_of_processes, asked_of_main, strength_of}
 use Rattle.fairness_lines.specs.DemandsAt.{asked_at, all_asked}
 use Rattle.fairness_lines.proofs.NamesFound.{only_some, none_some}
-use Rattle.fairness_lines.proofs.LabelLaws.{chosen_strong}
+use Rattle.marked_labels.proofs.LabelLaws.{chosen_strong}
 
 -- ---- one more
 

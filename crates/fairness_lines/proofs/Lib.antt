@@ -1,14 +1,12 @@
 -- Lemmas for the contracts of this crate.
 pub mod NamesFound
 pub mod ReachedLaws
-pub mod Walks
 pub mod NumberLaws
 pub mod WorkLaws
 pub mod Reaching
 pub mod ProceduresFound
 pub mod TableRows
 pub mod TableLaws
-pub mod LabelLaws
 pub mod AskedLaws
 pub mod LineLaws
 pub mod ObligationLaws

@@ -6,7 +6,7 @@ use Rattle.pcal_tree.specs.declared.mark.Mark.{Mark}
 use Rattle.pcal_tree.specs.Algorithm.{Statement, Statements, Branches}
 use Rattle.fairness.specs.ReachedProcedures.{calls_in, calls, calls_some}
 use Rattle.fairness_lines.specs.Numbers.{number_in, numbers_in}
-use Rattle.fairness_lines.proofs.Walks.{IsWalk}
+use Rattle.marked_labels.proofs.Walks.{IsWalk}
 
 module _ (order : List Word) where
   abbrev pub numbers : Statements → List ℕ

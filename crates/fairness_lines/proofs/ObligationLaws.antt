@@ -10,7 +10,7 @@ use Rattle.fairness.specs.Demands.{Demand, all_steps, routine_steps, label_steps
 use Rattle.fairness.specs.Obligations.{written_labels, obligation_of, obligations}
 use Rattle.fairness_lines.specs.Asked.{asked}
 use Rattle.fairness_lines.specs.LinesOf.{obligation_for, every_in}
-use Rattle.fairness_lines.proofs.LabelLaws.{chosen_all, chosen_kept}
+use Rattle.marked_labels.proofs.LabelLaws.{chosen_all, chosen_kept}
 
 module _ (P : Program) where
   every_is : (us : List Routine) → flat_map (λ u. written_labels P u (label_words u.body)) us ≡ every_in P.naming us

@@ -7,8 +7,8 @@ use Rattle.pcal_tree.specs.Takers.{Takers, taken_process}
 use Rattle.fairness.specs.Demands.{Demand, all_steps, routine_steps, label_steps, demands_of}
 use Rattle.pcal_tree.specs.declared.mark.Fairness.{Fairness}
 use Rattle.pcal_tree.specs.declared.mark.Fairness.TheVariants.{Unfair, Weak, Strong}
-use Rattle.fairness_lines.specs.declared.labels.Wanted.TheVariants as wanted
-use Rattle.fairness_lines.specs.Wanted.{written_label, labels_of}
+use Rattle.marked_labels.specs.declared.labels.Wanted.TheVariants as wanted
+use Rattle.marked_labels.specs.Wanted.{written_label, labels_of}
 
 pub data Asked : Type 0 where
   of_all : Asked

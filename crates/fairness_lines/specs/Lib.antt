@@ -3,8 +3,6 @@ pub mod LeastSets
 pub mod Numbers
 pub mod WorkLists
 pub mod Tables
-pub mod Wanted
 pub mod Asked
 pub mod DemandsAt
 pub mod LinesOf
-pub mod Added

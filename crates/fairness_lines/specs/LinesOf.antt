@@ -10,9 +10,9 @@ use Rattle.pcal_tree.specs.Variables.{pc}
 use Rattle.action_builder.specs.LabelActions.{call_by}
 use Rattle.fairness.specs.Obligations.{Obligation}
 use Rattle.fairness.specs.FairnessLines.{identifier_of, over_of, guard_of}
-use Rattle.fairness_lines.specs.declared.labels.Wanted.TheVariants.{All, LeftOut, Kept}
+use Rattle.marked_labels.specs.declared.labels.Wanted.TheVariants.{All, LeftOut, Kept}
 use Rattle.fairness_lines.specs.declared.obligations.Obligation as code
-use Rattle.fairness_lines.specs.Wanted.{labels_of}
+use Rattle.marked_labels.specs.Wanted.{labels_of}
 use Rattle.fairness_lines.specs.Asked.{Asked, of_all, of_routine, of_label}
 
 -- of a process whose number is k, an action of the routine with the number n

@@ -5,7 +5,7 @@ ghost use Rattle.tla_tree.specs.Tree.{Tree};
 ghost use Rattle.pcal_tree.specs.InMemory.{simple_at, statements_at, branches_at};
 ghost use Rattle.fairness.specs.ReachedProcedures.{calls_in, calls, calls_some};
 ghost use Rattle.fairness_lines.specs.Numbers.{number_in, numbers_in};
-ghost use Rattle.fairness_lines.specs.Added.{AddsAt};
+ghost use Rattle.marked_labels.specs.Added.{AddsAt};
 
 use name_bits::Order;
 use pcal_tree::algorithm::{Simple, Stmt};

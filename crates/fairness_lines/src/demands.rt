@@ -10,15 +10,15 @@ ghost use Rattle.written_names.specs.Units.{naming_of};
 ghost use Rattle.fairness.specs.ReachedProcedures.{reached as reached_by};
 ghost use Rattle.fairness.specs.Demands.{demands as demands_of_algorithm};
 ghost use Rattle.fairness_lines.specs.Tables.{IsTable, marked_word};
-ghost use Rattle.fairness_lines.specs.Wanted.{labels_of};
-ghost use Rattle.fairness_lines.specs.declared.labels.Wanted.TheVariants.{Strong};
+ghost use Rattle.marked_labels.specs.Wanted.{labels_of};
+ghost use Rattle.marked_labels.specs.declared.labels.Wanted.TheVariants.{Strong};
 ghost use Rattle.fairness_lines.specs.Asked.{of_all, of_label, asked, asked_of, asked_in, asked_of_process, asked_of_processes, asked_of_main, strength_of};
 ghost use Rattle.fairness_lines.specs.DemandsAt.{takers_at, all_asked, AllDemandsIn};
 
-use crate::labels::{Wanted, statements};
 use crate::numbers::sum;
 use crate::table::{Table, is_marked, reached, table_of};
 use draft::Draft;
+use marked_labels::labels::{Wanted, statements};
 use name_bits::Order;
 use pcal_tree::algorithm::{Main, Procedure, Process, Stmt};
 use pcal_tree::mark::Fairness;

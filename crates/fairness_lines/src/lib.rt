@@ -3,7 +3,6 @@
 
 pub mod calls;
 pub mod demands;
-pub mod labels;
 pub mod lines;
 pub mod numbers;
 pub mod obligations;

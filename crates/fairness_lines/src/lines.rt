@@ -12,14 +12,14 @@ ghost use Rattle.written_names.specs.Units.{naming_of};
 ghost use Rattle.module_write.specs.InMemory.{call_at, over_at, fairness_at, CallIn, OverIn, MaybeIn, FairnessIn, AllFairnessIn};
 ghost use Rattle.fairness.specs.FairnessLines.{identifier_of, over_of, guard_of, fairness_lines};
 ghost use Rattle.draft.specs.Drafts.{IsDraft};
-ghost use Rattle.fairness_lines.specs.declared.labels.Wanted.TheVariants.{LeftOut};
-ghost use Rattle.fairness_lines.specs.Wanted.{labels_of};
+ghost use Rattle.marked_labels.specs.declared.labels.Wanted.TheVariants.{LeftOut};
+ghost use Rattle.marked_labels.specs.Wanted.{labels_of};
 ghost use Rattle.fairness_lines.specs.DemandsAt.{takers_at, asked_at, all_asked, DemandIn, AllDemandsIn};
 ghost use Rattle.fairness_lines.specs.LinesOf.{call_of, position_of, routine_line as routine_line_of, label_line as label_line_of, next_line as next_line_of, line_for};
 
 use crate::demands::{Demand, Owner, add_demands};
-use crate::labels::{Wanted, statements};
 use draft::Draft;
+use marked_labels::labels::{Wanted, statements};
 use module_write::formulas::{at, is_in, named, quoted, set};
 use module_write::module::{Call, Fairness};
 use pcal_tree::algorithm::Stmt;

@@ -13,9 +13,9 @@ ghost use Rattle.fairness_lines.specs.DemandsAt.{takers_at, asked_at, all_asked}
 ghost use Rattle.fairness_lines.specs.LinesOf.{obligation_for, every_in, obligation_seen};
 
 use crate::demands::{Demand, Owner, add_demands};
-use crate::labels::{Wanted, statements};
 use crate::numbers::sum;
 use draft::Draft;
+use marked_labels::labels::{Wanted, statements};
 use pcal_tree::algorithm::{Main, Procedure, Process, Stmt};
 use std::alloc::{AllocError, Global};
 use tla_tree::{Name, NameList};

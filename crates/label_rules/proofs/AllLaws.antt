@@ -16,7 +16,7 @@ use Rattle.label_steps.specs.AroundIn.{effects_around}
 use Rattle.label_steps.specs.WaysIn.{AreWays}
 use Rattle.added_labels.specs.declared.seen.Where.{Where}
 use Rattle.added_labels.specs.Sight.{effects_of}
-use Rattle.label_rules.specs.Stepping.{Told, told, GoesAll}
+use Rattle.step_offences.specs.Stepping.{Told, told, GoesAll}
 use Rattle.label_rules.proofs.AddedLaws.{added_then}
 
 -- in a list of its own, from the beginning of a body on

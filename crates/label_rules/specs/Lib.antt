@@ -1,3 +1,2 @@
 -- Words in which the contracts of this crate are said.
 pub mod Meeting
-pub mod Stepping

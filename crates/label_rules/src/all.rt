@@ -16,7 +16,6 @@ ghost use Rattle.added_labels.specs.Sight.{effects_of};
 ghost use Rattle.added_labels.specs.WithLabels.{IsOutside};
 
 use crate::bodies::of_body;
-use crate::steps::of_list;
 use added_labels::seen::Where;
 use label_steps::around::Around;
 use label_steps::macros::known_macros;
@@ -24,6 +23,7 @@ use label_steps::twice::own_names;
 use label_steps::ways::Ways;
 use pcal_tree::algorithm::{Algorithm, Macro, Main, Procedure, Process, Stmt};
 use std::alloc::{AllocError, Global};
+use step_offences::steps::of_list;
 use tla_pool::Pool;
 use tla_token::{Refusal, Rule};
 

@@ -8,10 +8,10 @@ ghost use Rattle.pcal_tree.specs.OffencesLabels.{Within, jump_offences_here, jum
 ghost use Rattle.label_jumps.specs.Meeting.{is_met};
 ghost use Rattle.label_jumps.specs.Standing.{Stands};
 
-use crate::offence::push_offence;
 use label_jumps::jumps::Body;
 use pcal_tree::algorithm::{Simple, Stmt};
 use std::alloc::AllocError;
+use step_offences::offence::push_offence;
 use tla_token::{Place, Refusal, Rule};
 use tla_tree::Name;
 

@@ -7,10 +7,10 @@ ghost use Rattle.pcal_tree.specs.OffencesLabels.{labels, labels_of_some};
 ghost use Rattle.label_jumps.specs.Meeting.{is_met};
 ghost use Rattle.label_rules.specs.Meeting.{Meets, MeetsStmt};
 
-use crate::offence::push_offence;
 use algorithm_limits::table::Table;
 use pcal_tree::algorithm::Stmt;
 use std::alloc::{AllocError, Global};
+use step_offences::offence::push_offence;
 use tla_token::{Refusal, Rule};
 use tla_tree::{Name, PlacedName};
 

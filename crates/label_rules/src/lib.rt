@@ -6,8 +6,6 @@ pub mod bodies;
 pub mod check;
 pub mod jumps;
 pub mod labels;
-pub mod offence;
-pub mod steps;
 
 pub use all::offences;
 pub use bodies::misplaced_offences;

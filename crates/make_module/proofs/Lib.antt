@@ -1,2 +1,3 @@
--- Worked rows of made modules.
+-- Worked rows of made modules, and how long they are.
 mod Rows
+pub mod Short

@@ -47,8 +47,14 @@ big seed count = front_text ++ (lines_from count 1 seed ++ back_text)
 abbrev pub count_text : Word → ℕ → List ℕ
 count_text w n = w ++ (codes " " ++ (decimal n ++ codes "\n"))
 
+-- so many labels, names in VARIABLES and bytes, a line for each
+abbrev pub counted_text : ℕ → ℕ → ℕ → List ℕ
+counted_text labels variables bytes = count_text (codes "labels") labels ++ (count_text (codes "variables") variables ++ count_text (codes "bytes") bytes)
+
+-- how many labels an algorithm has
+abbrev pub label_count : Algorithm → ℕ
+label_count g = length (flat_map (λ u. label_words u.body) (routines g))
+
 -- how many labels its algorithm has, how many names are in VARIABLES, and how many bytes the module with its translation has
 abbrev pub counts_text : Algorithm → List Word → List ℕ → List ℕ
-counts_text g variables written =
-    count_text (codes "labels") (length (flat_map (λ u. label_words u.body) (routines g)))
-    ++ (count_text (codes "variables") (length variables) ++ count_text (codes "bytes") (length written))
+counts_text g variables written = counted_text (label_count g) (length variables) (length written)

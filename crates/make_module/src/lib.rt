@@ -1,2 +1,4 @@
 //! The module that `make` writes.
 #![tactic(auto)]
+
+pub mod laws;

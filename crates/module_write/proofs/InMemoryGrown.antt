@@ -68,7 +68,7 @@ module _ (ts us : List Tree) (k : Keeps ts us) where
   items_at-kept [] h = refl
   items_at-kept (i ∷ is) h = λ j. tree.item (item_at-kept i (omega (arith, h)) j) (items_at-kept is (omega (arith, h)) j)
 
-  call_at-kept : (c : Call) → CallIn (length ts) c → call_at us c ≡ call_at ts c
+  pub call_at-kept : (c : Call) → CallIn (length ts) c → call_at us c ≡ call_at ts c
   call_at-kept (call.Bare a) h = refl
   call_at-kept (call.With a e) h = ap (tree.call_with a) (k.same e h)
 
@@ -76,27 +76,27 @@ module _ (ts us : List Tree) (k : Keeps ts us) where
   way_at-kept (way.One c) h = ap tree.one_way (call_at-kept c h)
   way_at-kept (way.Among x s c) h = λ j. tree.some_way x (k.same s h.0 j) (call_at-kept c h.1 j)
 
-  ways_at-kept : (ys : List Way) → WaysIn (length ts) ys → ways_at us ys ≡ ways_at ts ys
+  pub ways_at-kept : (ys : List Way) → WaysIn (length ts) ys → ways_at us ys ≡ ways_at ts ys
   ways_at-kept [] h = refl
   ways_at-kept (y ∷ ys) h = λ j. way_at-kept y h.0 j ∷ ways_at-kept ys h.1 j
 
-  body_at-kept : (b : Body) → BodyIn (length ts) b → body_at us b ≡ body_at ts b
+  pub body_at-kept : (b : Body) → BodyIn (length ts) b → body_at us b ≡ body_at ts b
   body_at-kept (body.All is) h = ap tree.all_of (items_at-kept is.items h)
   body_at-kept (body.Any ys) h = ap tree.some_of (ways_at-kept ys.items h)
 
-  actions_at-kept : (acts : List Action) → ActionsIn (length ts) acts → actions_at us acts ≡ actions_at ts acts
+  pub actions_at-kept : (acts : List Action) → ActionsIn (length ts) acts → actions_at us acts ≡ actions_at ts acts
   actions_at-kept [] h = refl
   actions_at-kept (a ∷ acts) h = λ j. record { title = a.title; parameter = a.parameter; body = body_at-kept a.body h.0 j } ∷ actions_at-kept acts h.1 j
 
-  over_at-kept : (o : Option (Word × ℕ)) → OverIn (length ts) o → over_at us o ≡ over_at ts o
+  pub over_at-kept : (o : Option (Word × ℕ)) → OverIn (length ts) o → over_at us o ≡ over_at ts o
   over_at-kept None h = refl
   over_at-kept (Some (x, s)) h = λ j. Some (x, k.same s h j)
 
-  maybe-kept : (o : Option ℕ) → MaybeIn (length ts) o → option_map (at us) o ≡ option_map (at ts) o
+  pub maybe-kept : (o : Option ℕ) → MaybeIn (length ts) o → option_map (at us) o ≡ option_map (at ts) o
   maybe-kept None h = refl
   maybe-kept (Some e) h = ap Some (k.same e h)
 
-  fairness-kept : (fs : List Fairness) → AllFairnessIn (length ts) fs → map (fairness_at us) fs ≡ map (fairness_at ts) fs
+  pub fairness-kept : (fs : List Fairness) → AllFairnessIn (length ts) fs → map (fairness_at us) fs ≡ map (fairness_at ts) fs
   fairness-kept [] h = refl
   fairness-kept (f ∷ fs) h =
       λ j. record { over = over_at-kept f.over h.0.over j; strong = f.strong; guard = maybe-kept f.guard h.0.guard j; action = call_at-kept f.action h.0.action j } ∷ fairness-kept fs h.1 j

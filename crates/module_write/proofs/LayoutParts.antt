@@ -5,7 +5,7 @@ use Rattle.tla_tree.specs.Tree.{Word, Tree}
 use Rattle.module_tree.specs.Module.{Region, RegionUnit, variables_unit, vars_unit, definition_unit, init_unit, action_unit, next_unit, spec_unit, termination_unit, process_set_of, terminating_of, model_value_units, units_of}
 use Rattle.module_tree.specs.Ways.{processes_in}
 use Rattle.module_tree.specs.Layout.{unit_text, units_text, layout}
-use Rattle.module_write.specs.Apart.{ahead, behind}
+use Rattle.module_lines.specs.Apart.{ahead, behind}
 
 units_behind : (n : ℕ) (u : RegionUnit) (us : List RegionUnit) → units_text n (u ∷ us) ≡ unit_text n u ++ behind n us
 units_behind n u [] = sym (append-nil (unit_text n u))

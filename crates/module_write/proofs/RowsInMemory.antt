@@ -9,7 +9,7 @@ use Rattle.module_write.specs.declared.«module».Item.TheVariants.{Test}
 use Rattle.module_write.specs.declared.«module».Call.TheVariants as call
 use Rattle.module_write.specs.declared.«module».Way.TheVariants as way
 use Rattle.module_write.specs.InMemory.{item_at, ways_at, over_at, past_item, WaysIn}
-use Rattle.module_write.specs.Apart.{ahead, behind}
+use Rattle.module_lines.specs.Apart.{ahead, behind}
 use Rattle.module_write.proofs.ItemEquations.{test_at, past_test}
 
 abbrev trees : List Tree

@@ -24,6 +24,7 @@ use Rattle.module_write.specs.declared.«module».Opaque.{Opaque}
 use Rattle.module_write.specs.declared.«module».Outside.{Outside}
 use Rattle.module_write.specs.declared.«module».Module.{Module}
 use Rattle.module_tree.specs.Module as tree
+pub use Rattle.module_lines.specs.Maybe.{MaybeIn}
 
 -- ---- actions
 
@@ -157,10 +158,6 @@ ActionsIn m acts = AllByRecursion (λ (a : Action). BodyIn m a.body) acts
 abbrev pub OverIn : ℕ → Option (Word × ℕ) → Type 0
 OverIn m None = Unit {0}
 OverIn m (Some (x, s)) = s < m
-
-abbrev pub MaybeIn : ℕ → Option ℕ → Type 0
-MaybeIn m None = Unit {0}
-MaybeIn m (Some e) = e < m
 
 pub record FairnessIn (m : ℕ) (f : Fairness) : Type 0 where
   pub over : OverIn m f.over

@@ -7,5 +7,4 @@ pub mod module;
 pub mod ways;
 pub mod write_action;
 pub mod write_file;
-pub mod write_line;
 pub mod write_units;

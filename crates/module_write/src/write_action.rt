@@ -8,7 +8,7 @@ ghost use Rattle.module_tree.specs.Layout.{line, item_text, items_text, branches
 ghost use Rattle.module_write.specs.InMemory.{item_at, items_at, branches_at, call_at, way_at, ways_at, body_at, action_at, past_item, past_items, past_branches, CallIn, WayIn, WaysIn, BodyIn};
 
 use crate::module::{Action, Body, Call, Item, Way};
-use crate::write_line::{begin_line, deeper, write_line, write_tuple};
+use module_lines::line::{begin_line, deeper, write_line, write_tuple};
 use std::alloc::{AllocError, Global};
 use tla_pool::Pool;
 use tla_tree::{Name, NameList, NodeId, Text};

@@ -5,15 +5,17 @@ ghost use Rattle.std.specs.Option.{option_map};
 ghost use Rattle.tla_tree.specs.Pool.{at, AllBelow};
 ghost use Rattle.tla_tree.specs.Written.{written};
 ghost use Rattle.tla_value.specs.Defs.{definition_at, definitions_at, DefinitionsIn};
-ghost use Rattle.module_tree.specs.Module.{variables_unit, definition_unit, vars_unit, init_unit, action_unit, next_unit, spec_unit, termination_unit, process_set_of, terminating_of, model_value_units};
+ghost use Rattle.module_tree.specs.Module.{variables_unit, definition_unit, vars_unit, init_unit, action_unit, next_unit, spec_unit, process_set_of, model_value_units};
 ghost use Rattle.module_tree.specs.Layout.{conjuncts_text, over_text, guard_text, fairness_text, parameters_text, union_text, sets_text, unit_text, layout};
-ghost use Rattle.module_write.specs.InMemory.{over_at, fairness_at, region_at, ways_at, actions_at, OverIn, MaybeIn, FairnessIn, AllFairnessIn, ActionsIn, WaysIn, RegionIn};
-ghost use Rattle.module_write.specs.Apart.{ahead, behind};
+ghost use Rattle.module_write.specs.InMemory.{over_at, fairness_at, region_at, ways_at, actions_at, OverIn, FairnessIn, AllFairnessIn, ActionsIn, WaysIn, RegionIn};
+ghost use Rattle.module_lines.specs.Apart.{ahead, behind};
+ghost use Rattle.module_lines.specs.Maybe.{MaybeIn};
 
 use crate::module::{Action, Fairness, Region, Way};
 use crate::ways::{processes, sets};
 use crate::write_action::{write_action, write_call, write_ways};
-use crate::write_line::{begin_line, write_joined, write_tuple, write_where};
+use module_lines::ended::{write_terminating, write_termination};
+use module_lines::line::{begin_line, write_joined, write_tuple, write_where};
 use std::alloc::{AllocError, Global};
 use tla_pool::Pool;
 use tla_tree::{Name, NameList, NodeId, Text};
@@ -196,23 +198,6 @@ fn write_actions(
     Ok(())
 }
 
-fn write_terminating(
-    alloc: Global,
-    pool: &Pool,
-    ended: Option<NodeId>,
-    into: &mut Text,
-) -> Result<(), AllocError>
-    requires { MaybeIn (length pool.now) ended }
-    ensures { OnOk result (into.new ≡ into.old ++ behind 0 (terminating_of (option_map (at pool.now) ended))) }
-{
-    if let Some(e) = ended {
-        into.extend(b"\nTerminating ==\n  /\\ (")?;
-        write_expr(alloc, pool, e, into)?;
-        into.extend(b")\n  /\\ UNCHANGED vars\n")?;
-    }
-    Ok(())
-}
-
 fn write_next(alloc: Global, pool: &Pool, ways: &[Way], into: &mut Text) -> Result<(), AllocError>
     requires { WaysIn (length pool.now) ways.now }
     ensures { OnOk result (into.new ≡ into.old ++ behind 0 (next_unit (ways_at pool.now ways.now) ∷ [])) }
@@ -307,20 +292,6 @@ fn write_spec(
 {
     into.extend(b"\nSpec ==\n  /\\ Init\n  /\\ [][Next]_vars\n")?;
     write_fairness_lines(alloc, pool, lines, into)
-}
-
-fn write_termination(
-    alloc: Global,
-    pool: &Pool,
-    e: NodeId,
-    into: &mut Text,
-) -> Result<(), AllocError>
-    requires { e < length pool.now }
-    ensures { OnOk result (into.new ≡ into.old ++ behind 0 (termination_unit (at pool.now e) ∷ [])) }
-{
-    into.extend(b"\nTermination == <>(")?;
-    write_expr(alloc, pool, e, into)?;
-    into.extend(b")\n")
 }
 
 // ---- all of them

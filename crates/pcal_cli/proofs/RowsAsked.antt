@@ -1,27 +1,25 @@
 -- Worked examples of what commands ask and promise, by computation.
-use Rattle.std.specs.Prelude.{ℕ, List, Bool, true, false, Option, None, codes}
+use Rattle.std.specs.Prelude.{ℕ, List, Bool, true, false, Option, None}
 use Rattle.std.proofs.Common.{◌≡◌, refl}
 use Rattle.outer_io.specs.Outer.{Texts}
 use Rattle.tla_tree.specs.Tree.{Word}
 use Rattle.pcal_tree.specs.Grammar.{Syntax}
-use Rattle.command_words.specs.Commands.{Command, translates, checks, rewrites, maps, makes}
+use Rattle.command_words.specs.Commands.{Options, Command, translates, checks, rewrites, maps, runs, traces, makes}
 use Rattle.promise.specs.Options.{no_options}
-use Rattle.pcal_cli.specs.Words.{plain, is_run}
+use Rattle.make_module.specs.Big.{big}
+use Rattle.pcal_cli.specs.Words.{is_run, input_of, this_text}
 use Rattle.pcal_cli.specs.Asked.{Accepts, Makes, Promises, promised}
 use Rattle.pcal_cli.specs.Causes.{OfText}
 
-without_options : promised plain ≡ no_options
+without_options : promised (record { forced = false; terminating = true }) ≡ no_options
 without_options = refl
 
 with_options : promised (record { forced = true; terminating = true }) ≡ record no_options { label = true }
 with_options = refl
 
--- a translation is run without options, a rewriting into either syntax
-translation_is_run : is_run (translates (codes "M.tla") plain) ≡ true
-translation_is_run = refl
-
-no_option_is_run : is_run (translates (codes "M.tla") (record plain { forced = true })) ≡ false
-no_option_is_run = refl
+-- a translation is run with any options, a rewriting into either syntax
+translation_is_run : (file : Word) (options : Options) → is_run (translates file options) ≡ true
+translation_is_run file options = refl
 
 rewriting_is_run : (file : Word) (to : Syntax) → is_run (rewrites file to) ≡ true
 rewriting_is_run file to = refl
@@ -44,12 +42,22 @@ promise_of_a_check file forced x w h = h.0
 promise_of_a_map : (file : Word) (forced : Bool) (x w : List ℕ) → Promises (maps file forced) x w → Makes (maps file forced) x w
 promise_of_a_map file forced x w h = h.0
 
--- so far nothing holds of these
-makes_nothing : (x : List ℕ) → Accepts (makes 1 10) x → ⊥
-makes_nothing x h = h
+-- what `make` is of isn't read from a file
+made : input_of (makes 1 1) ≡ this_text (big 1 1)
+made = refl
 
-promises_nothing : (x w : List ℕ) → Promises (makes 1 10) x w → ⊥
-promises_nothing x w h = h
+make_is_run : (seed count : ℕ) → is_run (makes seed count) ≡ true
+make_is_run seed count = refl
+
+-- so far nothing holds of these
+run_is_not_run : (file config script : Word) (options : Options) → is_run (runs file config script options) ≡ false
+run_is_not_run file config script options = refl
+
+runs_nothing : (file config script : Word) (options : Options) (x : List ℕ) → Accepts (runs file config script options) x → ⊥
+runs_nothing file config script options x h = h
+
+traces_nothing : (file config trace : Word) (options : Options) (x w : List ℕ) → Promises (traces file config trace options) x w → ⊥
+traces_nothing file config trace options x w h = h
 
 -- where the words mean no command nothing is said
 no_command : (texts : Option Texts) (P : Command → List ℕ → Type 0) → OfText texts None P

@@ -1,17 +1,16 @@
 -- Why an answer comes, and what becomes of the two outputs.
-use Rattle.std.specs.Prelude.{◌≡◌, ◌⊎◌, ℕ, List, Option, Some, None}
+use Rattle.std.specs.Prelude.{◌≡◌, ◌⊎◌, ℕ, List, Option, Some, None, option_map}
 use Rattle.std.specs.Process.{exit_status}
 use Rattle.std.specs.declared.process.ExitCode.{ExitCode}
-use Rattle.outer_io.specs.Outer.{Texts, Tells, RoseBy, Grows, GrowsInPart}
+use Rattle.outer_io.specs.Outer.{Texts, Tells, HasNoText, RoseBy, Grows, GrowsInPart}
 use Rattle.tla_token.specs.declared.rule.Refusal.{Refusal}
-use Rattle.tla_tree.specs.Tree.{Word}
 use Rattle.command_words.specs.Commands.{Command}
 use Rattle.pcal_cli.specs.declared.status.Answer.{Answer}
 use Rattle.pcal_cli.specs.declared.status.Answer.TheVariants as answer
 use Rattle.pcal_cli.specs.declared.status.Status.{Status}
 use Rattle.pcal_cli.specs.declared.status.Status.TheVariants.{Fine, Memory, Usage, ReadFault, WriteFault, Refused, TooLong}
 use Rattle.pcal_cli.specs.Answers.{status_number, status_of, line_of}
-use Rattle.pcal_cli.specs.Words.{file_of, file_meant}
+use Rattle.pcal_cli.specs.Words.{Input, from_file, this_text, input_of, file_meant}
 use Rattle.pcal_cli.specs.Asked.{Refuses, Makes, Promises}
 
 -- what holds of a command; where there is none nothing is said
@@ -19,9 +18,35 @@ abbrev pub OfCommand : Option Command → (Command → Type 0) → Type 0
 OfCommand None P = Unit {0}
 OfCommand (Some c) P = P c
 
--- what holds of a command and the text of its file, where the texts are told
+-- what holds of a text, where it is told or is this one
+abbrev pub OfInput : Option Texts → Input → (List ℕ → Type 0) → Type 0
+OfInput texts (from_file f) P = Tells texts f P
+OfInput texts (this_text x) P = P x
+
+-- what holds of a command and its text, which comes from there
+abbrev pub OfBoth : Option Texts → Option Input → Option Command → (Command → List ℕ → Type 0) → Type 0
+OfBoth texts (Some i) (Some c) P = OfInput texts i (P c)
+OfBoth texts _ _ P = Unit {0}
+
 abbrev pub OfText : Option Texts → Option Command → (Command → List ℕ → Type 0) → Type 0
-OfText texts o P = OfCommand o (λ c. Tells texts (file_of c) (P c))
+OfText texts o P = OfBoth texts (option_map input_of o) o P
+
+-- ---- files
+
+-- what holds of the text of the file that is read, where one is and it is told
+abbrev pub OfFile : Option Texts → Option Input → (List ℕ → Type 0) → Type 0
+OfFile texts (Some (from_file f)) P = Tells texts f P
+OfFile texts _ P = Unit {0}
+
+-- one is read, the texts are told, and none has its name
+abbrev pub Lacks : Option Texts → Option Input → Type 0
+Lacks texts (Some (from_file f)) = HasNoText texts f
+Lacks texts _ = ⊥
+
+-- none is read
+abbrev pub IsFree : Option Input → Type 0
+IsFree (Some (from_file f)) = ⊥
+IsFree _ = Unit {0}
 
 -- ---- answers
 
@@ -60,6 +85,12 @@ IsDone Fine = Unit {0}
 IsDone Memory = Unit {0}
 IsDone s = ⊥
 
+-- where no file is read
+abbrev pub IsUnasked : Status → Type 0
+IsUnasked ReadFault = ⊥
+IsUnasked TooLong = ⊥
+IsUnasked s = Unit {0}
+
 -- where the words mean no command
 abbrev pub IsNoCommand : Status → Type 0
 IsNoCommand Memory = Unit {0}
@@ -68,10 +99,15 @@ IsNoCommand s = ⊥
 
 -- ---- refusals
 
--- on this answer: the text of the file is refused so
-abbrev pub IsCause : Option Texts → Word → (List ℕ → Refusal → Type 0) → Answer → Type 0
-IsCause texts file R (answer.Refused r) = Tells texts file (λ x. R x r)
-IsCause texts file R a = Unit {0}
+-- on this answer: there is this refusal
+abbrev pub IsRefusal : (Refusal → Type 0) → Answer → Type 0
+IsRefusal R (answer.Refused r) = R r
+IsRefusal R a = Unit {0}
+
+-- on this answer: the text that comes from there is refused so
+abbrev pub IsCause : Option Texts → Input → (List ℕ → Refusal → Type 0) → Answer → Type 0
+IsCause texts i R (answer.Refused r) = OfInput texts i (λ x. R x r)
+IsCause texts i R a = Unit {0}
 
 -- ---- exit status
 
@@ -107,9 +143,9 @@ KeepsPromise old new c x = (w : List ℕ) × Grows old new w × Promises c x w
 abbrev pub Told : Option (List ℕ) → Option (List ℕ) → ℕ → ℕ → List ℕ → Type 0
 Told old new before after bytes = (Grows old new bytes × (after ≡ before)) ⊎ (GrowsInPart old new bytes × RoseBy 1 before after)
 
--- so it took the line of an answer of this status to a command; where its file was refused, that of a refusal which its text has by this command
+-- so it took the line of an answer of this status to a command; where its text was refused, that of a refusal which it has by this command
 pub record Explains (texts : Option Texts) (command : Option Command) (s : Status) (old new : Option (List ℕ)) (before after : ℕ) : Type 0 where
   pub answer : Answer
   pub is : status_of answer ≡ s
-  pub cause : OfCommand command (λ c. IsCause texts (file_of c) (Refuses c) answer)
+  pub cause : OfCommand command (λ c. IsCause texts (input_of c) (Refuses c) answer)
   pub told : Told old new before after (line_of answer (file_meant command))

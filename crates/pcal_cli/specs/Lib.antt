@@ -3,9 +3,7 @@ pub mod Tasks
 pub mod Answers
 pub mod Asked
 pub mod Causes
+pub mod Put
 pub mod Answered
-pub mod FormSeen
-pub mod Translating
 pub mod Checked
-pub mod OutsideTokens
-pub mod Built
+pub mod Counted

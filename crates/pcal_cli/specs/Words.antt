@@ -1,30 +1,25 @@
--- What the words of a command line mean to the program, which runs some of the commands.
-use Rattle.std.specs.Prelude.{List, [], Bool, true, false, not, ◌&&◌, Option, Some, None, Result, Ok, Err, if◌then◌else◌, String, string_bytes, map}
+-- The commands of the program as a function of the words of a command line, and which module each is of.
+use Rattle.std.specs.Prelude.{List, [], Bool, true, false, Option, Some, None, Result, Ok, Err, if◌then◌else◌, String, string_bytes, map}
 use Rattle.std.specs.declared.alloc.Global.{Global}
 use Rattle.std.specs.Vec.Iter.{into_iter_items}
 use Rattle.std.specs.declared.vec.IntoIter.{IntoIter}
 use Rattle.std.specs.declared.io.Error.{Error}
 use Rattle.tla_tree.specs.Tree.{Word}
 use Rattle.command_words.specs.Table.{commands}
-use Rattle.command_words.specs.Commands.{Options, Command, translates, checks, rewrites, maps, runs, traces, makes, meaning}
+use Rattle.command_words.specs.Commands.{Command, translates, checks, rewrites, maps, runs, traces, makes, meaning}
+use Rattle.make_module.specs.Big.{big}
 
--- no option given
-abbrev pub plain : Options
-plain = record { forced = false; terminating = true }
-
--- whether the program runs a command: so far a translation, without options, a check, a rewriting, and a list of the labels' places
+-- whether the program runs a command: so far all but `run` and `trace`
 abbrev pub is_run : Command → Bool
-is_run (translates file options) = not options.forced && options.terminating
-is_run (checks file forced) = true
-is_run (rewrites file syntax) = true
-is_run (maps file forced) = true
-is_run c = false
+is_run (runs file config script options) = false
+is_run (traces file config trace options) = false
+is_run c = true
 
 abbrev pub if_run : Option Command → Option Command
 if_run None = None
 if_run (Some c) = if is_run c then Some c else None
 
--- the module that a command reads; one that reads none has no name for it
+-- the name of the module that a command reads; one that reads none has no name for it
 abbrev pub file_of : Command → Word
 file_of (translates file options) = file
 file_of (checks file forced) = file
@@ -34,10 +29,18 @@ file_of (runs file config script options) = file
 file_of (traces file config trace options) = file
 file_of (makes seed count) = []
 
--- the file that a command is of
 abbrev pub file_meant : Option Command → Word
 file_meant None = []
 file_meant (Some c) = file_of c
+
+-- where the text comes from that a command is of: from a file, or it is this one
+pub data Input : Type 0 where
+  from_file : Word → Input
+  this_text : Word → Input
+
+abbrev pub input_of : Command → Input
+input_of (makes seed count) = this_text (big seed count)
+input_of c = from_file (file_of c)
 
 abbrev pub words_of : List (String Global) → List Word
 words_of ws = map string_bytes ws

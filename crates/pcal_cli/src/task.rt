@@ -1,42 +1,71 @@
-//! The commands that the program runs, and what is written for the text of a command's file.
+//! The commands that the program runs, and what is written for the text of a command.
 
-ghost use Rattle.std.specs.Prelude.{◌≡◌, ◌<◌, ◌^◌, length, option_map, Some, IfOk, IfErr};
+ghost use Rattle.std.specs.Prelude.{◌≡◌, ◌<◌, ◌≤◌, ◌^◌, length, option_map, Some, IfOk, IfErr, IfSome};
 ghost use Rattle.command_words.specs.Meant.{meant};
 ghost use Rattle.file_answer.specs.Refusals.{IsStop};
-ghost use Rattle.pcal_cli.specs.Words.{if_run, command_in, file_of};
-ghost use Rattle.pcal_cli.specs.Tasks.{as_command};
-ghost use Rattle.pcal_cli.specs.Asked.{Refuses, Accepts, Makes, Promises};
+ghost use Rattle.pcal_cli.specs.Words.{if_run, command_in, file_of, input_of};
+ghost use Rattle.pcal_cli.specs.Tasks.{as_command, as_input, IsSmall, IsFew};
+ghost use Rattle.pcal_cli.specs.Asked.{Refuses, Accepts, Makes, Promises, promised};
+ghost use Rattle.translating.specs.Translated as translated;
+ghost use Rattle.command_words.specs.Meant as meant;
 
-use crate::translated::translate_text;
+use crate::counts::counted;
 use checking::{check_text, map_text};
 use command_words::{Command, command_of};
 use pcal_tree::Syntax;
 use rewriting::rewrite_text;
 use std::alloc::{AllocError, Global};
 use tla_token::Stop;
+use translating::translate_text;
 
 /// A command that the program runs, with the name of its file.
 #[derive(Clone, Copy)]
 pub enum Task<'a> {
-    /// A translation without options.
-    Translate(&'a str),
+    /// A translation, with its options.
+    Translate(&'a str, command_words::Options),
     /// A check, and whether labels are added everywhere.
     Check(&'a str, bool),
     /// A rewriting in this syntax.
     Rewrite(&'a str, Syntax),
     /// A list of the labels' places, and whether labels are added everywhere.
     Map(&'a str, bool),
+    /// A module of a seed and a count of steps.
+    Make(u32, u32),
 }
 
-/// The file of a task.
+/// Where the text of a command comes from.
+#[derive(Clone, Copy)]
+pub enum Source<'a> {
+    /// It is that of a file.
+    File(&'a str),
+    /// It is made of a seed and a count of steps.
+    Made(u32, u32),
+}
+
+/// The file of a task; of one that reads none the empty name.
 pub fn file<'a>(task: Task<'a>) -> &'a str
     ensures { result.now ≡ file_of (as_command task.entry) }
 {
     match task {
-        Task::Translate(file) => file,
+        Task::Translate(file, _) => file,
         Task::Check(file, _) => file,
         Task::Rewrite(file, _) => file,
         Task::Map(file, _) => file,
+        Task::Make(_, _) => "",
+    }
+}
+
+/// Where the text of a task comes from.
+pub fn source_of<'a>(task: Task<'a>) -> Source<'a>
+    ensures input { as_input result ≡ input_of (as_command task.entry) }
+    ensures few { IsSmall task.entry → IsFew result }
+{
+    match task {
+        Task::Translate(file, _) => Source::File(file),
+        Task::Check(file, _) => Source::File(file),
+        Task::Rewrite(file, _) => Source::File(file),
+        Task::Map(file, _) => Source::File(file),
+        Task::Make(seed, count) => Source::Made(seed, count),
     }
 }
 
@@ -45,16 +74,11 @@ fn if_run<'a>(command: Command<'a>) -> Option<Task<'a>>
     ensures { option_map as_command result ≡ if_run (Some (meant command.entry)) }
 {
     match command {
-        Command::Translate(file, options) => {
-            if options.forced || !options.terminating {
-                None
-            } else {
-                Some(Task::Translate(file))
-            }
-        }
+        Command::Translate(file, options) => Some(Task::Translate(file, options)),
         Command::Check(file, forced) => Some(Task::Check(file, forced)),
         Command::Rewrite(file, to) => Some(Task::Rewrite(file, to)),
         Command::Map(file, forced) => Some(Task::Map(file, forced)),
+        Command::Make(seed, count) => Some(Task::Make(seed, count)),
         _ => None,
     }
 }
@@ -66,11 +90,22 @@ fn if_run<'a>(command: Command<'a>) -> Option<Task<'a>>
 /// Want of memory.
 #[tactic(auto, unfolding(crate::specs::Words::command_in))]
 pub fn task_of<'a>(alloc: Global, words: &'a [String]) -> Result<Option<Task<'a>>, AllocError>
-    ensures { IfOk result (λ t. option_map as_command t ≡ command_in words.now) }
+    ensures command { IfOk result (λ t. option_map as_command t ≡ command_in words.now) }
+    ensures small { IfOk result (λ t. IfSome t IsSmall) }
 {
     match command_of(alloc, words)? {
         Some(command) => Ok(if_run(command)),
         None => Ok(None),
+    }
+}
+
+/// The options of a translation.
+fn as_options(options: command_words::Options) -> translating::Options
+    ensures { translated.options_of result ≡ promised (meant.options_of options) }
+{
+    translating::Options {
+        label: options.forced,
+        no_terminating: !options.terminating,
     }
 }
 
@@ -87,9 +122,10 @@ pub fn written(alloc: Global, task: Task<'_>, text: &[u8]) -> Result<Vec<u8>, St
     ensures stopped { IfErr result (λ e. IsStop (Refuses (as_command task.entry) text.now) e) }
 {
     match task {
-        Task::Translate(_) => translate_text(alloc, text),
+        Task::Translate(_, options) => translate_text(alloc, text, as_options(options)),
         Task::Check(_, forced) => check_text(alloc, text, forced),
         Task::Rewrite(_, to) => rewrite_text(alloc, text, to),
         Task::Map(_, forced) => map_text(alloc, text, forced),
+        Task::Make(_, _) => counted(alloc, text),
     }
 }

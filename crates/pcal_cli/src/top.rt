@@ -1,17 +1,20 @@
 //! The top call: from the words of a command line to an answer.
 
-ghost use Rattle.std.specs.Prelude.{◌≡◌, ◌+◌, ◌≤◌, [], Some};
+ghost use Rattle.std.specs.Prelude.{◌≡◌, ◌+◌, ◌≤◌, ◌<◌, ◌^◌, [], length, Some};
+ghost use Rattle.make_module.specs.Big.{big};
 ghost use Rattle.outer_io.specs.Outer.{Tells};
-ghost use Rattle.pcal_cli.specs.Words.{command_in, file_of};
-ghost use Rattle.pcal_cli.specs.Tasks.{as_command};
+ghost use Rattle.pcal_cli.specs.Words.{command_in, from_file, this_text, input_of};
+ghost use Rattle.pcal_cli.specs.Tasks.{as_command, IsSmall};
 ghost use Rattle.pcal_cli.specs.Answers.{status_of, line_of};
 ghost use Rattle.pcal_cli.specs.Asked.{Refuses};
-ghost use Rattle.pcal_cli.specs.Causes.{OfText, IsCause, KeepsPromise, Told, Explains};
-ghost use Rattle.pcal_cli.specs.Answered.{Answered};
+ghost use Rattle.pcal_cli.specs.Causes.{OfText, OfInput, IsCause, IsRefusal, KeepsPromise, Told, Explains};
+ghost use Rattle.pcal_cli.specs.Put.{Put};
+ghost use Rattle.pcal_cli.specs.Answered.{Answered, AnsweredFrom};
 
 use crate::error_line::{line_room, say, tell};
 use crate::status::{Answer, Status, as_status};
-use crate::task::{Task, file, task_of, written};
+use crate::task::{Source, Task, file, source_of, task_of, written};
+use made_module::make_module;
 use outer_io::{LoadFault, Shelf, Sink, load, put_all};
 use std::alloc::{AllocError, Global};
 use tla_token::Stop;
@@ -19,25 +22,67 @@ use tla_token::Stop;
 /// A file has at most so many bytes.
 const MOST_BYTES: u64 = 1_048_576;
 
-/// Reads the file of a task, and writes what is to be written for its text. All memory is taken before the first byte goes out.
-fn carry_out<H: Shelf, K: Sink>(alloc: Global, task: Task<'_>, shelf: &mut H, out: &mut K) -> Answer
-    ensures answered { Answered H.texts H.given H.faults K.wrote K.faults (Some (as_command task.entry)) (status_of result) shelf.old shelf.new out.old out.new }
-    ensures refused { IsCause (H.texts shelf.old) (file_of (as_command task.entry)) (Refuses (as_command task.entry)) result }
-    ensures headline { status_of result ≡ Status.Fine → Tells (H.texts shelf.old) (file_of (as_command task.entry)) (KeepsPromise (K.wrote out.old) (K.wrote out.new) (as_command task.entry)) }
+/// Writes what is to be written for the text of a task. All memory is taken before the first byte goes out.
+fn put_written<K: Sink>(alloc: Global, task: Task<'_>, text: &[u8], out: &mut K) -> Answer
+    requires { length text.now < 2 ^ 29 }
+    ensures put { Put K.wrote K.faults (as_command task.entry) text.now (status_of result) out.old out.new }
+    ensures refused { IsRefusal (Refuses (as_command task.entry) text.now) result }
+    ensures headline { status_of result ≡ Status.Fine → KeepsPromise (K.wrote out.old) (K.wrote out.new) (as_command task.entry) text.now }
 {
-    let text = match load(alloc, shelf, file(task), MOST_BYTES) {
-        Ok(text) => text,
-        Err(LoadFault::Memory) => return Answer::Memory,
-        Err(LoadFault::Failed) => return Answer::ReadFault,
-        Err(LoadFault::TooLong) => return Answer::TooLong,
-    };
-    match written(alloc, task, &text) {
+    match written(alloc, task, text) {
         Ok(bytes) => match put_all(out, &bytes) {
             Ok(()) => Answer::Fine,
             Err(_) => Answer::WriteFault,
         },
         Err(Stop::Refused(refusal)) => Answer::Refused(refusal),
         Err(Stop::Memory) => Answer::Memory,
+    }
+}
+
+/// Reads the file of a task, and writes what is to be written for its text.
+fn read_out<H: Shelf, K: Sink>(
+    alloc: Global,
+    name: &str,
+    task: Task<'_>,
+    shelf: &mut H,
+    out: &mut K,
+) -> Answer
+    ensures answered { AnsweredFrom H.texts H.given H.faults K.wrote K.faults (Some (from_file name.now)) (Some (as_command task.entry)) (status_of result) shelf.old shelf.new out.old out.new }
+    ensures refused { IsCause (H.texts shelf.old) (from_file name.now) (Refuses (as_command task.entry)) result }
+    ensures headline { status_of result ≡ Status.Fine → Tells (H.texts shelf.old) name.now (KeepsPromise (K.wrote out.old) (K.wrote out.new) (as_command task.entry)) }
+{
+    let text = match load(alloc, shelf, name, MOST_BYTES) {
+        Ok(text) => text,
+        Err(LoadFault::Memory) => return Answer::Memory,
+        Err(LoadFault::Failed) => return Answer::ReadFault,
+        Err(LoadFault::TooLong) => return Answer::TooLong,
+    };
+    put_written(alloc, task, &text, out)
+}
+
+/// Makes a module of a seed and a count, and writes what is to be written for it.
+fn made_out<K: Sink>(alloc: Global, seed: u32, count: u32, task: Task<'_>, out: &mut K) -> Answer
+    requires { count ≤ 2000 }
+    ensures put { Put K.wrote K.faults (as_command task.entry) (big seed count) (status_of result) out.old out.new }
+    ensures refused { IsRefusal (Refuses (as_command task.entry) (big seed count)) result }
+    ensures headline { status_of result ≡ Status.Fine → KeepsPromise (K.wrote out.old) (K.wrote out.new) (as_command task.entry) (big seed count) }
+{
+    match make_module(alloc, seed, count) {
+        Ok(text) => put_written(alloc, task, &text, out),
+        Err(AllocError) => Answer::Memory,
+    }
+}
+
+/// Writes what is to be written for the text of a task.
+fn carry_out<H: Shelf, K: Sink>(alloc: Global, task: Task<'_>, shelf: &mut H, out: &mut K) -> Answer
+    requires { IsSmall task }
+    ensures answered { Answered H.texts H.given H.faults K.wrote K.faults (Some (as_command task.entry)) (status_of result) shelf.old shelf.new out.old out.new }
+    ensures refused { IsCause (H.texts shelf.old) (input_of (as_command task.entry)) (Refuses (as_command task.entry)) result }
+    ensures headline { status_of result ≡ Status.Fine → OfInput (H.texts shelf.old) (input_of (as_command task.entry)) (KeepsPromise (K.wrote out.old) (K.wrote out.new) (as_command task.entry)) }
+{
+    match source_of(task) {
+        Source::File(name) => read_out(alloc, name, task, shelf, out),
+        Source::Made(seed, count) => made_out(alloc, seed, count, task, out),
     }
 }
 

@@ -15,16 +15,9 @@ use Rattle.fairness.specs.MarkedLabels.{strong_labels}
 use Rattle.fairness.specs.Obligations.{written_labels}
 use Rattle.fairness.specs.ReachedProcedures.{called_by, reached_within, reached}
 use Rattle.step_forms.specs.Opened.{opened, opened_program, opened_routine, opened_taken, IsOpenable}
-use Rattle.step_forms.proofs.OpenedRoutines.{opened_process, opened_main, first_process_opened, procedures_opened}
+use Rattle.step_forms.proofs.OpenedFormulas.{mapped}
+use Rattle.step_forms.proofs.OpenedRoutines.{length_mapped, opened_process, opened_main, first_process_opened, procedures_opened}
 use Rattle.region_forms.proofs.OpenedMarks.{calls_alike, left_out_alike, strong_alike}
-
-length_mapped : {X Y : Type 0} (f : X → Y) (xs : List X) → length (map f xs) ≡ length xs
-length_mapped f [] = refl
-length_mapped f (x ∷ xs) = ap suc (length_mapped f xs)
-
-mapped : {X Y Z : Type 0} (f : Y → Z) (g : X → Y) (k : X → Z) → ((x : X) → f (g x) ≡ k x) → (xs : List X) → map f (map g xs) ≡ map k xs
-mapped f g k e [] = refl
-mapped f g k e (x ∷ xs) = λ i. e x i ∷ mapped f g k e xs i
 
 -- f of what is opened is what f is, opened
 flat_opened : {X Y Z W : Type 0} (f : Y → List W) (g : X → Y) (k : X → List Z) (o : Z → W) → ((x : X) → f (g x) ≡ map o (k x)) → (xs : List X) → flat_map f (map g xs) ≡ map o (flat_map k xs)

@@ -7,6 +7,7 @@ use Rattle.module_tree.specs.Module.{setting, Items, no_items, item}
 use Rattle.module_tree.specs.Formulas.{self}
 use Rattle.module_write.specs.declared.«module».Item.{Item}
 use Rattle.module_write.specs.InMemory.{item_at, items_at, MaybeIn}
+use Rattle.module_write.proofs.InMemoryGrown.{maybe-kept}
 use Rattle.action_builder.specs.SingleProcess.{in_place_of, graft_item, graft_items}
 use Rattle.action_builder.specs.Written.{old_stack, onto}
 use Rattle.right_sides.specs.declared.after.After.{After}
@@ -32,11 +33,11 @@ graft_onto : (g : Graft) (is js : Items) → graft_items g (onto is js) ≡ onto
 graft_onto g no_items js = refl
 graft_onto g (item i is) js = ap (item (graft_item g i)) (graft_onto g is js)
 
-put_onto : (x : Word) (o : Option Tree) (is js : Items) → put_items x o (onto is js) ≡ onto (put_items x o is) (put_items x o js)
+pub put_onto : (x : Word) (o : Option Tree) (is js : Items) → put_items x o (onto is js) ≡ onto (put_items x o is) (put_items x o js)
 put_onto x None is js = refl
 put_onto x (Some e) is js = graft_onto (in_place_of x e) is js
 
-put_nothing : (x : Word) (o : Option Tree) → put_items x o no_items ≡ no_items
+pub put_nothing : (x : Word) (o : Option Tree) → put_items x o no_items ≡ no_items
 put_nothing x None = refl
 put_nothing x (Some e) = refl
 
@@ -55,19 +56,15 @@ module _ (ts : List Tree) (a : After) where
   after_setting y t =
       ap (put_items self (option_map (at ts) a.single)) (put_setting old_stack (option_map (at ts) a.old) y t) ∙ put_setting self (option_map (at ts) a.single) y (put_one old_stack (option_map (at ts) a.old) t)
 
-maybe_kept : (ts us : List Tree) → Keeps ts us → (o : Option ℕ) → MaybeIn (length ts) o → option_map (at us) o ≡ option_map (at ts) o
-maybe_kept ts us k None h = refl
-maybe_kept ts us k (Some e) h = ap Some (k.same e h)
-
-maybe_more : (m n : ℕ) (o : Option ℕ) → m ≤ n → MaybeIn m o → MaybeIn n o
+pub maybe_more : (m n : ℕ) (o : Option ℕ) → m ≤ n → MaybeIn m o → MaybeIn n o
 maybe_more m n None le h = tt
 maybe_more m n (Some e) le h = omega (arith, le, h)
 
 pub after_tree-kept : (ts us : List Tree) → Keeps ts us → (a : After) → AfterIn (length ts) a → (t : Tree) → after_tree us a t ≡ after_tree ts a t
-after_tree-kept ts us k a h t = λ j. put_one self (maybe_kept ts us k a.single h.single j) (put_one old_stack (maybe_kept ts us k a.old h.old j) t)
+after_tree-kept ts us k a h t = λ j. put_one self (maybe-kept ts us k a.single h.single j) (put_one old_stack (maybe-kept ts us k a.old h.old j) t)
 
 pub after_items-kept : (ts us : List Tree) → Keeps ts us → (a : After) → AfterIn (length ts) a → (is : Items) → after_items us a is ≡ after_items ts a is
-after_items-kept ts us k a h is = λ j. put_items self (maybe_kept ts us k a.single h.single j) (put_items old_stack (maybe_kept ts us k a.old h.old j) is)
+after_items-kept ts us k a h is = λ j. put_items self (maybe-kept ts us k a.single h.single j) (put_items old_stack (maybe-kept ts us k a.old h.old j) is)
 
 pub AfterIn-more : (m n : ℕ) (a : After) → m ≤ n → AfterIn m a → AfterIn n a
 AfterIn-more m n a le h = record { old = maybe_more m n a.old le h.old; single = maybe_more m n a.single le h.single }

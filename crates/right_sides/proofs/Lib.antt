@@ -4,3 +4,4 @@ pub mod GroupLaws
 pub mod SideLaws
 pub mod AfterLaws
 pub mod StatementLaws
+pub mod ItemLaws

@@ -25,7 +25,7 @@ use Rattle.step_forms.proofs.OpenedActions.{flat_mapped, first_opened}
 use Rattle.step_forms.proofs.OpenedBodies.{words_opened}
 use Rattle.step_forms.proofs.OpenedRoutines.{opened_process, opened_main, procedures_opened, mains_opened, taken_main_opened, taken_procedures_opened, localised_opened}
 
-mapped : {X Y Z : Type 0} (f : Y → Z) (g : X → Y) (k : X → Z) → ((x : X) → f (g x) ≡ k x) → (xs : List X) → map f (map g xs) ≡ map k xs
+pub mapped : {X Y Z : Type 0} (f : Y → Z) (g : X → Y) (k : X → Z) → ((x : X) → f (g x) ≡ k x) → (xs : List X) → map f (map g xs) ≡ map k xs
 mapped f g k e [] = refl
 mapped f g k e (x ∷ xs) = λ i. e x i ∷ mapped f g k e xs i
 

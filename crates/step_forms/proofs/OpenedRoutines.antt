@@ -16,7 +16,7 @@ use Rattle.action_builder.specs.LabelActions.{procedure_takers, taken_procedures
 use Rattle.action_builder.specs.OwnVariables.{own_under, own_variables, is_own_variable, localised}
 use Rattle.step_forms.specs.Opened.{opened, opened_program, opened_routine, opened_taken}
 
-length_mapped : {X Y : Type 0} (f : X → Y) (xs : List X) → length (map f xs) ≡ length xs
+pub length_mapped : {X Y : Type 0} (f : X → Y) (xs : List X) → length (map f xs) ≡ length xs
 length_mapped f [] = refl
 length_mapped f (x ∷ xs) = ap suc (length_mapped f xs)
 

@@ -26,7 +26,8 @@ use Rattle.right_sides.specs.After.{put_one, put_items}
 use Rattle.step_items.specs.declared.desk.Reach.{Reach}
 use Rattle.step_items.specs.Branching.{to_end, Side}
 use Rattle.step_items.specs.Writing.{jumps_of, own_of, branch_part, Plain, Fits, Writes}
-use Rattle.step_items.proofs.WritesLaws.{items_last, branch_put}
+use Rattle.right_sides.proofs.AfterLaws.{items_last}
+use Rattle.step_items.proofs.WritesLaws.{branch_put}
 
 choice_put : (x : Option Tree) (t : Tree) (a b : Items) → put_items self x (item (if_then_else t a b) no_items) ≡ item (if_then_else (put_one self x t) (put_items self x a) (put_items self x b)) no_items
 choice_put None t a b = refl

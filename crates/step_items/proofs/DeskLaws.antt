@@ -7,7 +7,7 @@ use Rattle.tla_tree.specs.Tree.{Word, Form, name, Tree, node, Trees, no_trees, G
 use Rattle.tla_tree.specs.Pool.{at, Keeps}
 use Rattle.tla_value.specs.Grafts.{own_part, owned}
 use Rattle.module_tree.specs.Formulas.{self}
-use Rattle.module_write.specs.InMemory.{MaybeIn}
+use Rattle.module_write.proofs.InMemoryGrown.{maybe-kept}
 use Rattle.pcal_tree.specs.Algorithm.{Routine, declares, locals}
 use Rattle.pcal_tree.specs.Expand.{placed_at, graft_left}
 use Rattle.pcal_tree.specs.Program.{Program, written}
@@ -17,21 +17,14 @@ use Rattle.name_bits.specs.NamesIn.{names_in}
 use Rattle.written_names.specs.Units.{naming_of}
 use Rattle.prime_subst.specs.Readers.{renames_of}
 use Rattle.draft.proofs.Grown.{draft_kept}
+use Rattle.right_sides.proofs.AfterLaws.{maybe_more}
 use Rattle.action_builder.specs.OwnVariables.{is_own_variable}
 use Rattle.action_builder.specs.WrittenNames.{renames}
 use Rattle.step_items.specs.declared.desk.Desk.{Desk}
 use Rattle.step_items.specs.Desks.{DeskIn, IsDesk}
 use Rattle.step_items.specs.Writing.{own_of}
 
--- ---- numbers that may be there
-
-pub maybe_kept : (ts us : List Tree) → Keeps ts us → (o : Option ℕ) → MaybeIn (length ts) o → option_map (at us) o ≡ option_map (at ts) o
-maybe_kept ts us k None h = refl
-maybe_kept ts us k (Some e) h = ap Some (k.same e h)
-
-pub maybe_more : (m n : ℕ) (o : Option ℕ) → m ≤ n → MaybeIn m o → MaybeIn n o
-maybe_more m n None le h = tt
-maybe_more m n (Some e) le h = omega (arith, le, h)
+-- ---- its numbers
 
 pub desk_more : (m n : ℕ) (d : Desk) → m ≤ n → DeskIn m d → DeskIn n d
 desk_more m n d le h = record { draft = (let b = h.draft in omega (arith, le, b)); single = maybe_more m n d.single le h.single }
@@ -61,7 +54,7 @@ desk_kept ts us k d P u x b h = record {
   listed = h.listed;
   titles = h.titles;
   empty = h.empty;
-  single = maybe_kept ts us k d.single b.single ∙ h.single;
+  single = maybe-kept ts us k d.single b.single ∙ h.single;
   few = h.few;
 }
 

@@ -23,7 +23,8 @@ use Rattle.right_sides.specs.After.{put_items}
 use Rattle.step_forms.proofs.LeftLaws.{left_past, followed_done, followed_again}
 use Rattle.step_forms.proofs.WrittenLaws.{Unmarked}
 use Rattle.step_items.specs.Writing.{jumps_of, own_of, named, ends_first, to_write, to_write_first, Plain, Fits, Writes}
-use Rattle.step_items.proofs.WritesLaws.{nothing_put, onto_put, writes_none, writes_then}
+use Rattle.right_sides.proofs.AfterLaws.{put_nothing, put_onto}
+use Rattle.step_items.proofs.WritesLaws.{writes_none, writes_then}
 use Rattle.step_items.proofs.ListLaws.{first_ends, first_stays, ends_jumps}
 
 -- ---- a statement in memory goes before the rest of its list
@@ -60,7 +61,7 @@ module _ (P : Program) (u : Routine) (x : Option Tree) where
       → Far ts ts before before earlier none here here l all all
   far_first ts before earlier none here l all n fits = record {
     so_far = done;
-    writes = writes_none P (put_items self x) ts ts before earlier none refl (nothing_put self x) n;
+    writes = writes_none P (put_items self x) ts ts before earlier none refl (put_nothing self x) n;
     unmarked = tt;
     whole = refl;
     jumps_as = refl;
@@ -117,7 +118,7 @@ module _ (P : Program) (u : Routine) (x : Option Tree) where
         let said : Writes P (put_items self x) us vs mid after between one one_done = subst (λ (a : Statements). Writes P (put_items self x) us vs mid after between one (graft_all (own_of P) a)) (first_stays (jumps_of P u) here l s st rest h) w in
         record {
           so_far = followed_by f.so_far one_done;
-          writes = writes_then P (put_items self x) ts us vs before mid after earlier so between one both f.so_far one_done (onto_put self x) f.unmarked b c f.writes said;
+          writes = writes_then P (put_items self x) ts us vs before mid after earlier so between one both f.so_far one_done (put_onto self x) f.unmarked b c f.writes said;
           unmarked = unmarked_more f.so_far f.unmarked s (graft_one (own_of P) st);
           whole =
               f.whole
@@ -138,7 +139,7 @@ module _ (P : Program) (u : Routine) (x : Option Tree) where
     far_ends ss h b c f w =
         let said : Writes P (put_items self x) us vs mid after between one (to_write P u here l ss) = subst (λ (a : Statements). Writes P (put_items self x) us vs mid after between one (graft_all (own_of P) a)) (first_ends (jumps_of P u) here l ss h) w in (
           subst (Writes P (put_items self x) ts vs before after earlier both) (sym f.whole)
-              (writes_then P (put_items self x) ts us vs before mid after earlier so between one both f.so_far (to_write P u here l ss) (onto_put self x) f.unmarked b c f.writes said),
+              (writes_then P (put_items self x) ts us vs before mid after earlier so between one both f.so_far (to_write P u here l ss) (put_onto self x) f.unmarked b c f.writes said),
           sym (f.jumps_as ∙ ends_jumps ss h),
         )
 

@@ -33,7 +33,7 @@ use Rattle.step_items.specs.declared.desk.Desk.{Desk}
 use Rattle.step_items.specs.Desks.{DeskIn, IsDesk}
 use Rattle.step_forms.specs.PartsAssigned.{AllInParts}
 use Rattle.step_items.specs.Writing.{Plain, Writes}
-use Rattle.step_items.proofs.DeskLaws.{maybe_more}
+use Rattle.right_sides.proofs.AfterLaws.{maybe_more}
 use Rattle.step_items.proofs.WritesLaws.{writes_from}
 
 -- ---- rows

@@ -33,7 +33,7 @@ use Rattle.step_items.specs.declared.desk.Reach.{Reach}
 use Rattle.step_items.specs.declared.statements.Row.{Row}
 use Rattle.step_items.specs.Branching.{to_end, Side, Rows, past_row, past_rows, rows_end, rows_assign, FitBranches, each_branch, closed_lists}
 use Rattle.step_items.specs.Writing.{jumps_of, own_of, either_part, to_write, Writes}
-use Rattle.step_items.proofs.WritesLaws.{items_last}
+use Rattle.right_sides.proofs.AfterLaws.{items_last}
 use Rattle.step_items.proofs.BranchLaws.{side_list}
 
 -- ---- one after another

@@ -24,7 +24,7 @@ use Rattle.right_sides.specs.After.{put_one, put_items}
 use Rattle.step_forms.specs.Steps.{step_items}
 use Rattle.step_forms.proofs.WrittenLaws.{left_alike, put_unchanged}
 use Rattle.step_items.specs.Writing.{named, to_finish, Writes}
-use Rattle.step_items.proofs.WritesLaws.{onto_put}
+use Rattle.right_sides.proofs.AfterLaws.{put_onto}
 
 -- ---- nothing is assigned yet
 
@@ -71,5 +71,5 @@ step_written P u x ts us vs label exit ss before made after earlier assigned ord
     all
     ∙ (λ i. onto (w.items i) (unchanged_of (left_of (o i) (o i) (names_in (o i) assigned))))
     ∙ (λ i. onto (onto (begin i) (put_items self x (write (vars P) (no_names (vars P) earlier n i) S))) (unchanged_of (left_alike (vars P) (vars P) (names_in (vars P) assigned) (vars P) (assigned_in S) (λ y. refl) w.names i)))
-    ∙ ap (item (test (put_one self x t))) (ap (onto (put_items self x written)) (sym (left_put x left)) ∙ sym (onto_put self x written (unchanged_of left)))
+    ∙ ap (item (test (put_one self x t))) (ap (onto (put_items self x written)) (sym (left_put x left)) ∙ sym (put_onto self x written (unchanged_of left)))
     ∙ sym (test_first x t (onto written (unchanged_of left)))

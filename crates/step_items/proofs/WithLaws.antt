@@ -29,7 +29,7 @@ use Rattle.step_forms.proofs.WrittenLaws.{onto_none}
 use Rattle.right_sides.specs.After.{put_one, put_items}
 use Rattle.step_items.specs.Branching.{own_binds, with_items}
 use Rattle.step_items.specs.Writing.{jumps_of, own_of, with_part, to_write, Fits, Writes}
-use Rattle.step_items.proofs.WritesLaws.{items_last}
+use Rattle.right_sides.proofs.AfterLaws.{items_last}
 
 -- ---- what is written
 

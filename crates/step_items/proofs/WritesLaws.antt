@@ -1,13 +1,11 @@
 -- What is written behind items: nothing, items for statements one after another, and in a pool that has grown; and what is put in after that.
-use Rattle.std.proofs.Common.{◌≡◌, ℕ, ◌==◌, ◌<◌, ◌≤◌, false, true≢false, List, [], ◌∷◌, ◌++◌, append-nil, length, Bool, ◌||◌, Option, Some, None, Result, Ok, Err, IfOk, OnOk, refl, sym, ap, ◌∙◌, arith}
-use Rattle.std.specs.Option.{option_map}
+use Rattle.std.proofs.Common.{◌≡◌, ℕ, ◌≤◌, List, [], ◌∷◌, ◌++◌, append-nil, length, Bool, ◌||◌, Option, Some, None, Result, Ok, Err, IfOk, OnOk, refl, sym, ap, ◌∙◌, arith}
 use Rattle.tla_token.specs.Signs.{is_among}
 use Rattle.tla_token.specs.declared.place.Place.{Place}
 use Rattle.tla_tree.specs.Tree.{Word, Tree}
-use Rattle.tla_tree.specs.Pool.{at, Keeps}
+use Rattle.tla_tree.specs.Pool.{Keeps}
 use Rattle.module_tree.specs.Module.{test, Items, no_items, item}
 use Rattle.module_tree.specs.Module as tree
-use Rattle.module_tree.specs.Formulas.{self}
 use Rattle.module_write.specs.declared.«module».Item.{Item}
 use Rattle.module_write.specs.InMemory.{item_at, items_at, past_item, past_items}
 use Rattle.module_write.proofs.InMemoryGrown.{items_at-kept}
@@ -20,29 +18,15 @@ use Rattle.name_bits.specs.declared.bits.Bits.{Bits}
 use Rattle.name_bits.specs.NamesIn.{names_in}
 use Rattle.action_builder.specs.SingleProcess.{in_place_of}
 use Rattle.action_builder.specs.Assigned.{Names, more, heads, assigned_in}
-use Rattle.action_builder.specs.Written.{old_stack, onto, filled, unchanged_of, settings_of, branch_items, write}
+use Rattle.action_builder.specs.Written.{onto, filled, settings_of, branch_items, write}
 use Rattle.action_builder.proofs.Sets.{member_append}
-use Rattle.step_forms.proofs.WrittenLaws.{same_names, onto_none, onto_again, Unmarked, assigned_followed, write_followed, put_onto, put_filled, put_branch}
+use Rattle.step_forms.proofs.WrittenLaws.{same_names, onto_none, onto_again, Unmarked, assigned_followed, write_followed, put_filled, put_branch}
 use Rattle.right_sides.specs.declared.after.After.{After}
 use Rattle.right_sides.specs.After.{put_one, put_items, after_items, AfterIn}
+use Rattle.right_sides.proofs.AfterLaws.{items_last, after_items-kept}
 use Rattle.step_items.specs.Writing.{Writes}
-use Rattle.step_items.proofs.DeskLaws.{maybe_kept, maybe_more}
-
--- ---- lists of items in memory
-
-pub items_last : (ts : List Tree) (is : List Item) (i : Item) → items_at ts (is ++ i ∷ []) ≡ onto (items_at ts is) (item (item_at ts i) no_items)
-items_last ts [] i = refl
-items_last ts (j ∷ is) i = ap (item (item_at ts j)) (items_last ts is i)
 
 -- ---- what is put in for a name
-
-pub nothing_put : (y : Word) (x : Option Tree) → put_items y x no_items ≡ no_items
-nothing_put y None = refl
-nothing_put y (Some e) = refl
-
-pub onto_put : (y : Word) (x : Option Tree) (is js : Items) → put_items y x (onto is js) ≡ onto (put_items y x is) (put_items y x js)
-onto_put y None is js = refl
-onto_put y (Some e) is js = put_onto (in_place_of y e) is js
 
 pub filled_put : (y : Word) (x : Option Tree) (p : Place) (is : Items) → put_items y x (filled p is) ≡ filled p (put_items y x is)
 filled_put y None p is = refl
@@ -61,19 +45,8 @@ pub none_put : (y : Word) (x : Option Tree) → put_items y x (item (tree.either
 none_put y None = refl
 none_put y (Some e) = refl
 
-pub after_onto : (ts : List Tree) (a : After) (is js : Items) → after_items ts a (onto is js) ≡ onto (after_items ts a is) (after_items ts a js)
-after_onto ts a is js =
-    ap (put_items self (option_map (at ts) a.single)) (onto_put old_stack (option_map (at ts) a.old) is js)
-    ∙ onto_put self (option_map (at ts) a.single) (put_items old_stack (option_map (at ts) a.old) is) (put_items old_stack (option_map (at ts) a.old) js)
-
-pub after_nothing : (ts : List Tree) (a : After) → after_items ts a no_items ≡ no_items
-after_nothing ts a = ap (put_items self (option_map (at ts) a.single)) (nothing_put old_stack (option_map (at ts) a.old)) ∙ nothing_put self (option_map (at ts) a.single)
-
 pub after_kept : (ts us : List Tree) → Keeps ts us → (a : After) → AfterIn (length ts) a → after_items us a ≡ after_items ts a
-after_kept ts us k a h = λ j is. put_items self (maybe_kept ts us k a.single h.single j) (put_items old_stack (maybe_kept ts us k a.old h.old j) is)
-
-pub after_more : (m n : ℕ) (a : After) → m ≤ n → AfterIn m a → AfterIn n a
-after_more m n a le h = record { old = maybe_more m n a.old le h.old; single = maybe_more m n a.single le h.single }
+after_kept ts us k a h = λ j is. after_items-kept ts us k a h is j
 
 -- ---- what is written
 
@@ -151,17 +124,3 @@ pub past_pushed : (m n : ℕ) (is ys : List Item) (i : Item) → past_items is �
 past_pushed m n is ys i h le one e =
     let all = ap past_items e in
     omega (arith, all, past_one_more past_item is i, h, le, one)
-
--- a list that has items is filled
-pub filled_same : (p : Place) (ts : List Tree) (is : List Item) (n : ℕ) → n ≡ length is → false ≡ (n == 0) → items_at ts is ≡ filled p (items_at ts is)
-filled_same p ts [] n e h = absurd (true≢false (sym (h ∙ ap (λ (m : ℕ). m == 0) e)))
-filled_same p ts (i ∷ is) n e h = refl
-
--- UNCHANGED for some names
-pub unchanged_some : (xs : List Word) → 0 < length xs → unchanged_of xs ≡ item (tree.unchanged xs) no_items
-unchanged_some [] h = absurd (let no : ⊥ = omega (arith, h) in no)
-unchanged_some (x ∷ xs) h = refl
-
-pub unchanged_none : (xs : List Word) → length xs ≤ 0 → unchanged_of xs ≡ no_items
-unchanged_none [] h = refl
-unchanged_none (x ∷ xs) h = absurd (let no : ⊥ = omega (arith, h) in no)

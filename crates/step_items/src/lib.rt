@@ -3,7 +3,6 @@
 
 pub mod desk;
 pub mod expressions;
-pub mod items;
 pub mod moves;
 pub mod partner;
 pub mod simple;

@@ -25,13 +25,13 @@ ghost use Rattle.step_items.specs.Writing.{jumps_of, own_of, named, ends_first, 
 
 use crate::desk::{Around, Desk, Reach};
 use crate::expressions::expression;
-use crate::items::{close, fill};
 use crate::moves::jump;
 use crate::partner::follow;
 use crate::simple::simple;
 use module_write::module::Item;
 use name_bits::{Bits, Order};
 use pcal_tree::algorithm::{Bind, Stmt};
+use right_sides::items::{close, fill};
 use std::alloc::{AllocError, Global};
 use tla_pool::Pool;
 use tla_token::Place;

@@ -20,12 +20,12 @@ ghost use Rattle.step_items.specs.Writing.{named as named_statements, to_finish,
 
 use crate::desk::{Around, Desk};
 use crate::expressions::in_step;
-use crate::items::add_unchanged;
 use crate::statements::finished;
 use module_write::formulas::{equal, named, quoted};
 use module_write::module::Item;
 use name_bits::{Bits, Order};
 use pcal_tree::algorithm::Stmt;
+use right_sides::items::add_unchanged;
 use std::alloc::{AllocError, Global};
 use tla_pool::Pool;
 use tla_tree::{Name, NodeId, Text};

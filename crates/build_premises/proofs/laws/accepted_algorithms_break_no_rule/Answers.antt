@@ -1,6 +1,5 @@
 -- Proves the law `accepted_algorithms_break_no_rule`.
 use Rattle.translation.proofs.NamesApart.{writable}
-use Rattle.build_premises.proofs.OpenableAlgorithms.{accepted_openable}
 use Rattle.build_premises.proofs.laws.accepted_algorithms_break_no_rule.Goals as goal
 
 pub returns-clause-writable : goal.returns-clause-writable
@@ -11,6 +10,3 @@ returns-clause-names c = λ o g h. h.accepted.names
 
 pub returns-clause-labels : goal.returns-clause-labels
 returns-clause-labels c = λ o g h. h.accepted.labels
-
-pub returns-clause-openable : goal.returns-clause-openable
-returns-clause-openable c = accepted_openable

@@ -2,7 +2,7 @@
 use Rattle.std.proofs.Common.{◌∙◌, arith}
 use Rattle.tla_tree.proofs.PoolNumbers.{Keeps-then, past_at}
 use Rattle.pcal_tree.specs.InMemory.{procedure_at, past_procedure}
-use Rattle.expansion.proofs.Lists.{made_more, made_all}
+use Rattle.macro_arguments.proofs.Lists.{made_more, made_all}
 use Rattle.expansion.proofs.AlgorithmLaws.{procedure_put, procedures_grow, procedure_grown, procedures_made}
 use Rattle.expansion.proofs.algorithm.procedures.Goals as goal
 

@@ -2,7 +2,7 @@
 use Rattle.std.proofs.Common.{take}
 use Rattle.tla_tree.specs.Pool.{Keeps}
 use Rattle.pcal_tree.specs.InMemory.{procedure_at, past_procedure}
-use Rattle.expansion.proofs.Lists.{MadeOf}
+use Rattle.macro_arguments.proofs.Lists.{MadeOf}
 use Rattle.expansion.proofs.AlgorithmLaws.{procedure_put}
 use Rattle.expansion.proofs.algorithm.procedures.Given as goal
 

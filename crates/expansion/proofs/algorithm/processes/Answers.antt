@@ -2,7 +2,7 @@
 use Rattle.std.proofs.Common.{◌∙◌, arith}
 use Rattle.tla_tree.proofs.PoolNumbers.{Keeps-then, past_at}
 use Rattle.pcal_tree.specs.InMemory.{process_at, past_process}
-use Rattle.expansion.proofs.Lists.{made_more, made_all}
+use Rattle.macro_arguments.proofs.Lists.{made_more, made_all}
 use Rattle.expansion.proofs.AlgorithmLaws.{process_put, processes_grow, process_grown, processes_made}
 use Rattle.expansion.proofs.algorithm.processes.Goals as goal
 

@@ -2,7 +2,7 @@
 use Rattle.std.proofs.Common.{take}
 use Rattle.tla_tree.specs.Pool.{Keeps}
 use Rattle.pcal_tree.specs.InMemory.{process_at, past_process}
-use Rattle.expansion.proofs.Lists.{MadeOf}
+use Rattle.macro_arguments.proofs.Lists.{MadeOf}
 use Rattle.expansion.proofs.AlgorithmLaws.{process_put}
 use Rattle.expansion.proofs.algorithm.processes.Given as goal
 

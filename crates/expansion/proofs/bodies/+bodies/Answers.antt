@@ -11,10 +11,10 @@ use Rattle.pcal_tree.proofs.InMemoryEach.{past_if, past_either, past_with, past_
 use Rattle.pcal_tree.proofs.StatementHeights.{height, heights, branch_heights, either_height}
 use Rattle.expansion_size.specs.FramesIn.{newest_first, put_by}
 use Rattle.expansion_size.proofs.MacroLaws.{less_work, fewer_past}
-use Rattle.expansion.specs.Expressions.{StandBinds}
+use Rattle.macro_arguments.specs.Expressions.{StandBinds}
 use Rattle.expansion.specs.Written.{written, written_some, Stand, StandSome}
 use Rattle.expansion_size.proofs.FrameLaws.{past_called}
-use Rattle.expansion.proofs.Lists.{made_more, made_all}
+use Rattle.macro_arguments.proofs.Lists.{made_more, made_all}
 use Rattle.expansion.proofs.BodyLaws.{past_branch, branch_at, branch_put, branches_grow, branches_made, stand_none, keeps_all, first_written, all_written, stand_from, stand_pushed, written_kept, next_written, call_written, if_made, either_made, with_made, while_made, binds_stand, inside_is, no_macro_made, call_is}
 use Rattle.expansion.proofs.bodies.+bodies.Goals as goal
 

@@ -6,7 +6,7 @@ use Rattle.pcal_tree.specs.Expand.{followed_by}
 use Rattle.pcal_tree.proofs.StatementHeights.{height, heights, branch_heights}
 use Rattle.expansion_size.proofs.MacroLaws.{work}
 use Rattle.expansion.specs.Written.{written, Stand}
-use Rattle.expansion.proofs.Lists.{MadeOf}
+use Rattle.macro_arguments.proofs.Lists.{MadeOf}
 use Rattle.expansion.proofs.BodyLaws.{past_branch, branch_at, branch_put}
 use Rattle.expansion.proofs.bodies.+bodies.Given as goal
 

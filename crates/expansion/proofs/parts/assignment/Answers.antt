@@ -1,6 +1,6 @@
 -- Proves that a right side has what stands for its names.
 use Rattle.std.proofs.Common.{◌∙◌, arith}
-use Rattle.expansion.specs.FramesStay.{graft_grown}
+use Rattle.macro_arguments.specs.FramesStay.{graft_grown}
 use Rattle.expansion.proofs.parts.assignment.Goals as goal
 
 pub returns-clause-right : goal.returns-clause-right

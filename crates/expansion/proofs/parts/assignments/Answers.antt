@@ -6,8 +6,8 @@ use Rattle.pcal_tree.specs.declared.algorithm.Assignment.{Assignment}
 use Rattle.pcal_tree.specs.Algorithm.{assignment}
 use Rattle.pcal_tree.specs.InMemory.{past_assignment}
 use Rattle.expansion_size.specs.FramesIn.{put_by}
-use Rattle.expansion.specs.Expressions.{assignment_put}
-use Rattle.expansion.proofs.Lists.{assignment_at, assignment_grown, assignments_grow, made_more, made_all, assignments_made}
+use Rattle.macro_arguments.specs.Expressions.{assignment_put}
+use Rattle.macro_arguments.proofs.Lists.{assignment_at, assignment_grown, assignments_grow, made_more, made_all, assignments_made}
 use Rattle.expansion.proofs.parts.assignments.Goals as goal
 
 pub assignment-requires-clause-there : goal.assignment-requires-clause-there

@@ -3,8 +3,8 @@ use Rattle.std.proofs.Common.{take}
 use Rattle.tla_tree.specs.Pool.{Keeps}
 use Rattle.pcal_tree.specs.InMemory.{past_assignment}
 use Rattle.expansion_size.specs.FramesIn.{put_by}
-use Rattle.expansion.specs.Expressions.{assignment_put}
-use Rattle.expansion.proofs.Lists.{MadeOf, assignment_at}
+use Rattle.macro_arguments.specs.Expressions.{assignment_put}
+use Rattle.macro_arguments.proofs.Lists.{MadeOf, assignment_at}
 use Rattle.expansion.proofs.parts.assignments.Given as goal
 
 abbrev pub invariant-loop-one : goal.invariant-loop-one

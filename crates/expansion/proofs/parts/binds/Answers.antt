@@ -3,8 +3,8 @@ use Rattle.std.proofs.Common.{◌∙◌, arith}
 use Rattle.tla_tree.proofs.PoolNumbers.{Keeps-then, past_at}
 use Rattle.pcal_tree.specs.InMemory.{bind_at, past_bind}
 use Rattle.expansion_size.specs.FramesIn.{put_by}
-use Rattle.expansion.specs.Expressions.{bind_put}
-use Rattle.expansion.proofs.Lists.{bind_grown, binds_grow, made_more, made_all, binds_made}
+use Rattle.macro_arguments.specs.Expressions.{bind_put}
+use Rattle.macro_arguments.proofs.Lists.{bind_grown, binds_grow, made_more, made_all, binds_made}
 use Rattle.expansion.proofs.parts.binds.Goals as goal
 
 pub bind-requires-clause-there : goal.bind-requires-clause-there

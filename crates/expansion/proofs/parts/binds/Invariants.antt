@@ -3,8 +3,8 @@ use Rattle.std.proofs.Common.{take}
 use Rattle.tla_tree.specs.Pool.{Keeps}
 use Rattle.pcal_tree.specs.InMemory.{bind_at, past_bind}
 use Rattle.expansion_size.specs.FramesIn.{put_by}
-use Rattle.expansion.specs.Expressions.{bind_put}
-use Rattle.expansion.proofs.Lists.{MadeOf}
+use Rattle.macro_arguments.specs.Expressions.{bind_put}
+use Rattle.macro_arguments.proofs.Lists.{MadeOf}
 use Rattle.expansion.proofs.parts.binds.Given as goal
 
 abbrev pub invariant-loop-one : goal.invariant-loop-one

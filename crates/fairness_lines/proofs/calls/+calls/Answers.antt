@@ -5,7 +5,7 @@ use Rattle.tla_tree.proofs.PoolNumbers.{past_at}
 use Rattle.pcal_tree.specs.declared.algorithm.Stmt.{Stmt}
 use Rattle.pcal_tree.specs.InMemory.{statements_at, branches_at}
 use Rattle.pcal_tree.proofs.StatementHeights.{height, heights, branch_heights, if_height, either_height, with_height, while_height}
-use Rattle.fairness_lines.proofs.Walks.{left_more, left_none, branch_more, branch_none, label_adds, simple_adds, if_adds, either_adds, with_adds, while_adds}
+use Rattle.marked_labels.proofs.Walks.{left_more, left_none, branch_more, branch_none, label_adds, simple_adds, if_adds, either_adds, with_adds, while_adds}
 use Rattle.fairness_lines.proofs.NumberLaws.{numbers, numbers_some, numbers_inside, numbers_here, numbers_walk}
 use Rattle.fairness_lines.proofs.calls.+calls.Goals as goal
 

@@ -4,8 +4,8 @@ use Rattle.std.proofs.lemmas.Result.{on_ok_weaker}
 use Rattle.pcal_tree.specs.InMemory.{statements_at}
 use Rattle.written_names.specs.Units.{naming_of}
 use Rattle.fairness_lines.specs.declared.demands.Demand.{Demand}
-use Rattle.fairness_lines.specs.declared.labels.Wanted.TheVariants.{Strong}
-use Rattle.fairness_lines.specs.Wanted.{labels_of}
+use Rattle.marked_labels.specs.declared.labels.Wanted.TheVariants.{Strong}
+use Rattle.marked_labels.specs.Wanted.{labels_of}
 use Rattle.fairness_lines.specs.Asked.{Asked, of_label}
 use Rattle.fairness_lines.specs.DemandsAt.{takers_at, all_asked, DemandIn, AllDemandsIn}
 use Rattle.fairness_lines.proofs.AskedLaws.{pushed, all_push}

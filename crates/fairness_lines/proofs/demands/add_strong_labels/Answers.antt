@@ -4,8 +4,8 @@ use Rattle.std.proofs.lemmas.Result.{on_ok_weaker}
 use Rattle.tla_tree.specs.Tree.{Word}
 use Rattle.pcal_tree.specs.InMemory.{statements_at}
 use Rattle.written_names.specs.Units.{naming_of}
-use Rattle.fairness_lines.specs.declared.labels.Wanted.TheVariants.{Strong}
-use Rattle.fairness_lines.specs.Wanted.{labels_of}
+use Rattle.marked_labels.specs.declared.labels.Wanted.TheVariants.{Strong}
+use Rattle.marked_labels.specs.Wanted.{labels_of}
 use Rattle.fairness_lines.specs.Asked.{of_label}
 use Rattle.fairness_lines.specs.DemandsAt.{takers_at, all_asked}
 use Rattle.fairness_lines.proofs.demands.add_strong_labels.Goals as goal

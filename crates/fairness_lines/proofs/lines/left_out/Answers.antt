@@ -5,8 +5,8 @@ use Rattle.tla_tree.specs.Tree.{Word}
 use Rattle.pcal_tree.specs.InMemory.{statements_at}
 use Rattle.written_names.specs.Units.{naming_of}
 use Rattle.fairness.specs.FairnessLines.{guard_of}
-use Rattle.fairness_lines.specs.declared.labels.Wanted.TheVariants.{LeftOut}
-use Rattle.fairness_lines.specs.Wanted.{labels_of}
+use Rattle.marked_labels.specs.declared.labels.Wanted.TheVariants.{LeftOut}
+use Rattle.marked_labels.specs.Wanted.{labels_of}
 use Rattle.fairness_lines.specs.DemandsAt.{takers_at}
 use Rattle.fairness_lines.proofs.lines.left_out.Goals as goal
 

@@ -10,7 +10,8 @@ use Rattle.fairness_lines.specs.Asked.{Asked}
 use Rattle.fairness_lines.specs.LinesOf.{line_for}
 use Rattle.fairness_lines.proofs.TableRows.{map_taken}
 use Rattle.fairness_lines.proofs.AskedLaws.{all_push, all_at}
-use Rattle.fairness_lines.proofs.LineLaws.{lines_in, lines_kept}
+use Rattle.fairness_lines.proofs.LineLaws.{lines_in}
+use Rattle.module_write.proofs.InMemoryGrown.{fairness-kept}
 use Rattle.fairness_lines.proofs.lines.lines.Goals as goal
 
 pub loop-demand-preserved : goal.loop-demand-preserved
@@ -26,7 +27,7 @@ loop-demand-preserved c =
           (all_push (FairnessIn (length new)) c.loop-demand.made.items c.in_ok-line.field-0 (lines_in mid new kept c.loop-demand.made.items c.loop-demand.invariant.1) c.in_ok-line.ensures.within),
       ap (λ (fs : List Fairness). map (fairness_at new) fs) c.in_ok-push.ensures.items
           ∙ map-append (fairness_at new) c.loop-demand.made.items (c.in_ok-line.field-0 ∷ [])
-          ∙ (λ i. (lines_kept mid new kept c.loop-demand.made.items c.loop-demand.invariant.1 ∙ c.loop-demand.invariant.2) i ++ c.in_ok-line.ensures.line old c.loop-demand.invariant.0 here i ∷ [])
+          ∙ (λ i. (fairness-kept mid new kept c.loop-demand.made.items c.loop-demand.invariant.1 ∙ c.loop-demand.invariant.2) i ++ c.in_ok-line.ensures.line old c.loop-demand.invariant.0 here i ∷ [])
           ∙ sym (ap (λ (xs : List Asked). map (line_for f) xs) (map_taken (asked_at old) c.args.demands.now c.loop-demand.demand-index c.demand-item.result c.demand-item.is c.loop-demand-test.true)
           ∙ map-append (line_for f) (all_asked old (take c.loop-demand.demand-index c.args.demands.now)) (asked_at old c.demand-item.result ∷ [])),
     )

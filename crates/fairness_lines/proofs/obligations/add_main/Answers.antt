@@ -6,8 +6,8 @@ use Rattle.pcal_tree.specs.declared.algorithm.Main.{Main}
 use Rattle.pcal_tree.specs.Algorithm.{main_routines}
 use Rattle.pcal_tree.specs.InMemory.{statements_at, main_at}
 use Rattle.written_names.specs.Units.{naming_of}
-use Rattle.fairness_lines.specs.declared.labels.Wanted.TheVariants.{All}
-use Rattle.fairness_lines.specs.Wanted.{labels_of}
+use Rattle.marked_labels.specs.declared.labels.Wanted.TheVariants.{All}
+use Rattle.marked_labels.specs.Wanted.{labels_of}
 use Rattle.fairness_lines.specs.LinesOf.{every_in}
 use Rattle.fairness_lines.proofs.obligations.add_main.Goals as goal
 

@@ -4,8 +4,8 @@ use Rattle.pcal_tree.specs.declared.algorithm.Stmt.{Stmt}
 use Rattle.pcal_tree.specs.Algorithm.{numbered, procedure_routine}
 use Rattle.pcal_tree.specs.InMemory.{statements_at, procedure_at}
 use Rattle.written_names.specs.Units.{naming_of}
-use Rattle.fairness_lines.specs.declared.labels.Wanted.TheVariants.{All}
-use Rattle.fairness_lines.specs.Wanted.{labels_of}
+use Rattle.marked_labels.specs.declared.labels.Wanted.TheVariants.{All}
+use Rattle.marked_labels.specs.Wanted.{labels_of}
 use Rattle.fairness_lines.specs.LinesOf.{every_in}
 use Rattle.fairness_lines.proofs.AskedLaws.{numbered_more, numbered_none}
 use Rattle.fairness_lines.proofs.obligations.add_procedures.Goals as goal

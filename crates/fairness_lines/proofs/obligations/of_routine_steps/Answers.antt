@@ -4,8 +4,8 @@ use Rattle.tla_tree.specs.Tree.{Word}
 use Rattle.pcal_tree.specs.InMemory.{statements_at}
 use Rattle.written_names.specs.Units.{naming_of}
 use Rattle.fairness.specs.Obligations.{Obligation}
-use Rattle.fairness_lines.specs.declared.labels.Wanted.TheVariants.{Kept}
-use Rattle.fairness_lines.specs.Wanted.{labels_of}
+use Rattle.marked_labels.specs.declared.labels.Wanted.TheVariants.{Kept}
+use Rattle.marked_labels.specs.Wanted.{labels_of}
 use Rattle.fairness_lines.proofs.obligations.of_routine_steps.Goals as goal
 
 pub returns : goal.returns

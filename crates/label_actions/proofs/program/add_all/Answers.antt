@@ -9,7 +9,7 @@ use Rattle.module_write.specs.InMemory.{actions_at}
 use Rattle.action_builder.specs.LabelActions.{procedure_takers, taken_procedures}
 use Rattle.step_forms.specs.Steps.{routine_steps, main_steps}
 use Rattle.module_formulas.specs.TakersIn.{taker_at}
-use Rattle.label_actions.proofs.Grown.{actions_kept}
+use Rattle.module_write.proofs.InMemoryGrown.{actions_at-kept}
 use Rattle.label_actions.proofs.ProgramLaws.{procedures_taken, procedure_one}
 use Rattle.label_actions.proofs.UnitLaws.{basis_kept, basis_more}
 use Rattle.label_actions.proofs.program.add_all.Goals as goal
@@ -33,7 +33,7 @@ returns-clause-made c =
     g P a bv (ap (λ (z : Algorithm). z.main) bv.draft.algorithm) (c.in_ok-number.ensures vs ∙ ap first_process bv.draft.algorithm)
     ∙ ap (λ (l : List tree.Action). l ++ main_steps P P.algorithm.main)
     (said.made P a bu (procedure_one P.algorithm first (map (procedure_at us) c.deref.result.now) number procedures)
-    ∙ (λ j. actions_kept ts us to_us c.args.out.now.items c.requires.before j
+    ∙ (λ j. actions_at-kept ts us to_us c.args.out.now.items c.requires.before j
     ++ flat_map (routine_steps P) (procedures_taken P.algorithm (taker_at us c.in_ok-taker.taker) first (map (procedure_at us) c.deref.result.now) takers number procedures j)))
     ∙ append_assoc old (flat_map (routine_steps P) (taken_procedures P.algorithm)) (main_steps P P.algorithm.main))
     c.add_main.ensures.made

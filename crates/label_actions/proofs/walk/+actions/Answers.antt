@@ -12,7 +12,7 @@ use Rattle.pcal_tree.proofs.StatementHeights.{height, heights, branch_heights, i
 use Rattle.step_forms.specs.Steps.{steps, steps_some}
 use Rattle.module_formulas.proofs.Grown.{taker_in-kept}
 use Rattle.label_actions.specs.Fitting.{step_from, first_steps, here_at}
-use Rattle.label_actions.proofs.Grown.{desk_more}
+use Rattle.step_items.proofs.DeskLaws.{desk_more}
 use Rattle.label_actions.proofs.StepsAdded.{adds_none, adds_same, adds_then, far_more}
 use Rattle.label_actions.proofs.FirstSteps.{past_drop, list_more, slice_rest, label_steps, simple_steps, if_steps, either_steps, with_steps, while_steps, branch_more}
 use Rattle.label_actions.proofs.walk.+actions.Goals as goal
@@ -41,7 +41,7 @@ branches-statements-requires t c =
       omega (arith, less, ap heights c.deref.ensures.value, c.decreases),
       (
         omega (arith, past, ap past_statements c.deref.ensures.value, c.requires.statements, longer),
-        (desk_more _ _ longer c.args.desk.now c.requires.desk, (taker_in-kept _ _ kept c.args.taker c.requires.taker, c.loop-i.invariant.within)),
+        (desk_more _ _ c.args.desk.now longer c.requires.desk, (taker_in-kept _ _ kept c.args.taker c.requires.taker, c.loop-i.invariant.within)),
       ),
     )
 
@@ -91,7 +91,7 @@ stmt-statements-requires-in-If t c =
       omega (arith, less, if_height o.field-0 o.field-1 o.then o.otherwise, ap heights c.deref-in-If.ensures.value, ap height o.is, c.decreases),
       (
         omega (arith, past, past_if o.field-0 o.field-1 o.then o.otherwise, ap past_statements c.deref-in-If.ensures.value, ap past_stmt o.is, c.requires.statements, longer),
-        (desk_more _ _ longer c.args.desk.now c.requires.desk, (taker_in-kept _ _ said.kept c.args.taker c.requires.taker, said.within)),
+        (desk_more _ _ c.args.desk.now longer c.requires.desk, (taker_in-kept _ _ said.kept c.args.taker c.requires.taker, said.within)),
       ),
     )
 

@@ -5,7 +5,7 @@ use Rattle.tla_token.specs.declared.rule.Refusal.{Refusal}
 use Rattle.pcal_tree.specs.InMemory.{statements_at}
 use Rattle.added_labels.specs.Sight.{effects_of}
 use Rattle.label_rules.proofs.AllLaws.{all_told, longer_if_ok}
-use Rattle.label_rules.proofs.ToldLaws.{told_list, told_none}
+use Rattle.step_offences.proofs.ToldLaws.{told_list, told_none}
 use Rattle.label_rules.proofs.all.add_missing.Goals as goal
 
 pub returns-in-None : goal.returns-in-None

@@ -2,7 +2,7 @@
 use Rattle.std.specs.Prelude.{codes}
 use Rattle.module_tree.specs.Layout.{blanks, tuple_of}
 use Rattle.tla_write.proofs.OneMore.{same_text}
-use Rattle.module_write.proofs.Regrouped.{line_joined}
+use Rattle.module_lines.proofs.Regrouped.{line_joined}
 use Rattle.module_write.proofs.write_action.write_unchanged.Goals as goal
 
 pub returns : goal.returns

@@ -5,7 +5,7 @@ use Rattle.module_write.specs.declared.«module».Way.{Way}
 use Rattle.module_tree.specs.Layout.{blanks, line, way_text, ways_text}
 use Rattle.module_write.specs.InMemory.{way_at, ways_at}
 use Rattle.tla_write.proofs.OneMore.{listed_more}
-use Rattle.module_write.proofs.Regrouped.{line_joined}
+use Rattle.module_lines.proofs.Regrouped.{line_joined}
 use Rattle.module_write.proofs.write_action.write_ways.Goals as goal
 
 pub loop-way-preserved : goal.loop-way-preserved

@@ -5,7 +5,7 @@ use Rattle.module_write.specs.declared.«module».Action.{Action}
 use Rattle.module_tree.specs.Module.{action_unit}
 use Rattle.module_tree.specs.Layout.{unit_text}
 use Rattle.module_write.specs.InMemory.{action_at, actions_at}
-use Rattle.module_write.specs.Apart.{behind}
+use Rattle.module_lines.specs.Apart.{behind}
 use Rattle.tla_write.proofs.OneMore.{listed_more}
 use Rattle.module_write.proofs.write_units.write_actions.Goals as goal
 

@@ -2,7 +2,7 @@
 use Rattle.std.proofs.Common.{◌≡◌, ◌++◌, take, map}
 use Rattle.module_tree.specs.Module.{action_unit}
 use Rattle.module_write.specs.InMemory.{actions_at}
-use Rattle.module_write.specs.Apart.{behind}
+use Rattle.module_lines.specs.Apart.{behind}
 use Rattle.module_write.proofs.write_units.write_actions.Given as goal
 
 abbrev pub invariant-loop-action : goal.invariant-loop-action

@@ -7,7 +7,7 @@ use Rattle.tla_tree.proofs.PoolNumbers.{AllBelow-at}
 use Rattle.module_tree.specs.Layout.{blanks, line, conjuncts_text}
 use Rattle.tla_tree.proofs.PoolNumbers.{same_default}
 use Rattle.tla_write.proofs.OneMore.{listed_more}
-use Rattle.module_write.proofs.Regrouped.{line_joined}
+use Rattle.module_lines.proofs.Regrouped.{line_joined}
 use Rattle.module_write.proofs.write_units.write_conjuncts.Goals as goal
 
 pub write_expr-requires : goal.write_expr-requires

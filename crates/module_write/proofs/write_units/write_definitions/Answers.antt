@@ -5,7 +5,7 @@ use Rattle.tla_value.specs.declared.names.Definition.{Definition}
 use Rattle.tla_value.specs.Defs.{definition_at, definitions_at}
 use Rattle.module_tree.specs.Module.{definition_unit}
 use Rattle.module_tree.specs.Layout.{unit_text}
-use Rattle.module_write.specs.Apart.{behind}
+use Rattle.module_lines.specs.Apart.{behind}
 use Rattle.module_write.proofs.Below.{definition_below}
 use Rattle.tla_write.proofs.OneMore.{listed_more}
 use Rattle.module_write.proofs.write_units.write_definitions.Goals as goal

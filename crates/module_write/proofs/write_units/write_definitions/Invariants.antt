@@ -2,7 +2,7 @@
 use Rattle.std.proofs.Common.{◌≡◌, ◌++◌, take, map}
 use Rattle.tla_value.specs.Defs.{definitions_at}
 use Rattle.module_tree.specs.Module.{definition_unit}
-use Rattle.module_write.specs.Apart.{behind}
+use Rattle.module_lines.specs.Apart.{behind}
 use Rattle.module_write.proofs.write_units.write_definitions.Given as goal
 
 abbrev pub invariant-loop-definition : goal.invariant-loop-definition

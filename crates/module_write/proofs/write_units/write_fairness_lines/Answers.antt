@@ -5,7 +5,7 @@ use Rattle.module_write.specs.declared.«module».Fairness.{Fairness}
 use Rattle.module_tree.specs.Layout.{blanks, line, fairness_text, conjuncts_text}
 use Rattle.module_write.specs.InMemory.{fairness_at}
 use Rattle.tla_write.proofs.OneMore.{listed_more}
-use Rattle.module_write.proofs.Regrouped.{line_joined}
+use Rattle.module_lines.proofs.Regrouped.{line_joined}
 use Rattle.module_write.proofs.write_units.write_fairness_lines.Goals as goal
 
 pub loop-fairness-preserved : goal.loop-fairness-preserved

@@ -4,7 +4,7 @@ use Rattle.std.specs.Prelude.{codes}
 use Rattle.module_tree.specs.Layout.{conjuncts_text, fairness_text}
 use Rattle.module_write.specs.InMemory.{fairness_at}
 use Rattle.tla_write.proofs.OneMore.{same_text}
-use Rattle.module_write.proofs.Regrouped.{list_joined}
+use Rattle.module_lines.proofs.Regrouped.{list_joined}
 use Rattle.module_write.proofs.write_units.write_spec.Goals as goal
 
 pub returns : goal.returns

@@ -5,7 +5,7 @@ use Rattle.module_tree.specs.Module.{definition_unit, action_unit, init_unit, ne
 use Rattle.tla_tree.specs.Pool.{at}
 use Rattle.module_tree.specs.Ways.{processes_in}
 use Rattle.module_write.specs.InMemory.{actions_at, ways_at, fairness_at, region_at}
-use Rattle.module_write.specs.Apart.{behind}
+use Rattle.module_lines.specs.Apart.{behind}
 use Rattle.module_write.proofs.LayoutParts.{layout_parts}
 use Rattle.tla_write.proofs.OneMore.{same_text}
 use Rattle.module_write.proofs.write_units.write_units.Goals as goal

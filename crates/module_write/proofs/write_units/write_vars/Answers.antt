@@ -2,7 +2,7 @@
 use Rattle.std.specs.Prelude.{codes}
 use Rattle.module_tree.specs.Layout.{tuple_of}
 use Rattle.tla_write.proofs.OneMore.{same_text}
-use Rattle.module_write.proofs.Regrouped.{unit_joined}
+use Rattle.module_lines.proofs.Regrouped.{unit_joined}
 use Rattle.module_write.proofs.write_units.write_vars.Goals as goal
 
 pub returns : goal.returns

@@ -15,7 +15,8 @@ use Rattle.action_builder.specs.LabelActions.{initial_tree}
 use Rattle.proc_stack.specs.Moves.{in_order, moves_at}
 use Rattle.right_sides.specs.declared.after.After.{After}
 use Rattle.step_items.specs.Writing.{own_of, Plain}
-use Rattle.step_items.proofs.DeskLaws.{maybe_more, desk_kept}
+use Rattle.right_sides.proofs.AfterLaws.{maybe_more}
+use Rattle.step_items.proofs.DeskLaws.{desk_kept}
 use Rattle.step_items.proofs.CallLaws.{own_names}
 use Rattle.step_items.proofs.WritesLaws.{if_ok}
 use Rattle.step_items.proofs.MoveLaws.{writes_old, procedure_kept}

@@ -7,11 +7,12 @@ use Rattle.pcal_tree.specs.InMemory.{assignments_at}
 use Rattle.pcal_tree.specs.Variables.{vars}
 use Rattle.action_builder.specs.laws.Ready.{LeftSides}
 use Rattle.action_builder.specs.laws.InParts.{InParts}
-use Rattle.step_items.proofs.WritesLaws.{both_ok, after_more, writes_settings}
+use Rattle.right_sides.proofs.AfterLaws.{AfterIn-more}
+use Rattle.step_items.proofs.WritesLaws.{both_ok, writes_settings}
 use Rattle.step_items.proofs.moves.set.Goals as goal
 
 pub settings-requires-clause-put : goal.settings-requires-clause-put
-settings-requires-clause-put c = after_more (length c.args.pool.now) (length c.own_assignments.new.pool) c.args.after.now c.in_ok-own.ensures.kept.longer c.requires.after
+settings-requires-clause-put c = AfterIn-more (length c.args.pool.now) (length c.own_assignments.new.pool) c.args.after.now c.in_ok-own.ensures.kept.longer c.requires.after
 
 pub returns-clause-made : goal.returns-clause-made
 returns-clause-made c = λ P u x h s left parts.

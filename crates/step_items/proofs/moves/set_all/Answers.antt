@@ -20,7 +20,8 @@ use Rattle.proc_stack.specs.Moves.{in_order, moves_at}
 use Rattle.right_sides.specs.After.{after_items}
 use Rattle.step_items.specs.Writing.{own_of, Writes}
 use Rattle.step_items.proofs.DeskLaws.{desk_grown}
-use Rattle.step_items.proofs.WritesLaws.{after_nothing, after_onto, after_kept, writes_none, writes_then}
+use Rattle.right_sides.proofs.AfterLaws.{after_nothing, after_onto}
+use Rattle.step_items.proofs.WritesLaws.{after_kept, writes_none, writes_then}
 use Rattle.step_items.proofs.MoveLaws.{rows_unmarked, row_next, plain_row}
 use Rattle.step_items.proofs.moves.set_all.Goals as goal
 

@@ -6,7 +6,8 @@ use Rattle.pcal_tree.specs.Variables.{vars}
 use Rattle.tla_token.specs.Signs.{is_among}
 use Rattle.right_sides.specs.After.{put_items}
 use Rattle.step_items.specs.Writing.{jumps_of, own_of, to_write, Plain, Writes}
-use Rattle.step_items.proofs.WritesLaws.{onto_put, writes_then}
+use Rattle.right_sides.proofs.AfterLaws.{put_onto}
+use Rattle.step_items.proofs.WritesLaws.{writes_then}
 use Rattle.step_items.proofs.ListLaws.{union_names, plain_followed, settled_unmarked, finish_ends, finish_more}
 use Rattle.step_items.proofs.statements.finish.Goals as goal
 
@@ -24,6 +25,6 @@ returns-clause-made c = λ P u x d ts start ss w e p.
     let parts = plain_followed P first more (subst (Plain P) whole p) in
     subst (Writes P (put_items self x) ts c.jump.new.pool start c.jump.new.out.items a.before.now c.union.result) (sym whole)
     (writes_then P (put_items self x) ts c.args.pool.now c.jump.new.pool start c.args.out.now.items c.jump.new.out.items a.before.now c.args.reach.now.assigned c.union-before.result c.in_ok-more.more c.union.result first more
-    (onto_put self x) (settled_unmarked (is_among (vars P)) first parts.0.settled)
+    (put_onto self x) (settled_unmarked (is_among (vars P)) first parts.0.settled)
     (union_names (vars P) a.before.now c.args.reach.now.assigned c.union-before.result c.union-before.ensures.numbers)
     (union_names (vars P) c.args.reach.now.assigned c.in_ok-more.more c.union.result c.union.ensures.numbers) w (c.in_ok-more.ensures.made P u x d parts.1))

@@ -18,7 +18,7 @@ use Rattle.step_items.specs.Branching.{pc_test}
 use Rattle.step_items.specs.Writing.{own_of}
 use Rattle.step_items.proofs.DeskLaws.{desk_kept}
 use Rattle.step_items.proofs.WholeLaws.{no_names, unprimed}
-use Rattle.step_items.proofs.WritesLaws.{items_last}
+use Rattle.right_sides.proofs.AfterLaws.{items_last}
 use Rattle.step_items.proofs.step.add_test.Goals as goal
 
 pub returns-clause-made : goal.returns-clause-made

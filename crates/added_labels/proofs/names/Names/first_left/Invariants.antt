@@ -1,7 +1,0 @@
--- What is kept while numbers are tried: the names with those before are typed.
-use Rattle.std.proofs.Common.{◌≤◌}
-use Rattle.added_labels.proofs.NameLaws.{TypedUpTo}
-use Rattle.added_labels.proofs.names.Names.first_left.Given as goal
-
-abbrev pub invariant-loop-number : goal.invariant-loop-number
-invariant-loop-number l = (l.fn.self.from ≤ l.number) × TypedUpTo l.fn.self l.number

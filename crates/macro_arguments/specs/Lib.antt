@@ -1,0 +1,3 @@
+-- What the contracts of this crate are said in.
+pub mod Expressions
+pub mod FramesStay

@@ -1,0 +1,10 @@
+//! The module that `make` writes, and the counts that it tells, in code.
+#![tactic(auto)]
+
+pub mod counts;
+pub mod labels;
+pub mod text;
+
+pub use counts::count_lines;
+pub use labels::labels_in;
+pub use text::make_module;
