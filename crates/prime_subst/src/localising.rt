@@ -105,6 +105,34 @@ impl<'a> Grafting for Own<'a> {
     ghost stays = { λ s old new h k. (h, refl) };
 }
 
+// The expression with names as they are written.
+fn named(alloc: Global, pool: &mut Pool, e: NodeId, local: &Local<'_>) -> Result<NodeId, AllocError>
+    requires { e < length pool.old }
+    ensures tree { IfOk result (λ r. at pool.new r ≡ graft (renames_of (is_among local.now.locals.now) ((naming_of local.now.naming.now).local local.now.unit)) (at pool.old e)) }
+    ensures within { IfOk result (λ r. r < length pool.new) }
+    ensures kept { Keeps pool.old pool.new }
+    ensures same { IfOk result (λ r. Every (Lacks (is_among local.now.locals.now)) (at pool.old e) → r ≡ e) }
+{
+    if local.locals.len() == 0 {
+        return Ok(e);
+    }
+    grafted(alloc, pool, e, local)
+}
+
+// The expression with the variables that a process has for itself as its own parts.
+fn with_own(alloc: Global, pool: &mut Pool, e: NodeId, own: &Own<'_>) -> Result<NodeId, AllocError>
+    requires { e < length pool.old }
+    ensures tree { IfOk result (λ r. at pool.new r ≡ graft (owned own.now.this.now (is_among (names_in own.now.order.now own.now.own.now))) (at pool.old e)) }
+    ensures within { IfOk result (λ r. r < length pool.new) }
+    ensures kept { Keeps pool.old pool.new }
+    ensures same { IfOk result (λ r. Every (Lacks (is_among (names_in own.now.order.now own.now.own.now))) (at pool.old e) → r ≡ e) }
+{
+    if own.own.is_empty() {
+        return Ok(e);
+    }
+    grafted(alloc, pool, e, own)
+}
+
 /// The expression of a routine with names as they are written, and each variable that a process has for itself as the part of
 /// it that is that process' own; the same one where it reads none of these.
 ///
@@ -124,6 +152,6 @@ pub fn localise(
     ensures kept { Keeps pool.old pool.new }
     ensures same { IfOk result (λ r. Every (Lacks (is_among local.now.locals.now)) (at pool.old e) → Every (Lacks (is_among (names_in own.now.order.now own.now.own.now))) (at pool.old e) → r ≡ e) }
 {
-    let named = grafted(alloc, pool, e, local)?;
-    grafted(alloc, pool, named, own)
+    let renamed = named(alloc, pool, e, local)?;
+    with_own(alloc, pool, renamed, own)
 }

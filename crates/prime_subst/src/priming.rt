@@ -68,5 +68,8 @@ pub fn prime(
     ensures kept { Keeps pool.old pool.new }
     ensures same { IfOk result (λ r. Every (Lacks (is_among (names_in order.now assigned.now))) (at pool.old e) → r ≡ e) }
 {
+    if assigned.is_empty() {
+        return Ok(e);
+    }
     grafted(alloc, pool, e, &Primes { assigned, order })
 }
