@@ -16,3 +16,4 @@ pub mod ReadLaws
 pub mod RefusalLaws
 pub mod PruneLaws
 pub mod WantedLaws
+pub mod NoReadings

@@ -51,7 +51,7 @@ fn known_in(
 }
 
 /// The first use of a definition of an algorithm that reads a variable which the step may have assigned before, by what is computed
-/// once for each macro.
+/// once for each macro. Where there are no definitions, nothing is gone through.
 ///
 /// # Errors
 ///
@@ -64,6 +64,9 @@ pub fn stale_refusal(
     requires { past_algorithm algorithm.now ≤ length pool.now }
     ensures { IfOk result (λ r. r ≡ first (stale_offences_by (spots_by_macros (algorithm_at pool.now algorithm.now)) (algorithm_at pool.now algorithm.now))) }
 {
+    if algorithm.definitions.is_empty() {
+        return Ok(None);
+    }
     let wanted = wanted_in(alloc, pool, algorithm)?;
     let known = known_in(alloc, pool, &wanted, algorithm)?;
     let procedures = of_procedures(alloc, pool, &known, &wanted.reads, &algorithm.procedures)?;
