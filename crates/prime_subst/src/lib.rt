@@ -4,5 +4,5 @@
 pub mod localising;
 pub mod priming;
 
-pub use localising::{Local, Own, localise};
+pub use localising::{Local, Own, localise, with_names, with_own};
 pub use priming::prime;

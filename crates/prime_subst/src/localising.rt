@@ -105,8 +105,17 @@ impl<'a> Grafting for Own<'a> {
     ghost stays = { λ s old new h k. (h, refl) };
 }
 
-// The expression with names as they are written.
-fn named(alloc: Global, pool: &mut Pool, e: NodeId, local: &Local<'_>) -> Result<NodeId, AllocError>
+/// The expression of a routine with names as they are written; the same one where it reads none of them.
+///
+/// # Errors
+///
+/// Only for want of memory; the pool may then have more nodes than before.
+pub fn with_names(
+    alloc: Global,
+    pool: &mut Pool,
+    e: NodeId,
+    local: &Local<'_>,
+) -> Result<NodeId, AllocError>
     requires { e < length pool.old }
     ensures tree { IfOk result (λ r. at pool.new r ≡ graft (renames_of (is_among local.now.locals.now) ((naming_of local.now.naming.now).local local.now.unit)) (at pool.old e)) }
     ensures within { IfOk result (λ r. r < length pool.new) }
@@ -119,8 +128,18 @@ fn named(alloc: Global, pool: &mut Pool, e: NodeId, local: &Local<'_>) -> Result
     grafted(alloc, pool, e, local)
 }
 
-// The expression with the variables that a process has for itself as its own parts.
-fn with_own(alloc: Global, pool: &mut Pool, e: NodeId, own: &Own<'_>) -> Result<NodeId, AllocError>
+/// The expression with each variable that a process has for itself as the part of it that is that process' own; the same one
+/// where it reads none of these.
+///
+/// # Errors
+///
+/// Only for want of memory; the pool may then have more nodes than before.
+pub fn with_own(
+    alloc: Global,
+    pool: &mut Pool,
+    e: NodeId,
+    own: &Own<'_>,
+) -> Result<NodeId, AllocError>
     requires { e < length pool.old }
     ensures tree { IfOk result (λ r. at pool.new r ≡ graft (owned own.now.this.now (is_among (names_in own.now.order.now own.now.own.now))) (at pool.old e)) }
     ensures within { IfOk result (λ r. r < length pool.new) }
@@ -152,6 +171,6 @@ pub fn localise(
     ensures kept { Keeps pool.old pool.new }
     ensures same { IfOk result (λ r. Every (Lacks (is_among local.now.locals.now)) (at pool.old e) → Every (Lacks (is_among (names_in own.now.order.now own.now.own.now))) (at pool.old e) → r ≡ e) }
 {
-    let renamed = named(alloc, pool, e, local)?;
+    let renamed = with_names(alloc, pool, e, local)?;
     with_own(alloc, pool, renamed, own)
 }

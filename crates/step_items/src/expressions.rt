@@ -21,11 +21,10 @@ ghost use Rattle.step_items.specs.Writing.{own_of};
 use crate::desk::Desk;
 use name_bits::Bits;
 use pcal_tree::algorithm::Assignment;
-use prime_subst::{Local, Own};
+use prime_subst::{Local, Own, with_names, with_own};
 use right_sides::{After, written};
 use std::alloc::{AllocError, Global};
 use tla_pool::Pool;
-use tla_pool::graft::grafted;
 use tla_tree::NodeId;
 
 /// An expression of the text by its written names.
@@ -49,7 +48,7 @@ pub fn by_written_names(
         locals: desk.locals,
         naming: desk.draft.naming,
     };
-    grafted(alloc, pool, e, &local)
+    with_names(alloc, pool, e, &local)
 }
 
 /// An expression by its written names, at its process.
@@ -73,7 +72,7 @@ pub fn own_part(
         order: desk.draft.order,
         this: desk.draft.this,
     };
-    grafted(alloc, pool, e, &own)
+    with_own(alloc, pool, e, &own)
 }
 
 /// An expression at its process where these variables are assigned before, and with what stands for `self` there.

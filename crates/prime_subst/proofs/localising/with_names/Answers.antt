@@ -6,7 +6,7 @@ use Rattle.tla_tree.specs.Tree.{name, node, no_trees}
 use Rattle.tla_tree.specs.Pool.{at}
 use Rattle.written_names.specs.Units.{naming_of}
 use Rattle.prime_subst.proofs.LeftAlone.{left_alone, nothing_put, no_member}
-use Rattle.prime_subst.proofs.localising.named.Goals as goal
+use Rattle.prime_subst.proofs.localising.with_names.Goals as goal
 
 pub returns-then-len-eq0-clause-tree : goal.returns-then-len-eq0-clause-tree
 returns-then-len-eq0-clause-tree c =
