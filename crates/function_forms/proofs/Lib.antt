@@ -1,0 +1,3 @@
+-- Functions by their pairs, and sequences by their elements.
+pub mod FunctionLaws
+pub mod SequenceLaws

@@ -1,0 +1,3 @@
+-- What is made of functions.
+pub mod Functions
+pub mod SubSequences

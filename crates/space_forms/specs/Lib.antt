@@ -1,0 +1,2 @@
+-- Rows of members.
+pub mod SubLists

@@ -1,0 +1,16 @@
+-- What the loop of `merged` keeps.
+use Rattle.std.proofs.Common.{◌≡◌, ◌≤◌, ◌+◌, ◌-◌, length, drop}
+use Rattle.tla_value.specs.Value.{values_in}
+use Rattle.value_forms.specs.Parts.{follow}
+use Rattle.value_forms.specs.Merges.{merged}
+use Rattle.value_forms.proofs.sets.merged.Given as goal
+
+abbrev pub invariant-loop-i : goal.invariant-loop-i
+invariant-loop-i l = record {
+  left : l.i ≤ length l.a;
+  right : l.j ≤ length l.b;
+  rest : follow (values_in l.all.items) (merged l.m (values_in (drop l.i l.a)) (values_in (drop l.j l.b))) ≡ merged l.m (values_in l.a) (values_in l.b);
+}
+
+abbrev pub decreases-loop-i : goal.decreases-loop-i
+decreases-loop-i l = (length l.a - l.i) + (length l.b - l.j)

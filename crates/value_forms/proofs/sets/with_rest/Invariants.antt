@@ -1,0 +1,6 @@
+-- What the loop of `with_rest` keeps.
+use Rattle.std.proofs.Common.{◌≡◌, ◌++◌, take}
+use Rattle.value_forms.proofs.sets.with_rest.Given as goal
+
+abbrev pub invariant-loop-v : goal.invariant-loop-v
+invariant-loop-v l = l.all.items ≡ l.fn.all.items ++ take l.v-index l.rest
