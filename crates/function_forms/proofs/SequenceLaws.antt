@@ -1,21 +1,15 @@
 -- Sequences, an element at a time.
-use Rattle.std.proofs.Common.{◌≡◌, ℕ, suc, pos, ◌+◌, ◌<◌, ◌≤◌, Bool, true, false, List, length, drop, get_or, refl, sym, ap, ◌∙◌, arith, add-one, Some, None, if◌then◌else◌}
+use Rattle.std.proofs.Common.{◌≡◌, ℕ, suc, pos, ◌+◌, ◌<◌, ◌≤◌, Bool, true, false, List, length, drop, get_or, sym, ap, ◌∙◌, arith, add-one, Some, None, if◌then◌else◌}
 use Rattle.std.specs.Prelude.{◌&&◌}
 use Rattle.std.specs.Ordering.{is_eq, ordering_then}
-use Rattle.std.specs.declared.cmp.Ordering.{Ordering}
-use Rattle.std.specs.declared.cmp.Ordering.TheVariants.{Less, Equal, Greater}
 use Rattle.std.proofs.Math.Seq.{drop-cons}
 use Rattle.std.proofs.Math.ListN.{drop_of_length-le}
 use Rattle.tla_value.specs.Value.{Value, Values, truth, int, fun, values_in}
 use Rattle.tla_value.specs.Order.{order, same, holds, orders, numbers_from, sequence_of}
 use Rattle.tla_value.specs.Standard.{each_in}
 use Rattle.tla_value.proofs.OrderFuns.{listed_values}
+use Rattle.tla_value.proofs.Untested.{then_eq}
 use Rattle.value_forms.proofs.Rows.{split_at}
-
-then_eq : (r q : Ordering) → is_eq (ordering_then r q) ≡ (is_eq r && is_eq q)
-then_eq Less q = refl
-then_eq Equal q = refl
-then_eq Greater q = refl
 
 abbrev tested : List Value → List Value → ℕ → Bool
 tested ds vs i = is_eq (orders (values_in (drop i ds)) (numbers_from (suc i) (drop i vs)))

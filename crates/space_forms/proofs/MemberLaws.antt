@@ -2,8 +2,6 @@
 use Rattle.std.proofs.Common.{◌≡◌, ℕ, ◌+◌, ◌<◌, ◌≤◌, ◌≢◌, Bool, true, false, List, length, drop, get_or, refl, sym, ap, ◌∙◌, arith}
 use Rattle.std.specs.Prelude.{◌&&◌}
 use Rattle.std.specs.Ordering.{is_eq, nat_cmp, ordering_then}
-use Rattle.std.specs.declared.cmp.Ordering.{Ordering}
-use Rattle.std.specs.declared.cmp.Ordering.TheVariants.{Less, Equal, Greater}
 use Rattle.std.proofs.lemmas.Bool.{false_from_ne_true}
 use Rattle.tla_value.specs.Value.{Value, Values, set, fun, no_values, and, values_in}
 use Rattle.tla_value.specs.Order.{order, same, orders, holds, count}
@@ -11,12 +9,8 @@ use Rattle.tla_value.specs.OrderLaws.{nat_self, same_is}
 use Rattle.tla_value.specs.Sets.{all_chosen, repeated, is_function_over}
 use Rattle.tla_value.specs.ValueOf.{IsStored}
 use Rattle.tla_value.proofs.ValueLists.{count-values_in}
+use Rattle.tla_value.proofs.Untested.{then_eq}
 use Rattle.value_forms.proofs.Rows.{split_at, nothing_left}
-
-then_eq : (r q : Ordering) → is_eq (ordering_then r q) ≡ (is_eq r && is_eq q)
-then_eq Less q = refl
-then_eq Equal q = refl
-then_eq Greater q = refl
 
 one_same : (xs ys : List Value) (i : ℕ) (v w : Value) → i < length xs → i < length ys → v ≡ get_or xs i v → w ≡ get_or ys i w
     → is_eq (orders (values_in (drop i xs)) (values_in (drop i ys))) ≡ (is_eq (order v w) && is_eq (orders (values_in (drop (i + 1) xs)) (values_in (drop (i + 1) ys))))

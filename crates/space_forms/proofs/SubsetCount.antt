@@ -11,6 +11,7 @@ use Rattle.tla_value.specs.Order.{order, same, holds, count, placed, inserted, s
 use Rattle.tla_value.specs.OrderLaws.{order_self, same_is, same_self}
 use Rattle.tla_value.specs.Sets.{sublists, subsets}
 use Rattle.tla_value.proofs.OrderSets.{before_next, holds_set_from}
+use Rattle.std.proofs.lemmas.List.{length-map}
 
 -- ---- values that are all different
 
@@ -135,18 +136,14 @@ abbrev twice : ℕ → ℕ
 twice zero = 1
 twice (suc k) = twice k + twice k
 
-length_map : {X Y : Type 0} (f : X → Y) (xs : List X) → length (map f xs) ≡ length xs
-length_map f [] = refl
-length_map f (x ∷ xs) = ap suc (length_map f xs)
-
 sub_many : (k : ℕ) (vs : Values) → k ≤ count vs → twice k ≤ length (sublists vs)
 sub_many zero no_values l = omega arith
 sub_many zero (and v vs) l =
     omega (arith, sub_many zero vs (omega arith), length-append (sublists vs) (map (and v) (sublists vs)))
 sub_many (suc k) no_values l = absurd (omega arith)
 sub_many (suc k) (and v vs) l =
-    omega (arith, sub_many k vs (omega arith), length-append (sublists vs) (map (and v) (sublists vs)), length_map (and v) (sublists vs))
+    omega (arith, sub_many k vs (omega arith), length-append (sublists vs) (map (and v) (sublists vs)), length-map (sublists vs) (and v))
 
 pub subsets_many : (vs : Values) → IsAscending vs → 17 ≤ count vs → most_members < count (subsets vs)
 subsets_many vs a l =
-    omega (arith, sub_many 17 vs l, count_apart (map set (sublists vs)) (sub_apart vs a), length_map set (sublists vs))
+    omega (arith, sub_many 17 vs l, count_apart (map set (sublists vs)) (sub_apart vs a), length-map (sublists vs) set)

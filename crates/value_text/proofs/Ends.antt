@@ -9,7 +9,7 @@ use Rattle.tla_token.specs.declared.rule.Stop.{Stop}
 use Rattle.tla_token.specs.declared.rule.Stop.TheVariants.{Refused}
 use Rattle.tla_token.specs.Places.{place_at}
 use Rattle.tla_token.specs.Limits.{deepest_value}
-use Rattle.tla_token.specs.Tokens.{Piece, blank, block, line, lexeme, text_of, Fits}
+use Rattle.tla_token.specs.Tokens.{Piece, blank, block, line, lexeme, text_of}
 use Rattle.tla_token.specs.Offences.{Part, sound, parts_text, PartsFit}
 use Rattle.tla_token.specs.Cut.{parts}
 use Rattle.tla_token.proofs.Cutting.{cut_fits}
@@ -17,6 +17,7 @@ use Rattle.tla_value.specs.Value.{Value}
 use Rattle.tla_value.specs.ValueText.{Mark, Spelling, truth_word, digits, minus, quoted, named, braces, angles, fields, pairs, marks}
 use Rattle.tla_value.specs.ValueSeen.{mark_of, marks_of, is_no_block, FitBefore, ends_in_token, SpellsFrom}
 use Rattle.tla_value.proofs.ValueOnce.{text_before, cut_at, joined}
+use Rattle.tla_value.proofs.ValueDecided.{fit_before}
 use Rattle.value_text.specs.declared.make.Halt.{Halt}
 use Rattle.value_text.specs.declared.make.Halt.TheVariants as halt
 use Rattle.value_text.specs.Answers.{IsNoValue}
@@ -29,10 +30,6 @@ seen_before (lexeme k bytes ∷ ps) more h = ap (λ (ms : List Mark). mark_of k 
 seen_before (blank b ∷ ps) more h = seen_before ps more h
 seen_before (line body ∷ ps) more h = seen_before ps more h
 seen_before (block body ∷ ps) more h = absurd (true≢false (sym h))
-
-fit_before : (ps : List Piece) (more : List Part) → PartsFit (map sound ps ++ more) → FitBefore ps (parts_text more)
-fit_before [] more h = tt
-fit_before (p ∷ ps) more (f, h) = (let F : List ℕ → Type 0 = λ u. Fits p u in subst F (text_before ps more) f, fit_before ps more h)
 
 take_front : (a b : List ℕ) → take (length a) (a ++ b) ≡ a
 take_front [] b = refl
