@@ -6,6 +6,7 @@ pub mod QuotedSegments
 pub mod WalkSteps
 mod RowsSplit
 pub mod BeginningSteps
+pub mod BeginningPlaces
 pub mod AlgorithmSteps
 pub mod UnitStarts
 pub mod SplitFaults

@@ -1,16 +1,17 @@
 //! Where algorithms and options begin.
 
-ghost use Rattle.std.specs.Prelude.{◌≡◌, [], ◌∷◌, true, ◌+◌, ◌≤◌, ◌^◌, ◌<◌, ◌++◌, length, drop, is_some, codes, Some, IfSome, IfOk, All};
+ghost use Rattle.std.specs.Prelude.{◌≡◌, [], ◌∷◌, Bool, true, ◌+◌, ◌≤◌, ◌^◌, ◌<◌, ◌++◌, length, drop, is_some, codes, Some, IfSome, IfOk, All};
 ghost use Rattle.tla_token.specs.Lexemes.{is_blank};
 ghost use Rattle.tla_token.specs.Tokens.{stretch};
 ghost use Rattle.tla_token.specs.Offences.{least};
-ghost use Rattle.module_tree.specs.TextFront.{begins, on_some, past_all, past_word, past_blanks, past_name};
+ghost use Rattle.module_tree.specs.TextFront.{Text, begins, on_some, past_all, past_word, past_blanks, past_name};
 ghost use Rattle.module_tree.specs.Beginnings as pure;
 ghost use Rattle.module_tree.specs.Beginnings.{past_opening, all_at};
 ghost use Rattle.module_tree.specs.FileParts.{first_of};
 ghost use Rattle.module_tree.specs.FileOffences.{offences_at};
-ghost use Rattle.module_split.specs.BeginningsSeen.{IsPast};
+ghost use Rattle.module_split.specs.BeginningsSeen.{IsPast, Needs};
 
+use memchr::memchr;
 use std::alloc::AllocError;
 use tla_token::Rule;
 use tla_token::bytes::{blank_len, has_letter, word_len};
@@ -38,6 +39,21 @@ fn has_first_words(text: &[u8]) -> bool
     match first_words_len(text) {
         Some(n) => is_named(&text[n..]),
         None => false,
+    }
+}
+
+// The first place from an index on where this byte is, or the end: nothing that begins with it is before that.
+#[tactic(auto, using(crate::proofs::BeginningPlaces::found_there, crate::proofs::BeginningPlaces::found_nowhere))]
+fn next_byte(text: &[u8], at: usize, byte: u8) -> usize
+    ensures ahead { at ≤ result }
+    ensures skipped { (p : Text → Bool) → Needs byte p → all_at p at (drop at text.now) ≡ all_at p result (drop result text.now) }
+{
+    if at >= text.len() {
+        return at;
+    }
+    match memchr(byte, &text[at..]) {
+        Some(n) => at + n,
+        None => text.len(),
     }
 }
 
@@ -119,10 +135,12 @@ pub fn add_beginnings(
     ensures { IfOk result (λ u. into.new.items ≡ into.old.items ++ all_at pure.begins_algorithm from (stretch text.now from to)) }
 {
     let bytes = &text[..to];
-    'places: for at in from..to {
+    let mut at = next_byte(bytes, from, b'-');
+    'places: while at < to {
         if begins_algorithm(&bytes[at..]) {
             into.push(at)?;
         }
+        at = next_byte(bytes, at + 1, b'-');
     }
     Ok(())
 }
@@ -136,10 +154,12 @@ pub fn first_beginning(text: &[u8], from: usize, to: usize) -> Option<usize>
     ensures begins { IfSome result (λ n. pure.begins_algorithm (stretch text.now n to) ≡ true) }
 {
     let bytes = &text[..to];
-    'places: for at in from..to {
+    let mut at = next_byte(bytes, from, b'-');
+    'places: while at < to {
         if begins_algorithm(&bytes[at..]) {
             return Some(at);
         }
+        at = next_byte(bytes, at + 1, b'-');
     }
     None
 }
@@ -191,10 +211,12 @@ pub fn options_fault(text: &[u8], from: usize, to: usize) -> Option<(Rule, usize
 {
     let bytes = &text[..to];
     let mut fault = None;
-    'places: for at in from..to {
+    let mut at = next_byte(bytes, from, b'P');
+    'places: while at < to {
         if is_options(&bytes[at..]) {
             fault = sooner(fault, Some((Rule::Options, at)));
         }
+        at = next_byte(bytes, at + 1, b'P');
     }
     fault
 }

@@ -1,7 +1,13 @@
-use Rattle.std.proofs.Common.{◌≡◌, drop}
+use Rattle.std.proofs.Common.{◌≡◌, ◌≤◌, ◌-◌, drop}
 use Rattle.module_tree.specs.Beginnings.{begins_algorithm, all_at}
 use Rattle.module_tree.specs.FileParts.{first_of}
 use Rattle.module_split.proofs.beginning.first_beginning.Given as goal
 
 abbrev pub invariant-places : goal.invariant-places
-invariant-places l = first_of (all_at begins_algorithm l.at (drop l.at l.bytes)) ≡ first_of (all_at begins_algorithm l.from (drop l.from l.bytes))
+invariant-places l = record {
+  ahead : l.from ≤ l.at;
+  first : first_of (all_at begins_algorithm l.at (drop l.at l.bytes)) ≡ first_of (all_at begins_algorithm l.from (drop l.from l.bytes));
+}
+
+abbrev pub decreases-places : goal.decreases-places
+decreases-places l = l.to - l.at
