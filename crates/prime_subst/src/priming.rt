@@ -1,8 +1,8 @@
 //! Assigned variables primed.
 
-ghost use Rattle.std.specs.Prelude.{◌≡◌, ◌<◌, length, IfOk};
+ghost use Rattle.std.specs.Prelude.{◌≡◌, ◌<◌, Bool, true, length, IfOk};
 ghost use Rattle.tla_token.specs.Signs.{is_among};
-ghost use Rattle.tla_tree.specs.Tree.{Every, graft};
+ghost use Rattle.tla_tree.specs.Tree.{Word, Every, graft};
 ghost use Rattle.tla_tree.specs.Pool.{at, Keeps};
 ghost use Rattle.tla_value.specs.Grafts.{primes};
 ghost use Rattle.name_bits.specs.NamesIn.{names_in};
@@ -50,6 +50,23 @@ impl<'a> Grafting for Primes<'a> {
     ghost stays = { λ s old new h k. (h, refl) };
 }
 
+// Whether an expression is a number, a text or a truth value, which have no name.
+fn is_literal(pool: &Pool, e: NodeId) -> bool
+    requires { e < length pool.now }
+    ensures { result ≡ true → (A : Word → Bool) → Every (Lacks A) (at pool.now e) }
+{
+    let node = pool.node(e);
+    if !node.parts.is_empty() {
+        return false;
+    }
+    match &node.form {
+        Form::Number(_) => true,
+        Form::String(_) => true,
+        Form::Truth(_) => true,
+        _ => false,
+    }
+}
+
 /// The expression with each variable of a set primed; the same one where it reads none of them.
 ///
 /// # Errors
@@ -69,6 +86,9 @@ pub fn prime(
     ensures same { IfOk result (λ r. Every (Lacks (is_among (names_in order.now assigned.now))) (at pool.old e) → r ≡ e) }
 {
     if assigned.is_empty() {
+        return Ok(e);
+    }
+    if is_literal(pool, e) {
         return Ok(e);
     }
     grafted(alloc, pool, e, &Primes { assigned, order })

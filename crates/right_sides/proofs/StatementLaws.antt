@@ -1,10 +1,11 @@
 -- The settings of one statement, variable by variable, as the pool grows.
-use Rattle.std.proofs.Common.{◌≡◌, ℕ, zero, suc, ◌+◌, ◌<◌, ◌≤◌, List, [], ◌∷◌, ◌++◌, length, map, take, Bool, true, false, ◌||◌, cond, Some, bytes_eq, refl, sym, ap, ◌∙◌, subst, arith}
+use Rattle.std.proofs.Common.{◌≡◌, ℕ, zero, suc, ◌+◌, ◌<◌, ◌≤◌, List, [], ◌∷◌, ◌++◌, length, map, get_or, take, Bool, true, false, ◌||◌, cond, Some, bytes_eq, refl, sym, ap, ◌∙◌, subst, arith}
 use Rattle.std.specs.Prelude.{slice_get}
 use Rattle.std.proofs.lemmas.List.{map_push, take_all}
 use Rattle.std.proofs.lemmas.List.Folds.{list_any-append}
 use Rattle.tla_token.specs.Signs.{is_among}
-use Rattle.tla_tree.specs.Tree.{Word, Tree}
+use Rattle.tla_token.specs.declared.place.Place.{Place}
+use Rattle.tla_tree.specs.Tree.{Word, name, Tree, node, Trees}
 use Rattle.tla_tree.specs.Pool.{at, Keeps}
 use Rattle.tla_tree.proofs.PoolNumbers.{Keeps-then}
 use Rattle.module_tree.specs.Module.{setting, Items, no_items, item}
@@ -30,7 +31,7 @@ use Rattle.right_sides.specs.After.{after_tree, after_items, AfterIn}
 use Rattle.right_sides.specs.Keys.{left_keys}
 use Rattle.right_sides.specs.Groups.{Group, groups_at, grouped, past_all, past_groups}
 use Rattle.right_sides.specs.Parts.{AreKeyed, IsPlain}
-use Rattle.right_sides.specs.Settings.{settings_in, ArePlain, names_of, AreKnown}
+use Rattle.right_sides.specs.Settings.{settings_in, ArePlain, names_of, AreKnown, IsWhole}
 use Rattle.right_sides.proofs.AfterLaws.{onto_nothing, onto_onto, items_last, after_onto, after_nothing, after_setting, after_tree-kept}
 use Rattle.right_sides.proofs.KeyLaws.{keys_left}
 use Rattle.right_sides.proofs.GroupLaws.{same_names, same_itself}
@@ -211,3 +212,27 @@ module _ (ts : List Tree) (gs : List Group) (ms : Assignments) (is : groups_at t
   pub statement_names : (order : List Word) (names : Bits) → AreIn order names gs → LeftSides (is_among order) ms → length order ≤ most → (x : Word) → is_among (names_in order names) x ≡ is_among (heads ms) x
   statement_names order names h l le x =
       h le (subst (AreKnown order) (sym names_are) (one_in (is_among order) (assign ms) l)) x ∙ ap (λ (xs : List Word). is_among xs x) names_are
+
+-- ---- one assignment to a whole variable
+
+whole_heads : (x : Word) (e : Tree) (ms : Assignments) → IsWhole x e ms → heads ms ≡ x ∷ []
+whole_heads x e ms (p, ts, is) = ap heads is
+
+whole_settings : (A : Names) (x : Word) (e : Tree) (p : Place) (ts : Trees) → settings_of A (assignment (node (name x) p ts) e no_assignments) (x ∷ []) no_items ≡ item (setting x (primed A e)) no_items
+whole_settings A x e p ts = ap (λ (b : Bool). item (setting x (primed A (side_of x (cond b (assignment (node (name x) p ts) e no_assignments) no_assignments)))) no_items) (same_itself x)
+
+pub set_whole : (A : Names) (x : Word) (e : Tree) (ms : Assignments) → IsWhole x e ms → item (setting x (primed A e)) no_items ≡ settings_of A ms (heads ms) no_items
+set_whole A x e ms (p, ts, is) = sym (ap (λ (ns : Assignments). settings_of A ns (heads ns) no_items) is ∙ whole_settings A x e p ts)
+
+pub whole_known : (V : Names) (x : Word) (e : Tree) (ms : Assignments) → IsWhole x e ms → LeftSides V ms → V x ≡ true
+whole_known V x e ms (p, ts, is) h = (subst (LeftSides V) is h).0
+
+pub whole_names : (x : Word) (e : Tree) (ms : Assignments) → IsWhole x e ms → (y : Word) → bytes_eq x y ≡ is_among (heads ms) y
+whole_names x e ms w y = sym (ap (λ (xs : List Word). is_among xs y) (whole_heads x e ms w) ∙ or_nothing (bytes_eq x y))
+
+pub is_whole : (ts : List Tree) (ms : List Assignment) (x : Word) (p : Place) (parts : Trees) (m : Assignment) → length ms ≡ 1 → m ≡ get_or ms 0 m → at ts m.left ≡ node (name x) p parts → IsWhole x (at ts m.right) (assignments_at ts ms)
+is_whole ts [] x p parts m n here h = absurd (let no : ⊥ = omega (arith, n) in no)
+is_whole ts (k ∷ []) x p parts m n here h =
+    let left : at ts k.left ≡ node (name x) p parts = ap (λ (a : Assignment). at ts a.left) (sym here) ∙ h in
+    (p, parts, (λ j. assignment (left j) (ap (λ (a : Assignment). at ts a.right) (sym here) j) no_assignments))
+is_whole ts (k ∷ l ∷ ms) x p parts m n here h = absurd (let no : ⊥ = omega (arith, n) in no)

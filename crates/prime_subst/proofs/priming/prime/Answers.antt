@@ -17,3 +17,8 @@ returns-clause-same c =
 pub returns-then-is_empty-clause-tree : goal.returns-then-is_empty-clause-tree
 returns-then-is_empty-clause-tree c =
     sym (nothing_put (λ x p. node (next x) p no_trees) (names_in c.args.order.now c.args.assigned.now) (c.is_empty.ensures.names c.if-is_empty.true c.args.order.now) (at c.args.pool.now c.args.e))
+
+pub returns-then-is_literal-clause-tree : goal.returns-then-is_literal-clause-tree
+returns-then-is_literal-clause-tree c =
+    let A = is_among (names_in c.args.order.now c.args.assigned.now) in
+    sym (left_alone A (λ x p. node (next x) p no_trees) (at c.args.pool.now c.args.e) (c.is_literal.ensures c.if-is_literal.true A))
