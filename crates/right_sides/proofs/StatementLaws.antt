@@ -1,11 +1,11 @@
 -- The settings of one statement, variable by variable, as the pool grows.
-use Rattle.std.proofs.Common.{◌≡◌, ℕ, zero, suc, ◌+◌, ◌<◌, ◌≤◌, List, [], ◌∷◌, ◌++◌, length, map, get_or, take, Bool, true, false, ◌||◌, cond, Some, bytes_eq, refl, sym, ap, ◌∙◌, subst, arith}
-use Rattle.std.specs.Prelude.{slice_get}
+use Rattle.std.proofs.Common.{◌≡◌, ℕ, zero, suc, ◌+◌, ◌<◌, ◌≤◌, List, [], ◌∷◌, ◌++◌, length, map, take, Bool, true, false, ◌||◌, cond, Some, bytes_eq, refl, sym, ap, ◌∙◌, subst, arith}
+use Rattle.std.specs.Prelude.{slice_get, slice_index_or}
 use Rattle.std.proofs.lemmas.List.{map_push, take_all}
 use Rattle.std.proofs.lemmas.List.Folds.{list_any-append}
 use Rattle.tla_token.specs.Signs.{is_among}
 use Rattle.tla_token.specs.declared.place.Place.{Place}
-use Rattle.tla_tree.specs.Tree.{Word, name, Tree, node, Trees}
+use Rattle.tla_tree.specs.Tree.{Word, name as name_form, Tree, node, Trees}
 use Rattle.tla_tree.specs.Pool.{at, Keeps}
 use Rattle.tla_tree.proofs.PoolNumbers.{Keeps-then}
 use Rattle.module_tree.specs.Module.{setting, Items, no_items, item}
@@ -78,7 +78,7 @@ pub record SetTo (old ts : List Tree) (before out : List Item) (A : Names) (a : 
   pub items : ArePlain (groups_at old gs) → items_at ts out ≡ onto (items_at old before) (after_items old a (settings_in A (groups_at old gs)))
   pub within : past_items out ≤ length ts
 
-Keeps-self : (ts : List Tree) → Keeps ts ts
+pub Keeps-self : (ts : List Tree) → Keeps ts ts
 Keeps-self ts = record { longer = omega arith; same = λ i h. refl }
 
 pub set_none : (ts : List Tree) (before : List Item) (A : Names) (a : After) (gs : List Group) → past_items before ≤ length ts → SetTo ts ts before before A a (take 0 gs)
@@ -218,8 +218,8 @@ module _ (ts : List Tree) (gs : List Group) (ms : Assignments) (is : groups_at t
 whole_heads : (x : Word) (e : Tree) (ms : Assignments) → IsWhole x e ms → heads ms ≡ x ∷ []
 whole_heads x e ms (p, ts, is) = ap heads is
 
-whole_settings : (A : Names) (x : Word) (e : Tree) (p : Place) (ts : Trees) → settings_of A (assignment (node (name x) p ts) e no_assignments) (x ∷ []) no_items ≡ item (setting x (primed A e)) no_items
-whole_settings A x e p ts = ap (λ (b : Bool). item (setting x (primed A (side_of x (cond b (assignment (node (name x) p ts) e no_assignments) no_assignments)))) no_items) (same_itself x)
+whole_settings : (A : Names) (x : Word) (e : Tree) (p : Place) (ts : Trees) → settings_of A (assignment (node (name_form x) p ts) e no_assignments) (x ∷ []) no_items ≡ item (setting x (primed A e)) no_items
+whole_settings A x e p ts = ap (λ (b : Bool). item (setting x (primed A (side_of x (cond b (assignment (node (name_form x) p ts) e no_assignments) no_assignments)))) no_items) (same_itself x)
 
 pub set_whole : (A : Names) (x : Word) (e : Tree) (ms : Assignments) → IsWhole x e ms → item (setting x (primed A e)) no_items ≡ settings_of A ms (heads ms) no_items
 set_whole A x e ms (p, ts, is) = sym (ap (λ (ns : Assignments). settings_of A ns (heads ns) no_items) is ∙ whole_settings A x e p ts)
@@ -230,9 +230,8 @@ whole_known V x e ms (p, ts, is) h = (subst (LeftSides V) is h).0
 pub whole_names : (x : Word) (e : Tree) (ms : Assignments) → IsWhole x e ms → (y : Word) → bytes_eq x y ≡ is_among (heads ms) y
 whole_names x e ms w y = sym (ap (λ (xs : List Word). is_among xs y) (whole_heads x e ms w) ∙ or_nothing (bytes_eq x y))
 
-pub is_whole : (ts : List Tree) (ms : List Assignment) (x : Word) (p : Place) (parts : Trees) (m : Assignment) → length ms ≡ 1 → m ≡ get_or ms 0 m → at ts m.left ≡ node (name x) p parts → IsWhole x (at ts m.right) (assignments_at ts ms)
-is_whole ts [] x p parts m n here h = absurd (let no : ⊥ = omega (arith, n) in no)
-is_whole ts (k ∷ []) x p parts m n here h =
-    let left : at ts k.left ≡ node (name x) p parts = ap (λ (a : Assignment). at ts a.left) (sym here) ∙ h in
-    (p, parts, (λ j. assignment (left j) (ap (λ (a : Assignment). at ts a.right) (sym here) j) no_assignments))
-is_whole ts (k ∷ l ∷ ms) x p parts m n here h = absurd (let no : ⊥ = omega (arith, n) in no)
+pub is_whole : (ts : List Tree) (ms : List Assignment) (x : Word) (p : Place) (parts : Trees) (d : Assignment) → length ms ≡ 1 → at ts (slice_index_or ms 0 d).left ≡ node (name_form x) p parts
+    → IsWhole x (at ts (slice_index_or ms 0 d).right) (assignments_at ts ms)
+is_whole ts [] x p parts d n h = absurd (let no : ⊥ = omega (arith, n) in no)
+is_whole ts (k ∷ []) x p parts d n h = (p, parts, (λ j. assignment (h j) (at ts k.right) no_assignments))
+is_whole ts (k ∷ l ∷ ms) x p parts d n h = absurd (let no : ⊥ = omega (arith, n) in no)

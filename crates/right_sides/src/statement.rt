@@ -88,9 +88,9 @@ fn whole_setting(
     ensures within { OnOk result (past_items out.new.items ≤ length pool.new) }
     ensures kept { Keeps pool.old pool.new }
 {
-    let made = written(alloc, pool, order, assigned, after, right)?;
+    let side = written(alloc, pool, order, assigned, after, right)?;
     let names = Bits::empty().with_name(order, &name);
-    out.push(Item::Setting(name, made))?;
+    out.push(Item::Setting(name, side))?;
     Ok(names)
 }
 
