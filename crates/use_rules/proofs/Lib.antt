@@ -1,5 +1,6 @@
 mod JoinLaws
 mod UseSame
+mod CoverLaws
 mod TellLaws
 mod TreeLaws
 mod CallLaws

@@ -71,6 +71,12 @@ tells_free same sound old new v e f k b = record {
       (sym (h v.name ∙ ap (λ (c : Bool). cond c (Some (takes 0)) (use_of s v.name)) e));
 }
 
+pub tells_again : (k : Found) (d : Kind) (x : Word) (p : Place) → list_any (equal x) k.bound ≡ false → ((s : Sight) → joined (told k s) (first (used d x p s)) ≡ told k s) → Tells k k (used d x p)
+tells_again k d x p e h = record {
+  bound = refl;
+  tells = λ s r i. sym (h s) ∙ ap (λ (o : Option names.Use). joined (told k s) (first (offences_as o (use_as d x p)))) (sym (i x ∙ ap (λ (c : Bool). cond c (Some (takes 0)) (use_of s x)) e));
+}
+
 -- ---- names that are bound
 
 among_any : (bs : List Word) (x : Word) → list_any (equal x) bs ≡ is_among bs x

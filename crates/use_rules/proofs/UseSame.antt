@@ -27,7 +27,7 @@ all_three a b c x y z e f g =
     ∙ joined_assoc (first a) (first b) (first c) ∙ ap (joined (first a)) (sym (first_append b c)) ∙ sym (first_append a (b ++ c))
 
 -- what is the same is equal
-kinds_sound : Sound kinds.it
+pub kinds_sound : Sound kinds.it
 kinds_sound (kind.Applied n true) (kind.Applied k true) e = ap (λ (m : ℕ). kind.Applied m true) (eqb-true n k (and_parts (nat_eq n k) true e).0)
 kinds_sound (kind.Applied n false) (kind.Applied k false) e = ap (λ (m : ℕ). kind.Applied m false) (eqb-true n k (and_parts (nat_eq n k) true e).0)
 kinds_sound (kind.Applied n true) (kind.Applied k false) e = absurd (true≢false (sym (and_parts (nat_eq n k) false e).1))

@@ -1,6 +1,6 @@
 //! What was found: the first offence that rests on no name around, and the uses of names that are not bound.
 
-ghost use Rattle.std.specs.Prelude.{◌≡◌, ◌<◌, ◌≤◌, ◌+◌, ◌&&◌, nat_eq, List, length, drop, false, OnOk};
+ghost use Rattle.std.specs.Prelude.{◌≡◌, ◌<◌, ◌≤◌, ◌+◌, ◌&&◌, nat_eq, List, length, drop, false, IsTrue, OnOk};
 ghost use Rattle.tla_token.specs.declared.rule.Refusal.{Refusal as PureRefusal};
 ghost use Rattle.tla_tree.specs.Tree.{seen_names};
 ghost use Rattle.tla_tree.specs.Shapes.{Shaped};
@@ -9,9 +9,11 @@ ghost use Rattle.tla_value.specs.StandardModules.{is_member as is_member_of};
 ghost use Rattle.tla_pool.specs.FormOf.{form_of};
 ghost use Rattle.pcal_tree.specs.InMemory.{past_numbers};
 ghost use Rattle.pcal_tree.specs.Offences.{first};
+ghost use Rattle.pcal_tree.specs.NameUses.{Sight};
+ghost use Rattle.algorithm_answer.specs.Joined.{joined};
 ghost use Rattle.pcal_tree.specs.OffencesNames.{form_offences, root_offences, in_tree, in_parts, in_each, in_left};
 ghost use Rattle.use_rules.specs.Telling.{used};
-ghost use Rattle.use_rules.specs.Finding.{IsNew, Tells, TellsParts};
+ghost use Rattle.use_rules.specs.Finding.{told, IsNew, Tells, TellsParts};
 
 use crate::using::{Kind, NameUse, Use, offence_as};
 use algorithm_limits::bound::Bound;
@@ -68,6 +70,22 @@ impl Found {
         self.first = least(self.first, refusal);
     }
 
+    // Whether one of the first uses that are kept is the same, and no later: whatever this use offends, that one does.
+    fn is_told(&self, name: &Name, kind: Kind, place: Place) -> bool
+        ensures { IsTrue result → (s : Sight) → joined (told self.now s) (first (used kind name.now place s)) ≡ told self.now s }
+    {
+        let uses = self.free.as_slice();
+        for i in 0..uses.len() {
+            if i == 16 {
+                return false;
+            }
+            if uses[i].is_earlier(name, kind, place) {
+                return true;
+            }
+        }
+        false
+    }
+
     /// A use of a name, at a place.
     ///
     /// # Errors
@@ -78,6 +96,9 @@ impl Found {
     {
         if self.bound.has(name) {
             self.refuse(offence_as(Use::Takes(0), kind, place));
+            return Ok(());
+        }
+        if self.is_told(name, kind, place) {
             return Ok(());
         }
         self.free.insert(NameUse {

@@ -1,11 +1,11 @@
 //! Uses of names, what names may be used as, and what a use offends.
 
-ghost use Rattle.std.specs.Prelude.{◌≡◌, ◌&&◌, not, Some};
+ghost use Rattle.std.specs.Prelude.{◌≡◌, ◌&&◌, not, false, Some, IsTrue};
 ghost use Rattle.tla_tree.specs.Tree.{Word};
-ghost use Rattle.pcal_tree.specs.Offences.{first};
+ghost use Rattle.pcal_tree.specs.Offences.{first, is_before};
 ghost use Rattle.pcal_tree.specs.NameUses.{applied_offences, left_offences, handed_use};
 ghost use Rattle.pcal_tree.specs.laws.MacroUses.{offences_as};
-ghost use Rattle.use_rules.specs.Telling.{use_seen, use_as};
+ghost use Rattle.use_rules.specs.Telling.{use_seen, use_as, place_in};
 
 use algorithm_limits::order::or_offence;
 use tla_token::{Place, Refusal, Rule};
@@ -40,6 +40,19 @@ impl NameUse {
             line: self.line,
             col: self.col,
         }
+    }
+
+    /// Whether it is the same use of the same name, and no later than this place.
+    pub fn is_earlier(&self, name: &Name, kind: Kind, place: Place) -> bool
+        ensures { IsTrue result → (self.now.kind ≡ kind) × (self.now.name ≡ name.now) × (is_before place (place_in self.now) ≡ false) }
+    {
+        if place.line < self.line || (place.line == self.line && place.col < self.col) {
+            return false;
+        }
+        if self.kind == kind {
+            return self.name.is(name);
+        }
+        false
     }
 }
 

@@ -11,13 +11,17 @@ use Rattle.use_rules.specs.contracts.using.NameUsePartialEq.TheImpl.{eq-value as
 use Rattle.use_rules.specs.Telling.{use_as, used}
 use Rattle.use_rules.specs.Finding.{Tells}
 use Rattle.use_rules.proofs.UseSame.{uses_sound}
-use Rattle.use_rules.proofs.TellLaws.{tells_bound, tells_free}
+use Rattle.use_rules.proofs.TellLaws.{tells_bound, tells_free, tells_again}
 use Rattle.use_rules.proofs.found.Found.keep.Goals as goal
 
 pub returns-then-has : goal.returns-then-has
 returns-then-has c =
     tells_bound c.args.self.now c.refuse.new.self c.args.kind c.args.name.now c.args.place (sym c.has.ensures ∙ c.if-has.true)
     (c.refuse.ensures (offences_as (Some (takes 0)) (use_as c.args.kind c.args.name.now c.args.place)) (c.offence_as.ensures c.args.name.now))
+
+pub returns-then-is_told : goal.returns-then-is_told
+returns-then-is_told c =
+    tells_again c.args.self.now c.args.kind c.args.name.now c.args.place (sym c.has.ensures ∙ c.if-has.false) (c.is_told.ensures c.if-is_told.true)
 
 pub returns : goal.returns
 returns c =
