@@ -1,35 +1,13 @@
 -- Sequences, an element at a time.
-use Rattle.std.proofs.Common.{◌≡◌, ℕ, suc, pos, ◌+◌, ◌<◌, ◌≤◌, Bool, true, false, List, length, drop, get_or, sym, ap, ◌∙◌, arith, add-one, Some, None, if◌then◌else◌}
+use Rattle.std.proofs.Common.{◌≡◌, ℕ, ◌+◌, ◌<◌, ◌≤◌, Bool, true, false, List, length, drop, get_or, sym, ap, ◌∙◌, add-one, Some, None, if◌then◌else◌}
 use Rattle.std.specs.Prelude.{◌&&◌}
-use Rattle.std.specs.Ordering.{is_eq, ordering_then}
+use Rattle.std.specs.Ordering.{is_eq}
 use Rattle.std.proofs.Math.Seq.{drop-cons}
 use Rattle.std.proofs.Math.ListN.{drop_of_length-le}
-use Rattle.tla_value.specs.Value.{Value, Values, truth, int, fun, values_in}
-use Rattle.tla_value.specs.Order.{order, same, holds, orders, numbers_from, sequence_of}
+use Rattle.tla_value.specs.Value.{Value, Values, fun, values_in}
+use Rattle.tla_value.specs.Order.{holds, orders, numbers_from, sequence_of}
 use Rattle.tla_value.specs.Standard.{each_in}
 use Rattle.tla_value.proofs.OrderFuns.{listed_values}
-use Rattle.tla_value.proofs.Untested.{then_eq}
-use Rattle.value_forms.proofs.Rows.{split_at}
-
-abbrev tested : List Value → List Value → ℕ → Bool
-tested ds vs i = is_eq (orders (values_in (drop i ds)) (numbers_from (suc i) (drop i vs)))
-
-one_tested : (ds vs : List Value) (i : ℕ) (v : Value) → i < length ds → length ds ≡ length vs → v ≡ get_or ds i v → tested ds vs i ≡ (same v (int (pos (i + 1))) && tested ds vs (i + 1))
-one_tested ds vs i v lt e is =
-    (λ n. is_eq (orders (split_at ds i v lt is n) (numbers_from (suc i) (drop-cons vs i (truth true) (omega (arith, e)) n)))) ∙
-    (λ n. is_eq (ordering_then (order v (int (pos (sym (add-one i) n)))) (orders (values_in (drop (i + 1) ds)) (numbers_from (suc (sym (add-one i) n)) (drop (sym (add-one i) n) vs))))) ∙
-    then_eq (order v (int (pos (i + 1)))) (orders (values_in (drop (i + 1) ds)) (numbers_from (suc (i + 1)) (drop (i + 1) vs)))
-
-pub tested_wrong : (ds vs : List Value) (i : ℕ) (v : Value) (all : Bool) → i < length ds → length ds ≡ length vs → v ≡ get_or ds i v → same v (int (pos (i + 1))) ≡ false → is_eq (orders (values_in (drop i ds)) (numbers_from (suc i) (drop i vs))) ≡ all → false ≡ all
-tested_wrong ds vs i v all lt e is differs h = sym (one_tested ds vs i v lt e is ∙ ap (λ b. b && tested ds vs (i + 1)) differs) ∙ h
-
-pub tested_next : (ds vs : List Value) (i : ℕ) (v : Value) (all : Bool) → i < length ds → length ds ≡ length vs → v ≡ get_or ds i v → same v (int (pos (i + 1))) ≡ true → is_eq (orders (values_in (drop i ds)) (numbers_from (suc i) (drop i vs))) ≡ all
-    → is_eq (orders (values_in (drop (i + 1) ds)) (numbers_from (suc (i + 1)) (drop (i + 1) vs))) ≡ all
-tested_next ds vs i v all lt e is agrees h = sym (one_tested ds vs i v lt e is ∙ ap (λ b. b && tested ds vs (i + 1)) agrees) ∙ h
-
-pub tested_end : (ds vs : List Value) (i : ℕ) (all : Bool) → length ds ≤ i → length vs ≤ i → is_eq (orders (values_in (drop i ds)) (numbers_from (suc i) (drop i vs))) ≡ all → true ≡ all
-tested_end ds vs i all a b h =
-    sym (λ n. is_eq (orders (values_in (drop_of_length-le ds a n)) (numbers_from (suc i) (drop_of_length-le vs b n)))) ∙ h
 
 pub is_sequence : (ds vs : List Value) → true ≡ is_eq (orders (values_in ds) (numbers_from 1 vs)) → sequence_of (fun (values_in ds) (values_in vs)) ≡ Some vs
 is_sequence ds vs h =

@@ -2,6 +2,7 @@
 #![tactic(auto)]
 
 pub mod functions;
+pub mod joining;
 pub mod parts;
 pub mod records;
 pub mod sequences;

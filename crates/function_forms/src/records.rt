@@ -19,8 +19,12 @@ use tla_value::stop::EvalStop;
 use tla_value::value::Value;
 use value_forms::made::{copies, function};
 
-// Some values in ascending order, each once.
-fn ordered(mut values: Vec<Value>) -> Result<Vec<Value>, AllocError>
+/// Some values in ascending order, each once.
+///
+/// # Errors
+///
+/// Only for want of memory.
+pub fn ordered(mut values: Vec<Value>) -> Result<Vec<Value>, AllocError>
     ensures { IfOk result (λ r. values_in r.items ≡ set_from values.items) }
 {
     values.sort()?;
@@ -28,8 +32,8 @@ fn ordered(mut values: Vec<Value>) -> Result<Vec<Value>, AllocError>
     Ok(values)
 }
 
-// The value beside the first of some keys that is this one.
-fn first_beside<'x>(keys: &[Value], values: &'x [Value], d: &Value) -> Option<&'x Value>
+/// The value beside the first of some keys that is this one.
+pub fn first_beside<'x>(keys: &[Value], values: &'x [Value], d: &Value) -> Option<&'x Value>
     ensures { option_copied result ≡ found_at (values_in keys.now) (values_in values.now) d.now }
 {
     for i in 0..keys.len() {
@@ -79,8 +83,12 @@ pub fn function_from(
     function(at, domain, results)
 }
 
-// Names as strings.
-fn strings(alloc: Global, names: &[Name]) -> Result<Vec<Value>, AllocError>
+/// Names as strings.
+///
+/// # Errors
+///
+/// Only for want of memory.
+pub fn strings(alloc: Global, names: &[Name]) -> Result<Vec<Value>, AllocError>
     ensures { IfOk result (λ r. r.items ≡ map pure.text names.now) }
 {
     let mut all = Vec::new(alloc);

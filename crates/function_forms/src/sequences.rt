@@ -3,14 +3,11 @@
 ghost use Rattle.std.specs.Prelude.{◌≡◌, ◌∷◌, [], pos};
 ghost use Rattle.std.specs.Ordering.{is_eq};
 ghost use Rattle.std.specs.Option.{option_copied};
-ghost use Rattle.tla_tree.specs.declared.op.Op.TheVariants as op;
-ghost use Rattle.tla_tree.specs.Tree.{operator};
 ghost use Rattle.tla_value.specs.Value as pure;
 ghost use Rattle.tla_value.specs.Value.{fun, values_in};
 ghost use Rattle.tla_value.specs.Order.{count, same, orders, numbers_from, sequence_of, IsAscending};
 ghost use Rattle.tla_value.specs.Limits.{bounded};
 ghost use Rattle.tla_value.specs.Stops.{sequence_at};
-ghost use Rattle.tla_value.specs.Strict.{strict_value};
 ghost use Rattle.tla_value.specs.Standard as standard;
 ghost use Rattle.tla_value.specs.Standard.{standard_value, standard_sense, each_in};
 ghost use Rattle.value_forms.specs.Gives.{Tells, Gives};
@@ -20,9 +17,9 @@ use tla_token::Place;
 use tla_value::build::has;
 use tla_value::fault::FaultKind;
 use tla_value::stop::EvalStop;
-use tla_value::value::{Kind, Value, copied};
+use tla_value::value::{Kind, Value};
 use value_forms::kinds::{members_of, truth_of};
-use value_forms::made::{add_all, copies, tuple};
+use value_forms::made::{copies, tuple};
 
 // Whether a value is a number.
 fn is_number(v: &Value, n: usize) -> bool
@@ -38,22 +35,24 @@ fn is_number(v: &Value, n: usize) -> bool
     }
 }
 
-// Whether a domain is `1..n`, where there are n values.
-fn is_numbered(domain: &[Value], values: &[Value]) -> bool
-    requires { count (values_in domain.now) ≡ count (values_in values.now) }
+// Whether a domain is `1..n`, where there are n values: no other value stands between two integers
+// in the canonical order, so its ends tell.
+pub(crate) fn is_numbered(domain: &[Value], values: &[Value]) -> bool
+    requires ascending { IsAscending (values_in domain.now) }
+    requires each { count (values_in domain.now) ≡ count (values_in values.now) }
     ensures { result ≡ is_eq (orders (values_in domain.now) (numbers_from 1 values.now)) }
 {
-    for i in 0..domain.len() {
-        if !is_number(&domain[i], i + 1) {
-            return false;
-        }
+    let many = values.len();
+    if many == 0 {
+        return true;
     }
-    true
+    is_number(&domain[0], 1) && is_number(&domain[many - 1], many)
 }
 
 // The elements of a function, if it is a sequence.
 fn numbered<'x>(domain: &[Value], values: &'x [Value]) -> Option<&'x [Value]>
-    requires { count (values_in domain.now) ≡ count (values_in values.now) }
+    requires ascending { IsAscending (values_in domain.now) }
+    requires each { count (values_in domain.now) ≡ count (values_in values.now) }
     ensures { option_copied result ≡ sequence_of (fun (values_in domain.now) (values_in values.now)) }
 {
     if is_numbered(domain, values) {
@@ -91,21 +90,6 @@ pub fn elements_of(at: Place, v: &Value) -> Result<&[Value], EvalStop>
     }
 }
 
-/// `s \o t`.
-///
-/// # Errors
-///
-/// For want of memory, where `s` or `t` isn't a sequence, and where the sequence is past the limits.
-pub fn concatenated(alloc: Global, at: Place, s: &Value, t: &Value) -> Result<Value, EvalStop>
-    ensures { Tells result (strict_value bounded (operator op.Concat) at (s.now ∷ t.now ∷ [])) }
-{
-    let left = elements_of(at, s)?;
-    let right = elements_of(at, t)?;
-    let mut all = copies(alloc, left)?;
-    add_all(alloc, &mut all, right)?;
-    tuple(alloc, at, all)
-}
-
 /// `Len(s)`.
 ///
 /// # Errors
@@ -116,20 +100,6 @@ pub fn length(at: Place, s: &Value) -> Result<Value, EvalStop>
 {
     let elements = elements_of(at, s)?;
     Ok(Value::int(elements.len() as i128))
-}
-
-/// `Append(s, e)`.
-///
-/// # Errors
-///
-/// For want of memory, where `s` isn't a sequence, and where the sequence is past the limits.
-pub fn appended(alloc: Global, at: Place, s: &Value, e: &Value) -> Result<Value, EvalStop>
-    ensures { Tells result (standard_value bounded standard.appended at (s.now ∷ e.now ∷ [])) }
-{
-    let elements = elements_of(at, s)?;
-    let mut all = copies(alloc, elements)?;
-    all.push(copied(alloc, e)?)?;
-    tuple(alloc, at, all)
 }
 
 /// `Head(s)`.

@@ -25,7 +25,7 @@ same_step xs ys i v w b all lx ly vi wi e h =
 pub same_end : (xs ys : List Value) (i : ℕ) (all : Bool) → length xs ≤ i → length ys ≤ i → is_eq (orders (values_in (drop i xs)) (values_in (drop i ys))) ≡ all → true ≡ all
 same_end xs ys i all a b h = sym (λ n. is_eq (orders (nothing_left xs i a n) (nothing_left ys i b n))) ∙ h
 
-members_same : (a b : Values) → set a ≡ set b → a ≡ b
+pub members_same : (a b : Values) → set a ≡ set b → a ≡ b
 members_same a b e = cc
 
 pub lengths_differ : (xs ys : List Value) → length xs ≢ length ys → same (set (values_in xs)) (set (values_in ys)) ≡ false

@@ -9,11 +9,11 @@ use Rattle.tla_value.proofs.OrderSets.{before_next}
 use Rattle.value_forms.specs.Parts.{IsPart, AreParts}
 use Rattle.space_forms.specs.SubLists.{sub_lists, row_set, IsSetRow, AreSetRows}
 
-map_append : {X Y : Type 0} (f : X → Y) (xs ys : List X) → map f (xs ++ ys) ≡ map f xs ++ map f ys
+pub map_append : {X Y : Type 0} (f : X → Y) (xs ys : List X) → map f (xs ++ ys) ≡ map f xs ++ map f ys
 map_append f [] ys = refl
 map_append f (x ∷ xs) ys = ap (λ l. f x ∷ l) (map_append f xs ys)
 
-front_rows : (v : Value) (ts : List (List Value)) → map values_in (map (λ t. v ∷ t) ts) ≡ map (and v) (map values_in ts)
+pub front_rows : (v : Value) (ts : List (List Value)) → map values_in (map (λ t. v ∷ t) ts) ≡ map (and v) (map values_in ts)
 front_rows v [] = refl
 front_rows v (t ∷ ts) = ap (λ l. and v (values_in t) ∷ l) (front_rows v ts)
 

@@ -1,2 +1,3 @@
--- Rows of members.
+-- Rows of members, and spaces of functions.
 pub mod SubLists
+pub mod Spaces

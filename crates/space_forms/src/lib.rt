@@ -1,6 +1,8 @@
-//! Sets of sets, which are counted before they are listed.
+//! Sets of sets and of functions, which are counted before they are listed.
 #![tactic(auto)]
 
 pub mod members;
+pub mod record_sets;
 pub mod rows;
+pub mod spaces;
 pub mod subsets;

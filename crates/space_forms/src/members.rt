@@ -31,8 +31,8 @@ fn same_rows(a: &[Value], b: &[Value]) -> bool
     true
 }
 
-// Whether two sets are one.
-fn same_members(a: &[Value], b: &[Value]) -> bool
+/// Whether two sets are one.
+pub fn same_members(a: &[Value], b: &[Value]) -> bool
     ensures { result ≡ same (set (values_in a.now)) (set (values_in b.now)) }
 {
     if a.len() != b.len() {

@@ -1,0 +1,2 @@
+-- What an EXCEPT does, slot by slot.
+pub mod Changes
