@@ -1,0 +1,6 @@
+-- The lemmas of this crate.
+pub mod Scanned
+pub mod ItemLaws
+pub mod ConfigLaws
+pub mod LineLaws
+pub mod TurnLaws
