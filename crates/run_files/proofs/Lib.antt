@@ -1,6 +1,0 @@
--- The lemmas of this crate.
-pub mod Scanned
-pub mod ItemLaws
-pub mod ConfigLaws
-pub mod LineLaws
-pub mod TurnLaws
