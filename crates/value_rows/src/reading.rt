@@ -38,6 +38,18 @@ impl From<AllocError> for Why {
     }
 }
 
+// The expression that a short text is, by its number.
+fn read(alloc: Global, text: &[u8], pool: &mut Pool) -> Result<NodeId, Stop>
+    requires { length text.now < past_text }
+    ensures within { IfOk result (λ e. e < length pool.new) }
+    ensures kept { Keeps pool.old pool.new }
+{
+    let tokens = tokens(alloc, text, 0, text.len())?;
+    given_numbers_fit();
+    let (e, _) = read_expr(alloc, &tokens, 0, pool)?;
+    Ok(e)
+}
+
 // The expression that a text is, by its number.
 fn expression(alloc: Global, text: &[u8], pool: &mut Pool) -> Result<NodeId, Why>
     ensures within { IfOk result (λ e. e < length pool.new) }
@@ -46,13 +58,8 @@ fn expression(alloc: Global, text: &[u8], pool: &mut Pool) -> Result<NodeId, Why
     if text.len() >= MOST {
         return Err(Why::Refused(Stop::Memory));
     }
-    let tokens = match tokens(alloc, text, 0, text.len()) {
-        Ok(tokens) => tokens,
-        Err(stop) => return Err(Why::Refused(stop)),
-    };
-    given_numbers_fit();
-    match read_expr(alloc, &tokens, 0, pool) {
-        Ok((e, _)) => Ok(e),
+    match read(alloc, text, pool) {
+        Ok(e) => Ok(e),
         Err(stop) => Err(Why::Refused(stop)),
     }
 }
@@ -84,6 +91,17 @@ fn value_of(alloc: Global, text: &[u8]) -> Option<Value> {
     }
 }
 
+// The names of a list with commas.
+fn params(alloc: Global, list: &str) -> Result<NameList, AllocError> {
+    let mut params = NameList::new(alloc);
+    for param in list.split(", ") {
+        if !param.is_empty() {
+            params.push(name(alloc, param)?)?;
+        }
+    }
+    Ok(params)
+}
+
 // Adds the definition of a line `N == e`, `N(a, b) == e`, or one of these behind `outside`.
 fn add_definition(alloc: Global, pool: &mut Pool, defs: &mut Defs, line: &str) -> Result<(), Why>
     requires { DefinitionsIn (length pool.old) defs.old }
@@ -95,12 +113,7 @@ fn add_definition(alloc: Global, pool: &mut Pool, defs: &mut Defs, line: &str) -
         .split_once(" == ")
         .unwrap_or((line, ""));
     let (title, rest) = head.split_once('(').unwrap_or((head, ""));
-    let mut params = NameList::new(alloc);
-    for param in rest.strip_suffix(')').unwrap_or(rest).split(", ") {
-        if !param.is_empty() {
-            params.push(name(alloc, param)?)?;
-        }
-    }
+    let params = params(alloc, rest.strip_suffix(')').unwrap_or(rest))?;
     let body = expression(alloc, body.as_bytes(), pool)?;
     defs.push(Definition {
         name: name(alloc, title)?,

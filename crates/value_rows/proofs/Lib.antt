@@ -1,0 +1,2 @@
+-- What is kept while definitions are read.
+mod DefinitionLaws
