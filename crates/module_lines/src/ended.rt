@@ -10,7 +10,7 @@ ghost use Rattle.module_lines.specs.Maybe.{MaybeIn};
 use std::alloc::{AllocError, Global};
 use tla_pool::Pool;
 use tla_tree::{NodeId, Text};
-use tla_write::write_expr;
+use tla_write::append_expr;
 
 /// Appends Terminating, with the expression that holds once all is done, if there is one.
 ///
@@ -28,7 +28,7 @@ pub fn write_terminating(
 {
     if let Some(e) = ended {
         into.extend(b"\nTerminating ==\n  /\\ (")?;
-        write_expr(alloc, pool, e, into)?;
+        append_expr(alloc, pool, e, into)?;
         into.extend(b")\n  /\\ UNCHANGED vars\n")?;
     }
     Ok(())
@@ -49,6 +49,6 @@ pub fn write_termination(
     ensures { OnOk result (into.new ≡ into.old ++ behind 0 (termination_unit (at pool.now e) ∷ [])) }
 {
     into.extend(b"\nTermination == <>(")?;
-    write_expr(alloc, pool, e, into)?;
+    append_expr(alloc, pool, e, into)?;
     into.extend(b")\n")
 }

@@ -12,7 +12,7 @@ use module_lines::line::{begin_line, deeper, write_line, write_tuple};
 use std::alloc::{AllocError, Global};
 use tla_pool::Pool;
 use tla_tree::{Name, NameList, NodeId, Text};
-use tla_write::{write_expr, write_operand};
+use tla_write::{append_expr, append_operand};
 
 // ---- lines of items. Those before a list are of the item with nothing in it.
 
@@ -27,7 +27,7 @@ fn write_test(
     ensures { OnOk result (into.new ≡ into.old ++ item_text k (test (at pool.now e))) }
 {
     begin_line(k, b"/\\ (", into)?;
-    write_expr(alloc, pool, e, into)?;
+    append_expr(alloc, pool, e, into)?;
     into.extend(b")\n")
 }
 
@@ -45,7 +45,7 @@ fn write_setting(
     begin_line(k, b"/\\ ", into)?;
     into.extend(x.bytes())?;
     into.extend(b"' = ")?;
-    write_operand(alloc, pool, e, into)?;
+    append_operand(alloc, pool, e, into)?;
     into.push(b'\n')
 }
 
@@ -71,7 +71,7 @@ fn write_exists(
     begin_line(k, b"/\\ \\E ", into)?;
     into.extend(x.bytes())?;
     into.extend(b" \\in ")?;
-    write_operand(alloc, pool, set, into)?;
+    append_operand(alloc, pool, set, into)?;
     into.extend(b" :\n")
 }
 
@@ -89,7 +89,7 @@ fn write_local(
     begin_line(k, b"/\\ LET ", into)?;
     into.extend(x.bytes())?;
     into.extend(b" == ")?;
-    write_expr(alloc, pool, e, into)?;
+    append_expr(alloc, pool, e, into)?;
     into.extend(b" IN\n")
 }
 
@@ -104,7 +104,7 @@ fn write_if(
     ensures { OnOk result (into.new ≡ into.old ++ line k (codes "/\\ IF " ++ written (at pool.now p))) }
 {
     begin_line(k, b"/\\ IF ", into)?;
-    write_expr(alloc, pool, p, into)?;
+    append_expr(alloc, pool, p, into)?;
     into.push(b'\n')
 }
 
@@ -205,7 +205,7 @@ pub fn write_call(
         Call::With(title, e) => {
             into.extend(title.bytes())?;
             into.push(b'(')?;
-            write_expr(alloc, pool, *e, into)?;
+            append_expr(alloc, pool, *e, into)?;
             into.push(b')')?;
         }
     }
@@ -222,7 +222,7 @@ fn write_way(alloc: Global, pool: &Pool, way: &Way, into: &mut Text) -> Result<(
             into.extend(b"\\E ")?;
             into.extend(x.bytes())?;
             into.extend(b" \\in ")?;
-            write_operand(alloc, pool, *set, into)?;
+            append_operand(alloc, pool, *set, into)?;
             into.extend(b" : ")?;
             write_call(alloc, pool, call, into)?;
         }

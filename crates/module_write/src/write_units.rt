@@ -20,7 +20,7 @@ use std::alloc::{AllocError, Global};
 use tla_pool::Pool;
 use tla_tree::{Name, NameList, NodeId, Text};
 use tla_value::names::Definition;
-use tla_write::{write_expr, write_operand};
+use tla_write::{append_expr, append_operand};
 
 // ---- names
 
@@ -76,7 +76,7 @@ fn write_definition(
     into.extend(definition.name.bytes())?;
     write_parameters(&definition.params, into)?;
     into.extend(b" == ")?;
-    write_expr(alloc, pool, definition.body, into)?;
+    append_expr(alloc, pool, definition.body, into)?;
     into.push(b'\n')
 }
 
@@ -109,7 +109,7 @@ fn write_union(
 {
     for i in 0..sets.len() {
         write_where(i > 0, b" \\cup ", into)?;
-        write_operand(alloc, pool, sets[i], into)?;
+        append_operand(alloc, pool, sets[i], into)?;
     }
     Ok(())
 }
@@ -124,7 +124,7 @@ fn write_sets(
     ensures { OnOk result (into.new ≡ into.old ++ sets_text (map (at pool.now) sets.now)) }
 {
     if sets.len() == 1 {
-        write_expr(alloc, pool, sets[0], into)
+        append_expr(alloc, pool, sets[0], into)
     } else {
         write_union(alloc, pool, sets, into)
     }
@@ -163,7 +163,7 @@ fn write_conjuncts(
 {
     for e in conjuncts {
         begin_line(2, b"/\\ ", into)?;
-        write_expr(alloc, pool, *e, into)?;
+        append_expr(alloc, pool, *e, into)?;
         into.push(b'\n')?;
     }
     Ok(())
@@ -221,7 +221,7 @@ fn write_over(
         into.extend(b"\\A ")?;
         into.extend(x.bytes())?;
         into.extend(b" \\in ")?;
-        write_operand(alloc, pool, *set, into)?;
+        append_operand(alloc, pool, *set, into)?;
         into.extend(b" : ")?;
     }
     Ok(())
@@ -238,7 +238,7 @@ fn write_guard(
 {
     if let Some(e) = guard {
         into.push(b'(')?;
-        write_expr(alloc, pool, e, into)?;
+        append_expr(alloc, pool, e, into)?;
         into.extend(b") /\\ ")?;
     }
     Ok(())

@@ -1,4 +1,4 @@
 pub mod WritingLemmas
 pub mod RowsWriting
 pub mod OneMore
-pub mod BegunLemmas
+pub mod AheadLemmas

@@ -9,7 +9,7 @@ use Rattle.tla_tree.specs.Spelling as spelled
 use Rattle.tla_tree.specs.Written.{token}
 use Rattle.tla_tree.specs.Tree.{Tree, node, no_trees, tree, number, strict, set_of}
 use Rattle.tla_write.specs.Writing.{shown}
-use Rattle.tla_write.specs.Begun.{weight, left}
+use Rattle.tla_write.specs.Ahead.{weight, left}
 use Rattle.tla_tree.specs.laws.Columns.{moved}
 use Rattle.tla_tree.specs.laws.InText.{ends_word}
 use Rattle.tla_tree.specs.laws.Following.{is_tail, is_calm}

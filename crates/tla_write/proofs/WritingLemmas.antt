@@ -340,5 +340,5 @@ pub bracketed_part : (m : Form) (xs : List Part) (o : Bool) → o ≡ true → i
 bracketed_part m xs o e b ps = ap (λ (k : Bool). bracketed k (form_pieces m xs) ps) (sym b) ∙ ap (λ (k : Bool). form_part m xs k ps) (sym e)
 
 -- what is written, with nothing behind it
-pub all_written : (old new bytes : List ℕ) (t u : Tree) (b : Bool) → old ≡ [] → bytes ≡ new → u ≡ t → ((ps : List Piece) → new ++ text_of ps ≡ old ++ text_of (part u b ps)) → bytes ≡ text_of (part t b [])
-all_written old new bytes t u b o e s h = e ∙ sym (append-nil new) ∙ h [] ∙ ap (λ (l : List ℕ). l ++ text_of (part u b [])) o ∙ ap (λ (v : Tree). text_of (part v b [])) s
+pub all_written : (old new : List ℕ) (t u : Tree) (b : Bool) → u ≡ t → ((ps : List Piece) → new ++ text_of ps ≡ old ++ text_of (part u b ps)) → new ≡ old ++ text_of (part t b [])
+all_written old new t u b s h = sym (append-nil new) ∙ h [] ∙ ap (λ (v : Tree). old ++ text_of (part v b [])) s

@@ -56,7 +56,7 @@ item_pieces xs (item.Fixed f) ps = token (fixed_token f) ∷ ps
 item_pieces xs (item.Sign o) ps = token (tk.sign o) ∷ ps
 item_pieces xs (item.Word x) ps = word x.now ps
 item_pieces xs (item.Field x) ps = field x.now ps
-item_pieces xs (item.Number n) ps = token (tk.number n) ∷ ps
+item_pieces xs (item.Number n) ps = token (tk.number n.now) ∷ ps
 item_pieces xs (item.Quote x) ps = token (tk.string x.now) ∷ ps
 item_pieces xs (item.Part i b) ps = part_at xs i b ps
 

@@ -3,4 +3,4 @@
 
 pub mod write;
 
-pub use write::{write_expr, write_operand};
+pub use write::{append_expr, append_operand, write_expr, write_operand};

@@ -9,7 +9,7 @@ ghost use Rattle.tla_tree.specs.Shapes.{Shaped, StrictShaped, CaseShaped, operan
 ghost use Rattle.tla_tree.specs.Rank.{is_prefix};
 ghost use Rattle.tla_tree.specs.Written as pure;
 ghost use Rattle.tla_tree.specs.Written.{spaced, prefix_sign, infix_sign, infix_pieces, listed, field_pieces, name_pieces, bind_pieces, binding_pieces, definition_pieces, local_pieces, strict_pieces, arm_pieces, form_pieces, part, written, text_of, as_operand};
-ghost use Rattle.tla_write.specs.Begun.{Begins, Goes};
+ghost use Rattle.tla_write.specs.Ahead.{Stands, PutsAhead, Begins, Goes};
 ghost use Rattle.tla_write.specs.Writing.{shown, quantifier_pieces, record_pieces, fixed_token, item_pieces, Adds, Puts, PutsPath, slots_behind, PutsArms, IsTwice, comma_items, blank_items, box_items, parts_of, Writes};
 ghost use Rattle.tla_tree.specs.Pool.{at};
 ghost use Rattle.tla_write.specs.declared.write.Item.TheVariants.{Blank};
@@ -63,9 +63,16 @@ enum Item<'a> {
     Sign(Op),
     Word(&'a Name),
     Field(&'a Name),
-    Number(u128),
+    Number(&'a u128),
     Quote(&'a Text),
     Part(usize, bool),
+}
+
+/// What is still to be written: an item that is no part, or an expression, as an operand or not.
+#[derive(Drop)]
+enum Ahead<'a> {
+    Item(Item<'a>),
+    Part(Seen<'a>, bool),
 }
 
 fn fixed_bytes(f: Fixed) -> &'static [u8]
@@ -606,7 +613,7 @@ fn put_form<'a>(form: &'a Form, n: usize, plan: &mut Vec<Item<'a>>) -> Result<()
     ensures { OnOk result (Puts n plan.old.items plan.new.items (form_pieces (form_of form.now))) }
 {
     match form {
-        Form::Number(n) => plan.push(Item::Number(*n))?,
+        Form::Number(n) => plan.push(Item::Number(n))?,
         Form::String(text) => plan.push(Item::Quote(text))?,
         Form::Truth(sense) => plan.push(Item::Fixed(truth(*sense)))?,
         Form::Booleans => plan.push(Item::Fixed(Fixed::Booleans))?,
@@ -703,60 +710,126 @@ fn write_item(alloc: Global, item: Item<'_>, into: &mut Text) -> Result<(), Allo
         Item::Sign(op) => into.extend(sign_bytes(op))?,
         Item::Word(name) => into.extend(name.bytes())?,
         Item::Field(name) => into.extend(name.bytes())?,
-        Item::Number(n) => write_number(alloc, n, into)?,
+        Item::Number(n) => write_number(alloc, *n, into)?,
         Item::Quote(text) => write_quote(text, into)?,
         Item::Part(_, _) => {}
     }
     Ok(())
 }
 
-// An expression of which some is written, and what is still to be written of its form.
-#[derive(Drop)]
-struct Begun<'a> {
-    of: Seen<'a>,
-    plan: Vec<Item<'a>>,
+// ---- what is ahead
+
+// The item that a form without parts is, where it is one of a few.
+fn alone(form: &Form) -> Option<Item<'_>>
+    ensures { Stands (form_of form.now) result }
+{
+    match form {
+        Form::Number(n) => Some(Item::Number(n)),
+        Form::String(text) => Some(Item::Quote(text)),
+        Form::Name(name) => Some(Item::Word(name)),
+        _ => None,
+    }
 }
 
-fn begin(alloc: Global, of: Seen<'_>, operand: bool) -> Result<Begun<'_>, AllocError>
-    ensures { IfOk result (λ b. (b.of ≡ of.entry) × Begins of.entry operand b.plan.items) }
+// Puts the items of a plan ahead, for the parts of this expression. A part past the last one is nothing.
+fn put_ahead<'a>(
+    of: &Seen<'a>,
+    plan: &[Item<'a>],
+    ahead: &mut Vec<Ahead<'a>>,
+) -> Result<(), AllocError>
+    ensures { OnOk result (PutsAhead of.now plan.now ahead.old.items ahead.new.items) }
 {
-    let mut plan = Vec::new(alloc);
-    of.shaped();
-    put_part(of.form(), operand, of.len(), &mut plan)?;
-    Ok(Begun { of, plan })
-}
-
-// Writes what is left before the next part, and gives that part and whether it is an operand.
-fn next_part<'a>(
-    alloc: Global,
-    top: &mut Begun<'a>,
-    into: &mut Text,
-) -> Result<Option<(Seen<'a>, bool)>, AllocError>
-    ensures { IfOk result (λ next. (top.new.of ≡ top.old.of) × Goes top.old.of top.old.plan.items top.new.plan.items into.old into.new next) }
-{
-    while let Some(item) = top.plan.pop() {
-        match item {
-            Item::Part(i, operand) if i < top.of.len() => {
-                return Ok(Some((top.of.part(i), operand)));
+    let count = of.len();
+    for item in plan {
+        match *item {
+            Item::Part(i, operand) if i < count => {
+                ahead.push(Ahead::Part(of.part(i), operand))?;
             }
-            _ => write_item(alloc, item, into)?,
+            Item::Part(_, _) => {}
+            plain => ahead.push(Ahead::Item(plain))?,
         }
     }
-    Ok(None)
+    Ok(())
 }
 
-// Appends the text of an expression. The stack has those that are begun, each a part of the one below it.
+// Puts what an expression shows ahead. The plan is made anew, in memory that is there from the last one.
+fn begin<'a>(
+    of: &Seen<'a>,
+    operand: bool,
+    plan: &mut Vec<Item<'a>>,
+    ahead: &mut Vec<Ahead<'a>>,
+) -> Result<(), AllocError>
+    ensures { OnOk result (Begins of.now operand ahead.old.items ahead.new.items) }
+{
+    plan.clear();
+    of.shaped();
+    put_part(of.form(), operand, of.len(), plan)?;
+    put_ahead(of, plan, ahead)?;
+    Ok(())
+}
+
+// Writes what is next, or puts what it shows ahead.
+fn write_next<'a>(
+    alloc: Global,
+    next: Ahead<'a>,
+    plan: &mut Vec<Item<'a>>,
+    ahead: &mut Vec<Ahead<'a>>,
+    into: &mut Text,
+) -> Result<(), AllocError>
+    ensures { OnOk result (Goes next.entry ahead.old.items ahead.new.items into.old into.new) }
+{
+    match next {
+        Ahead::Item(item) => write_item(alloc, item, into)?,
+        Ahead::Part(of, operand) => match alone(of.form()) {
+            Some(item) => write_item(alloc, item, into)?,
+            None => begin(&of, operand, plan, ahead)?,
+        },
+    }
+    Ok(())
+}
+
+// Appends the text of an expression.
 fn write_part(alloc: Global, e: Seen<'_>, operand: bool, into: &mut Text) -> Result<(), AllocError>
     ensures { OnOk result (Writes into.old into.new (part e.entry operand)) }
 {
-    let mut open = Vec::new(alloc);
-    open.push(begin(alloc, e, operand)?)?;
-    while let Some(mut top) = open.pop() {
-        if let Some((part, operand)) = next_part(alloc, &mut top, into)? {
-            open.push(top)?;
-            open.push(begin(alloc, part, operand)?)?;
-        }
+    let mut plan = Vec::new(alloc);
+    let mut ahead = Vec::new(alloc);
+    write_next(alloc, Ahead::Part(e, operand), &mut plan, &mut ahead, into)?;
+    while let Some(next) = ahead.pop() {
+        write_next(alloc, next, &mut plan, &mut ahead, into)?;
     }
+    Ok(())
+}
+
+/// Appends the text of an expression; without memory for it the text may have some of it.
+///
+/// # Errors
+///
+/// Only for want of memory.
+pub fn append_expr(alloc: Global, pool: &Pool, e: NodeId, into: &mut Text) -> Result<(), AllocError>
+    requires { e < length pool.now }
+    ensures { OnOk result (into.new ≡ into.old ++ written (at pool.now e)) }
+{
+    write_part(alloc, Seen::new(pool, e), false, into)?;
+    Ok(())
+}
+
+/// Appends the text of an expression that is an operand, in brackets where it needs them; without memory for it the text may
+/// have some of it.
+///
+/// # Errors
+///
+/// Only for want of memory.
+pub fn append_operand(
+    alloc: Global,
+    pool: &Pool,
+    e: NodeId,
+    into: &mut Text,
+) -> Result<(), AllocError>
+    requires { e < length pool.now }
+    ensures { OnOk result (into.new ≡ into.old ++ text_of (as_operand (part (at pool.now e)) [])) }
+{
+    write_part(alloc, Seen::new(pool, e), true, into)?;
     Ok(())
 }
 
@@ -771,7 +844,7 @@ pub fn write_expr(alloc: Global, pool: &Pool, e: NodeId, into: &mut Text) -> Res
     ensures err { OnErr result (into.new ≡ into.old) }
 {
     let mut made = Text::new(Vec::new(alloc));
-    write_part(alloc, Seen::new(pool, e), false, &mut made)?;
+    append_expr(alloc, pool, e, &mut made)?;
     into.extend(made.bytes())
 }
 
@@ -791,6 +864,6 @@ pub fn write_operand(
     ensures err { OnErr result (into.new ≡ into.old) }
 {
     let mut made = Text::new(Vec::new(alloc));
-    write_part(alloc, Seen::new(pool, e), true, &mut made)?;
+    append_operand(alloc, pool, e, &mut made)?;
     into.extend(made.bytes())
 }

@@ -10,8 +10,8 @@ use Rattle.tla_write.proofs.OneMore.{listed_more}
 use Rattle.module_lines.proofs.Regrouped.{line_joined}
 use Rattle.module_write.proofs.write_units.write_conjuncts.Goals as goal
 
-pub write_expr-requires : goal.write_expr-requires
-write_expr-requires c = AllBelow-at (length c.args.pool.now) c.args.conjuncts.now c.loop-e.e-index 0 c.requires c.loop-e-test.true
+pub append_expr-requires : goal.append_expr-requires
+append_expr-requires c = AllBelow-at (length c.args.pool.now) c.args.conjuncts.now c.loop-e.e-index 0 c.requires c.loop-e-test.true
 
 pub loop-e-preserved : goal.loop-e-preserved
 loop-e-preserved c =
@@ -21,4 +21,4 @@ loop-e-preserved c =
     let e = get_or es i 0 in
     listed_more (λ (es : List ℕ). conjuncts_text (map written (map (at ts) es))) (λ (e : ℕ). line 2 (codes "/\\ " ++ written (at ts e))) (record { none = refl; more = λ x xs. refl })
     c.args.into.now c.loop-e.into c.push.new.self es i e (same_default es i 0 e c.loop-e-test.true) c.loop-e-test.true c.loop-e.invariant
-    (rw (c.in_ok-push.ensures.ok, c.in_ok-write_expr.ensures.ok, c.in_ok-begin_line.ensures) (line_joined c.loop-e.into (blanks 2) (codes "/\\ ") (written (at ts e)) (codes "\n")))
+    (rw (c.in_ok-push.ensures.ok, c.in_ok-append_expr.ensures, c.in_ok-begin_line.ensures) (line_joined c.loop-e.into (blanks 2) (codes "/\\ ") (written (at ts e)) (codes "\n")))
