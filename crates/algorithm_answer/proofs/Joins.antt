@@ -40,3 +40,12 @@ joined_none (Some r) = refl
 pub first_append : (xs ys : List Refusal) → first (xs ++ ys) ≡ joined (first xs) (first ys)
 first_append [] ys = refl
 first_append (r ∷ rs) ys = ap (λ (o : Option Refusal). Some (sooner r o)) (first_append rs ys) ∙ sym (joined_assoc (Some r) (first rs) (first ys))
+
+pub joined_turned : (a b : Option Refusal) → joined a b ≡ joined b a
+joined_turned None b = sym (joined_none b)
+joined_turned (Some r) None = refl
+joined_turned (Some r) (Some q) = same_first (r ∷ q ∷ []) (q ∷ r ∷ []) (λ f. or_turned (f r) (f q))
+
+-- the two behind it, the other way round
+pub joined_swapped : (a b c : Option Refusal) → joined (joined a b) c ≡ joined (joined a c) b
+joined_swapped a b c = joined_assoc a b c ∙ ap (joined a) (joined_turned b c) ∙ sym (joined_assoc a c b)

@@ -1,4 +1,5 @@
 pub mod Joins
+pub mod Covers
 pub mod PlacedTokens
 pub mod AnswerRules
 pub mod LeftOutFirst

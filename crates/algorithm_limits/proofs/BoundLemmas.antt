@@ -45,6 +45,10 @@ hides_one old x = by (list_any (equal x) old) refl
     }
     by false e = record { more = x ∷ []; behind = refl; has = λ y. refl }
 
+pub none_bound : (hs : List Word) (x : Word) → length hs ≡ 0 → list_any (equal x) hs ≡ false
+none_bound [] x e = refl
+none_bound (h ∷ hs) x e = absurd (omega (arith, e))
+
 -- so the names that were bound first are those that were bound
 pub first_kept : (old new xs : List Word) → Hides old new xs → take (length old) new ≡ old
 first_kept old new xs h = ap (take (length old)) h.behind ∙ take-append_seam old h.more

@@ -1,5 +1,5 @@
 -- The numbers of names, after one was given, are the new one and the old ones.
-use Rattle.std.proofs.Common.{◌≡◌, ℕ, Bool, true, false, [], ◌∷◌, Option, Some, None, refl, sym, ap, ◌∙◌, cond, bytes_eq, true≢false, unwrap_or}
+use Rattle.std.proofs.Common.{◌≡◌, ℕ, length, arith, Bool, true, false, [], ◌∷◌, Option, Some, None, refl, sym, ap, ◌∙◌, cond, bytes_eq, true≢false, unwrap_or}
 use Rattle.std.specs.Prelude.{◌==◌, if◌then◌else◌}
 use Rattle.std.specs.Map.{lookup}
 use Rattle.std.specs.Cmp.Lexicographic.{pointwise, bytes_decides}
@@ -29,6 +29,10 @@ same_test x y = by (bytes_eq y x) refl
     by : (b : Bool) → bytes_eq y x ≡ b → equal x y ≡ b
     by true e = (bytes_decides x y).1 (sym ((bytes_eq-Decides y x).0 e))
     by false e = not_equal x y (λ h. true≢false (sym ((bytes_eq-Decides y x).1 (sym h)) ∙ e))
+
+pub none_numbered : (es : Numbers) (x : Word) → length es ≡ 0 → number_of es x ≡ 0
+none_numbered [] x e = refl
+none_numbered (p ∷ es) x e = absurd (omega (arith, e))
 
 given : (es : Numbers) (x : Word) (n : ℕ) → number_of (with_number es x n) x ≡ n
 given [] x n = ap (λ (c : Bool). unwrap_or (cond c (Some n) None) 0) (equal_itself x)

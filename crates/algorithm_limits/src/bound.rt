@@ -48,9 +48,13 @@ impl Bound {
     }
 
     /// Whether a name is bound.
+    #[tactic(auto, using(crate::proofs::BoundLemmas::none_bound))]
     pub fn has(&self, name: &Name) -> bool
         ensures { result ≡ list_any (pointwise ◌==◌ name.now) self.now }
     {
+        if self.names.len() == 0 {
+            return false;
+        }
         self.names.contains(name)
     }
 

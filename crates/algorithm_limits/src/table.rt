@@ -36,9 +36,13 @@ impl Table {
     }
 
     /// The number of a name; 0 where it has none.
+    #[tactic(auto, using(crate::proofs::Tables::none_numbered))]
     pub fn get(&self, name: &Name) -> usize
         ensures { result ≡ number_of self.now name.now }
     {
+        if self.numbers.len() == 0 {
+            return 0;
+        }
         self.numbers.get(name).copied().unwrap_or(0)
     }
 

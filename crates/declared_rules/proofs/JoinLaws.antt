@@ -12,7 +12,7 @@ use Rattle.pcal_tree.specs.Offences.{first}
 use Rattle.pcal_tree.proofs.SetLaws.{Same}
 use Rattle.pcal_tree.proofs.FirstLaws.{same_first}
 use Rattle.algorithm_answer.specs.Joined.{joined}
-use Rattle.algorithm_answer.proofs.Joins.{joined_assoc, joined_none, first_append}
+use Rattle.algorithm_answer.proofs.Joins.{joined_assoc, joined_none, joined_swapped, first_append}
 use Rattle.outside_sight.specs.declared.modules.Modules.{Modules}
 use Rattle.declared_rules.specs.declared.found.Found.{Found}
 use Rattle.declared_rules.specs.Parts.{Part, expr_parts}
@@ -22,22 +22,6 @@ use Rattle.declared_rules.specs.Finding.{tree_offences, part_offences, parts_off
 pub on_ok : {A E P Q : Type 0} (r : Result A E) → (P → Q) → OnOk r P → OnOk r Q
 on_ok (Ok a) f h = f h
 on_ok (Err e) f h = tt
-
--- ---- two that were found
-
-pub joined_turned : (a b : Option Refusal) → joined a b ≡ joined b a
-joined_turned None b = sym (joined_none b)
-joined_turned (Some r) None = refl
-joined_turned (Some r) (Some q) = same_first (r ∷ q ∷ []) (q ∷ r ∷ []) (λ f. turned (f r) (f q))
-  where
-    turned : (a b : Bool) → (a || (b || false)) ≡ (b || (a || false))
-    turned true true = refl
-    turned true false = refl
-    turned false true = refl
-    turned false false = refl
-
-joined_between : (a b c : Option Refusal) → joined (joined a b) c ≡ joined (joined a c) b
-joined_between a b c = joined_assoc a b c ∙ ap (joined a) (joined_turned b c) ∙ sym (joined_assoc a c b)
 
 -- ---- offences after others
 
@@ -78,7 +62,7 @@ pub joins_first : (ts : List Tree) (j k : Found) (rs : List Refusal) → k.modul
 joins_first ts j k rs m e f = record {
   modules = m;
   value =
-      (λ i. joined (f i) (first (marked (m i) ts (e i).items))) ∙ joined_between j.first (first rs) (first (marked j.modules ts j.marks.items));
+      (λ i. joined (f i) (first (marked (m i) ts (e i).items))) ∙ joined_swapped j.first (first rs) (first (marked j.modules ts j.marks.items));
 }
 
 one_more_mark : (m : Modules) (ts : List Tree) (bs : List Bool) (e : ℕ) → e < length bs → Same (marked m ts (set bs e true)) (marked m ts bs ++ tree_offences m false (at ts e))

@@ -1,5 +1,5 @@
 -- That the names of a list are looked at one by one.
-use Rattle.std.proofs.Common.{◌≡◌, ℕ, ◌+◌, ◌<◌, ◌≤◌, List, [], ◌∷◌, ◌++◌, length, map, take, get_or, Bool, Vec, Global, refl, sym, ap, subst, ◌∙◌, append-nil, append_assoc}
+use Rattle.std.proofs.Common.{◌≡◌, ℕ, ◌+◌, ◌<◌, ◌≤◌, List, [], ◌∷◌, ◌++◌, length, map, take, get_or, Bool, Vec, Global, refl, sym, ap, subst, ◌∙◌, append-nil, append_assoc, arith}
 use Rattle.std.specs.List.{list_any, flat_map}
 use Rattle.std.specs.Cmp.Lexicographic.{pointwise}
 use Rattle.std.specs.Prelude.{◌==◌}
@@ -101,3 +101,21 @@ each_group (g ∷ gs) = ap (λ (l : List Name). g.items ++ l) (each_group gs)
 pub list_adds : (j k : Found) (z : List Word) (ns : List Name) → z ≡ [] → AddsNames (with_seen j z) k ns → (ts : List Tree) → Adds ts j k (bound ns ∷ [])
 list_adds j k z ns e g ts =
     adds_one ts j k (bound ns) (let h = g.adds ts [] (subst (λ (ws : List Word). Binds ws []) (sym e) none_bound) in record { modules = h.modules; value = h.value })
+
+-- ---- a list of one name
+
+pub only_one : (gs : List (Vec Name Global)) (g : Vec Name Global) (n : Name) → length gs ≡ 1 → g ≡ get_or gs 0 g → length g.items ≡ 1 → n ≡ get_or g.items 0 n → all_of (groups_of gs) ≡ n ∷ []
+only_one [] g n a b c d = absurd (omega (arith, a))
+only_one (h ∷ []) g n a b c d = append-nil h.items ∙ ap (λ (v : Vec Name Global). v.items) (sym b) ∙ alone g.items c d
+  where
+    alone : (ns : List Name) → length ns ≡ 1 → n ≡ get_or ns 0 n → ns ≡ n ∷ []
+    alone [] c d = absurd (omega (arith, c))
+    alone (m ∷ []) c d = ap (λ (k : Name). k ∷ []) (sym d)
+    alone (m ∷ k ∷ ns) c d = absurd (omega (arith, c))
+only_one (h ∷ k ∷ gs) g n a b c d = absurd (omega (arith, a))
+
+pub only_adds : (j k : Found) (ns : List Name) (n : Name) → ns ≡ n ∷ [] → ((ts : List Tree) → Adds ts j k (declares n ∷ [])) → (ts : List Tree) → Adds ts j k (bound ns ∷ [])
+only_adds j k ns n e h ts =
+    let rs = reserved_in j.modules n in
+    subst (λ (ms : List Name). Adds ts j k (bound ms ∷ [])) (sym e)
+    (record { joins = joins_as ts j k _ _ (sym (append-nil (rs ++ [])) ∙ sym (append-nil ((rs ++ []) ++ []))) ((h ts).joins) })

@@ -1,6 +1,6 @@
 //! The first offence that was found, and marks of the expressions that are still to be looked at.
 
-ghost use Rattle.std.specs.Prelude.{◌≡◌, ◌<◌, ◌≤◌, ◌∷◌, ◌++◌, ℕ, List, [], length, map, false, OnOk};
+ghost use Rattle.std.specs.Prelude.{◌≡◌, ◌<◌, ◌≤◌, ◌∷◌, ◌++◌, ℕ, List, [], length, map, false, OnOk, IfSome};
 ghost use Rattle.std.specs.List.{flat_map};
 ghost use Rattle.tla_tree.specs.Tree.{Tree, Name as PureName};
 ghost use Rattle.pcal_tree.specs.BoundNames.{all_of, lists_of};
@@ -27,6 +27,20 @@ pub struct Found {
     pub first: Option<Refusal>,
     pub marks: Vec<bool>,
     pub seen: Bound,
+}
+
+// The name of groups that have no other.
+fn only_name(groups: &[Vec<PlacedName>]) -> Option<&PlacedName>
+    ensures { IfSome result (λ n. all_of (groups_of groups.now) ≡ n.now ∷ []) }
+{
+    if groups.len() != 1 {
+        return None;
+    }
+    let names = groups[0].as_slice();
+    if names.len() != 1 {
+        return None;
+    }
+    Some(&names[0])
 }
 
 impl Found {
@@ -153,6 +167,10 @@ impl Found {
         ensures adds { OnOk result ((ts : List Tree) → Adds ts self.old self.new (bound (all_of (groups_of groups.now)) ∷ [])) }
         ensures many { OnOk result (length self.new.marks.items ≡ length self.old.marks.items) }
     {
+        if let Some(name) = only_name(groups) {
+            self.declares(name);
+            return Ok(());
+        }
         self.seen.truncate(0);
         self.groups(groups)
     }

@@ -14,24 +14,11 @@ use Rattle.pcal_tree.specs.OffencesReserved.{reserved_declared}
 use Rattle.pcal_tree.specs.OffencesSelf.{self_offences}
 use Rattle.pcal_tree.specs.OffencesStale.{stale_offences, stale_offences_by}
 use Rattle.pcal_tree.specs.laws.MacroSpots.{spots_by_macros}
-use Rattle.pcal_tree.proofs.FirstLaws.{same_first}
 use Rattle.pcal_tree.proofs.RefusedAlike.{first_with_rebinds}
 use Rattle.algorithm_answer.specs.Joined.{joined}
-use Rattle.algorithm_answer.proofs.Joins.{joined_assoc, first_append}
+use Rattle.algorithm_answer.proofs.Joins.{joined_assoc, joined_turned, first_append}
 
 -- ---- in whatever order
-
-or_turned : (a b : Bool) → (a || (b || false)) ≡ (b || (a || false))
-or_turned true true = refl
-or_turned true false = refl
-or_turned false true = refl
-or_turned false false = refl
-
-joined_turned : (a b : Option Refusal) → joined a b ≡ joined b a
-joined_turned None None = refl
-joined_turned None (Some q) = refl
-joined_turned (Some r) None = refl
-joined_turned (Some r) (Some q) = same_first (r ∷ q ∷ []) (q ∷ r ∷ []) (λ f. or_turned (f r) (f q))
 
 swapped : (a b c : Option Refusal) → joined a (joined b c) ≡ joined b (joined a c)
 swapped a b c = sym (joined_assoc a b c) ∙ ap (λ (o : Option Refusal). joined o c) (joined_turned a b) ∙ joined_assoc b a c

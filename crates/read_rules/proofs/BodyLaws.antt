@@ -1,5 +1,5 @@
 -- Names that are met in statements, one after another.
-use Rattle.std.proofs.Common.{◌≡◌, ℕ, ◌+◌, ◌<◌, ◌≤◌, List, [], ◌∷◌, ◌++◌, length, take, drop, map, get_or, Vec, Global, refl, sym, ap, ◌∙◌, subst, append-nil, append_assoc}
+use Rattle.std.proofs.Common.{◌≡◌, ℕ, ◌+◌, ◌<◌, ◌≤◌, List, [], ◌∷◌, ◌++◌, length, take, drop, map, get_or, Bool, Vec, Global, refl, sym, ap, ◌∙◌, subst, append-nil, append_assoc}
 use Rattle.std.proofs.lemmas.List.{drop_more, drop_all, take_more, take_all, map-append}
 use Rattle.tla_tree.specs.Tree.{Word, Tree, words}
 use Rattle.tla_tree.specs.Pool.{at, trees_at}
@@ -22,24 +22,33 @@ use Rattle.early_reads.specs.BodyNames.{names_in_one, names_in, names_in_some}
 use Rattle.outside_sight.specs.SightIn.{Binds}
 use Rattle.outside_sight.proofs.SightLaws.{binds_more}
 use Rattle.read_rules.specs.declared.used.Used.{Used}
-use Rattle.read_rules.specs.Using.{Adds}
+use Rattle.read_rules.specs.Using.{kept, Adds}
 use Rattle.read_rules.specs.UsingBodies.{bind_word, bind_number, AddsBind, AddsBinds, AddsStmt}
 use Rattle.read_rules.specs.Order.{behind}
 use Rattle.read_rules.proofs.OrderLaws.{behind_last, behind_among}
+use Rattle.read_rules.proofs.UsedLaws.{kept_none, kept_both}
 
 -- ---- names one after another
 
 pub adds_none : (u : Used) → Adds u u (λ xs. [])
-adds_none u = record { bound = refl; meets = λ xs b. sym (append-nil u.names.items) }
+adds_none u = record {
+  only = refl;
+  bound = refl;
+  meets = λ xs b. sym (append-nil u.names.items) ∙ ap (λ (ns : List Name). u.names.items ++ ns) (sym (kept_none u.only_self));
+}
 
 pub adds_as : (j k : Used) (f g : List Word → List Name) → ((xs : List Word) → f xs ≡ g xs) → Adds j k f → Adds j k g
-adds_as j k f g e a = record { bound = a.bound; meets = λ xs b. a.meets xs b ∙ ap (λ (ns : List Name). j.names.items ++ ns) (e xs) }
+adds_as j k f g e a = record { only = a.only; bound = a.bound; meets = λ xs b. a.meets xs b ∙ ap (λ (ns : List Name). j.names.items ++ kept j.only_self ns) (e xs) }
 
 pub adds_then : (j k l : Used) (f g : List Word → List Name) → Adds j k f → Adds k l g → Adds j l (λ xs. f xs ++ g xs)
 adds_then j k l f g a h = record {
+  only = h.only ∙ a.only;
   bound = h.bound ∙ a.bound;
   meets = λ xs b.
-      h.meets xs (subst (λ (hs : List Word). Binds hs xs) (sym a.bound) b) ∙ ap (λ (ns : List Name). ns ++ g xs) (a.meets xs b) ∙ append_assoc j.names.items (f xs) (g xs);
+      h.meets xs (subst (λ (hs : List Word). Binds hs xs) (sym a.bound) b)
+      ∙ (λ i. a.meets xs b i ++ kept (a.only i) (g xs))
+      ∙ append_assoc j.names.items (kept j.only_self (f xs)) (kept j.only_self (g xs))
+      ∙ ap (λ (ns : List Name). j.names.items ++ ns) (sym (kept_both j.only_self (f xs) (g xs)));
 }
 
 -- ---- expressions and assignments: what is left still gives the whole
@@ -80,32 +89,44 @@ words_more bs i b e l = sym (ap bind_words (take_more bs i b l) ∙ map-append b
 
 -- in the loop
 pub record MetBinds (ts : List Tree) (bs : List Bind) (old now : Used) (i : ℕ) : Type 0 where
+  pub only : now.only_self ≡ old.only_self
   pub hides : Hides old.bound now.bound (bind_words (take i bs))
-  pub meets : (xs : List Word) → Binds old.bound xs → now.names.items ++ used_by_binds (binds_at ts (drop i bs)) (behind (bind_words (take i bs)) xs) ≡ old.names.items ++ used_by_binds (binds_at ts bs) xs
+  pub meets : (xs : List Word) → Binds old.bound xs
+      → now.names.items ++ kept old.only_self (used_by_binds (binds_at ts (drop i bs)) (behind (bind_words (take i bs)) xs)) ≡ old.names.items ++ kept old.only_self (used_by_binds (binds_at ts bs) xs)
 
 pub binds_start : (ts : List Tree) (bs : List Bind) (u : Used) → MetBinds ts bs u u 0
-binds_start ts bs u = record { hides = hides_none u.bound; meets = λ xs b. refl }
+binds_start ts bs u = record { only = refl; hides = hides_none u.bound; meets = λ xs b. refl }
 
 pub binds_step : (ts : List Tree) (bs : List Bind) (old now next : Used) (i : ℕ) (b : Bind) → b ≡ get_or bs i b → i < length bs → AddsBind ts b now next → MetBinds ts bs old now i → MetBinds ts bs old next (i + 1)
 binds_step ts bs old now next i b e l a m = record {
+  only = a.only ∙ m.only;
   hides = hides_as old.bound next.bound _ _ (words_more bs i b e l) (hides_then old.bound now.bound next.bound (bind_words (take i bs)) (bind_word b ∷ []) m.hides a.hides);
   meets = λ xs h.
+      let o = old.only_self in
       let ws = bind_words (take i bs) in
       let more = binds_at ts (drop (i + 1) bs) in
       let here = used (at ts (bind_number b)) (behind ws xs) in
+      let there = used_by_binds more (bind_word b ∷ behind ws xs) in
       (λ j. a.meets (behind ws xs) (λ y. binds_more old.bound now.bound ws xs h m.hides y ∙ sym (behind_among ws xs y)) j
-      ++ used_by_binds more ((ap (λ (vs : List Word). behind vs xs) (sym (words_more bs i b e l)) ∙ behind_last ws (bind_word b) xs) j))
-      ∙ append_assoc now.names.items here (used_by_binds more (bind_word b ∷ behind ws xs))
+      ++ kept o (used_by_binds more ((ap (λ (vs : List Word). behind vs xs) (sym (words_more bs i b e l)) ∙ behind_last ws (bind_word b) xs) j)))
+      ∙ ap (λ (only : Bool). (now.names.items ++ kept only here) ++ kept o there) m.only
+      ∙ append_assoc now.names.items (kept o here) (kept o there)
       ∙ ap (λ (ns : List Name). now.names.items ++ ns)
-      (sym (bind_first ts b (drop (i + 1) bs) (behind ws xs)) ∙ ap (λ (cs : List Bind). used_by_binds (binds_at ts cs) (behind ws xs)) (ap (λ (z : Bind). z ∷ drop (i + 1) bs) e ∙ sym (drop_more bs i b l)))
+      (sym (kept_both o here there)
+      ∙ ap (kept o)
+      (sym (bind_first ts b (drop (i + 1) bs) (behind ws xs)) ∙ ap (λ (cs : List Bind). used_by_binds (binds_at ts cs) (behind ws xs)) (ap (λ (z : Bind). z ∷ drop (i + 1) bs) e ∙ sym (drop_more bs i b l))))
       ∙ m.meets xs h;
 }
 
 pub binds_done : (ts : List Tree) (bs : List Bind) (old now : Used) (i : ℕ) → length bs ≤ i → MetBinds ts bs old now i → AddsBinds ts bs old now
 binds_done ts bs old now i l m = record {
+  only = m.only;
   hides = hides_as old.bound now.bound _ _ (ap bind_words (take_all i bs l) ∙ sym (words_bound ts bs)) m.hides;
   meets = λ xs b.
-      sym (append-nil now.names.items) ∙ ap (λ (cs : List Bind). now.names.items ++ used_by_binds (binds_at ts cs) (behind (bind_words (take i bs)) xs)) (sym (drop_all i bs l)) ∙ m.meets xs b;
+      sym (append-nil now.names.items)
+      ∙ ap (λ (ns : List Name). now.names.items ++ ns)
+      (sym (kept_none old.only_self) ∙ ap (λ (cs : List Bind). kept old.only_self (used_by_binds (binds_at ts cs) (behind (bind_words (take i bs)) xs))) (sym (drop_all i bs l)))
+      ∙ m.meets xs b;
 }
 
 -- ---- each kind of statement
@@ -133,15 +154,21 @@ while_adds ts j k l s e b g h =
     standing ts j l (While s e b) (then (span_of s) (while (at ts e) (statements_at ts b.items))) (names_in_one (while (at ts e) (statements_at ts b.items))) (while_at ts s e b) (λ rest xs. refl)
     (adds_then j k l (used (at ts e)) (names_in (statements_at ts b.items)) g h)
 
-pub with_adds : (ts : List Tree) (j k l m : Used) (s : Span) (bs : Vec Bind Global) (b : Vec Stmt Global) → AddsBinds ts bs.items j k → Adds k l (names_in (statements_at ts b.items)) → m.names.items ≡ l.names.items
-    → m.bound ≡ take (length j.bound) l.bound → AddsStmt ts (With s bs b) j m
-with_adds ts j k l m s bs b g h same cut =
+pub with_adds : (ts : List Tree) (j k l m : Used) (s : Span) (bs : Vec Bind Global) (b : Vec Stmt Global) → AddsBinds ts bs.items j k → Adds k l (names_in (statements_at ts b.items)) → m.only_self ≡ l.only_self
+    → m.names.items ≡ l.names.items → m.bound ≡ take (length j.bound) l.bound → AddsStmt ts (With s bs b) j m
+with_adds ts j k l m s bs b g h own same cut =
     standing ts j m (With s bs b) (then (span_of s) (with (binds_at ts bs.items) (statements_at ts b.items))) (names_in_one (with (binds_at ts bs.items) (statements_at ts b.items))) (with_at ts s bs b) (λ rest xs. refl)
     (record {
+      only = own ∙ h.only ∙ g.only;
       bound = cut ∙ ap (take (length j.bound)) h.bound ∙ first_kept j.bound k.bound ws g.hides;
       meets = λ xs n.
-          same ∙ h.meets (ws ++ xs) (binds_more j.bound k.bound ws xs n g.hides) ∙ ap (λ (ns : List Name). ns ++ names_in (statements_at ts b.items) (ws ++ xs)) (g.meets xs n)
-          ∙ append_assoc j.names.items (used_by_binds (binds_at ts bs.items) xs) (names_in (statements_at ts b.items) (ws ++ xs));
+          let o = j.only_self in
+          let named = used_by_binds (binds_at ts bs.items) xs in
+          let inside = names_in (statements_at ts b.items) (ws ++ xs) in
+          same ∙ h.meets (ws ++ xs) (binds_more j.bound k.bound ws xs n g.hides)
+          ∙ (λ i. g.meets xs n i ++ kept (g.only i) inside)
+          ∙ append_assoc j.names.items (kept o named) (kept o inside)
+          ∙ ap (λ (ns : List Name). j.names.items ++ ns) (sym (kept_both o named inside));
     })
   where
     ws : List Word

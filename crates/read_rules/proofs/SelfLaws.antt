@@ -1,9 +1,11 @@
 -- The first `self` of what stands in lists, and of the macros that are reached.
 use Rattle.std.proofs.Common.{◌≡◌, ℕ, ◌+◌, ◌-◌, ◌<◌, ◌≤◌, nat_lt, Bool, true, false, ◌||◌, List, [], ◌∷◌, ◌++◌, length, take, map, reverse, get_or, Option, None, refl, sym, ap, ◌∙◌, cond, bytes_eq, arith, append-nil, le-ltb, lt-ltb}
+use Rattle.std.specs.Prelude.{codes}
 use Rattle.std.specs.List.{flat_map}
 use Rattle.std.proofs.lemmas.List.{take_more, take_all, map-append, reverse-append}
 use Rattle.std.proofs.lemmas.List.Folds.{list_any-append}
 use Rattle.std.proofs.lemmas.Grind.{flat_map-append}
+use Rattle.tla_token.specs.declared.rule.Rule.TheVariants.{SelfOutside}
 use Rattle.tla_token.specs.declared.rule.Refusal.{Refusal}
 use Rattle.tla_token.specs.Signs.{is_among}
 use Rattle.tla_tree.specs.Tree.{Word, Tree, words}
@@ -11,7 +13,7 @@ use Rattle.pcal_tree.specs.declared.algorithm.Macro.{Macro}
 use Rattle.pcal_tree.specs.Algorithm as tree
 use Rattle.pcal_tree.specs.Algorithm.{Name}
 use Rattle.pcal_tree.specs.InMemory.{macro_at}
-use Rattle.pcal_tree.specs.Offences.{first}
+use Rattle.pcal_tree.specs.Offences.{offence_if, first}
 use Rattle.pcal_tree.specs.OffencesCounts.{calls_of}
 use Rattle.pcal_tree.specs.OffencesSelf.{self_offence, selves, without, reached, used_in_macros, used_by_starts, used_by_procedure, used_outside, self_offences}
 use Rattle.pcal_tree.specs.Reads.{used, initial}
@@ -22,6 +24,7 @@ use Rattle.algorithm_answer.specs.Joined.{joined}
 use Rattle.algorithm_answer.proofs.Joins.{joined_assoc, joined_none, first_append}
 use Rattle.early_reads.proofs.CallsAsSets.{among_without}
 use Rattle.read_rules.specs.Calls.{AreCalled, AddsCalls}
+use Rattle.read_rules.specs.Using.{if_self}
 use Rattle.read_rules.specs.Selves.{calls_of_procedure}
 use Rattle.read_rules.proofs.CallLaws.{calls_as, calls_then}
 use Rattle.read_rules.proofs.FoundLaws.{Found, found_all, flat_mapped}
@@ -38,6 +41,15 @@ selves_then a b c ns ms h k = k ∙ ap (λ (o : Option Refusal). joined o (first
 selves_of : {X : Type 0} (f : X → List Name) (xs : List X) → flat_map (λ x. selves (f x)) xs ≡ selves (flat_map f xs)
 selves_of f [] = refl
 selves_of f (x ∷ xs) = ap (λ (rs : List Refusal). selves (f x) ++ rs) (selves_of f xs) ∙ sym (flat_map-append self_offence (f x) (flat_map f xs))
+
+-- those that are kept offend as all do
+pub selves_kept : (ns : List Name) → selves (flat_map if_self ns) ≡ selves ns
+selves_kept [] = refl
+selves_kept (n ∷ ns) = flat_map-append self_offence (if_self n) (flat_map if_self ns) ∙ (λ i. one (bytes_eq (codes "self") n.word) refl i ++ selves_kept ns i)
+  where
+    one : (b : Bool) → bytes_eq (codes "self") n.word ≡ b → selves (cond b (n ∷ []) []) ≡ self_offence n
+    one true e = append-nil (self_offence n)
+    one false e = ap (λ (b : Bool). offence_if b SelfOutside n.place) (sym e)
 
 -- what is used by each
 abbrev pub used_by_start : tree.Declaration → List Name

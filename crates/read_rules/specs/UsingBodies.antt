@@ -13,7 +13,7 @@ use Rattle.algorithm_limits.specs.DepthsIn.{Hides}
 use Rattle.early_reads.specs.BodyNames.{names_in}
 use Rattle.outside_sight.specs.SightIn.{Binds}
 use Rattle.read_rules.specs.declared.used.Used.{Used}
-use Rattle.read_rules.specs.Using.{Adds}
+use Rattle.read_rules.specs.Using.{kept, Adds}
 
 abbrev pub bind_word : Bind → Word
 bind_word (bind.Among x e) = x.word
@@ -25,13 +25,15 @@ bind_number (bind.Is x e) = e
 
 -- the names of its expression were met, and its name is bound
 pub record AddsBind (ts : List Tree) (b : Bind) (old new : Used) : Type 0 where
+  pub only : new.only_self ≡ old.only_self
   pub hides : Hides old.bound new.bound (bind_word b ∷ [])
-  pub meets : (xs : List Word) → Binds old.bound xs → new.names.items ≡ old.names.items ++ used (at ts (bind_number b)) xs
+  pub meets : (xs : List Word) → Binds old.bound xs → new.names.items ≡ old.names.items ++ kept old.only_self (used (at ts (bind_number b)) xs)
 
 -- the same of all that a `with` names
 pub record AddsBinds (ts : List Tree) (bs : List Bind) (old new : Used) : Type 0 where
+  pub only : new.only_self ≡ old.only_self
   pub hides : Hides old.bound new.bound (words (names_of_binds (binds_at ts bs)))
-  pub meets : (xs : List Word) → Binds old.bound xs → new.names.items ≡ old.names.items ++ used_by_binds (binds_at ts bs) xs
+  pub meets : (xs : List Word) → Binds old.bound xs → new.names.items ≡ old.names.items ++ kept old.only_self (used_by_binds (binds_at ts bs) xs)
 
 -- the names of a statement were met, which come before those of the rest of its list
 pub record AddsStmt (ts : List Tree) (s : Stmt) (old new : Used) : Type 0 where

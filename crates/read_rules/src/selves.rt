@@ -75,6 +75,7 @@ fn with_body(
     ensures { IfOk result (λ r. r ≡ joined so_far (first (selves (used_in_body (statements_at pool.now stmts.now))))) }
 {
     let mut used = Used {
+        only_self: true,
         names: Vec::new(alloc),
         bound: Bound::new(alloc),
     };

@@ -1,6 +1,6 @@
 //! The names that expressions use, and do not bind.
 
-ghost use Rattle.std.specs.Prelude.{◌≡◌, ◌<◌, ◌≤◌, List, [], length, IfOk, OnOk};
+ghost use Rattle.std.specs.Prelude.{◌≡◌, ◌<◌, ◌≤◌, ◌&&◌, not, bytes_eq, codes, List, [], length, IfOk, OnOk};
 ghost use Rattle.tla_tree.specs.Tree.{Word, words, seen_names};
 ghost use Rattle.tla_tree.specs.Shapes.{Shaped};
 ghost use Rattle.tla_tree.specs.Pool.{at, trees_at, AllBelow};
@@ -15,9 +15,12 @@ use tla_pool::form::Form;
 use tla_token::Place;
 use tla_tree::{Name, NodeId, PlacedName};
 
-/// Names that were met where they are used, in the order of the text, and those that are bound around what is met next.
+/// Names that were met where they are used, in the order of the text, all or `self` alone, and those that are bound around what is
+/// met next.
 #[derive(Drop)]
 pub struct Used {
+    /// Whether no name but `self` is kept.
+    pub only_self: bool,
     /// Names that were met.
     pub names: Vec<PlacedName>,
     /// Names that are bound.
@@ -25,16 +28,27 @@ pub struct Used {
 }
 
 impl Used {
+    // Whether a name isn't kept.
+    fn skips(&self, name: &Name) -> bool
+        ensures { result ≡ (self.now.only_self && not (bytes_eq (codes "self") name.now)) }
+    {
+        self.only_self && name.bytes() != b"self".as_slice()
+    }
+
     // A name at a place, if it isn't bound.
     fn name(&mut self, name: &Name, place: Place) -> Result<(), AllocError>
         ensures { OnOk result (Adds self.old self.new (λ xs. if_free xs (named name.now place))) }
     {
-        if !self.bound.has(name) {
-            self.names.push(PlacedName {
-                name: name.copied()?,
-                place,
-            })?;
+        if self.skips(name) {
+            return Ok(());
         }
+        if self.bound.has(name) {
+            return Ok(());
+        }
+        self.names.push(PlacedName {
+            name: name.copied()?,
+            place,
+        })?;
         Ok(())
     }
 
@@ -106,6 +120,7 @@ pub fn used_names(
     let mut bound = Bound::new(alloc);
     bound.add_all(params)?;
     let mut used = Used {
+        only_self: false,
         names: Vec::new(alloc),
         bound,
     };
@@ -124,6 +139,7 @@ pub fn free_names(alloc: Global, pool: &Pool, e: NodeId) -> Result<Vec<PlacedNam
     ensures { IfOk result (λ r. r.items ≡ used (at pool.now e) []) }
 {
     let mut used = Used {
+        only_self: false,
         names: Vec::new(alloc),
         bound: Bound::new(alloc),
     };

@@ -1,5 +1,5 @@
 -- What one name offends, that is bound or for which other text may be put in.
-use Rattle.std.proofs.Common.{◌≡◌, ℕ, ◌+◌, ◌<◌, ◌≤◌, length, drop, get_or, Bool, true, false, not, ◌&&◌, ◌||◌, List, [], ◌∷◌, ◌++◌, map, Option, cond, refl, sym, ap, ◌∙◌, append-nil, append_assoc}
+use Rattle.std.proofs.Common.{◌≡◌, ℕ, ◌+◌, ◌<◌, ◌≤◌, length, drop, get_or, Bool, true, false, not, ◌&&◌, ◌||◌, List, [], ◌∷◌, ◌++◌, map, Option, cond, refl, sym, ap, ◌∙◌, append-nil, append_assoc, subst}
 use Rattle.std.specs.Prelude.{if◌then◌else◌}
 use Rattle.std.specs.List.{list_any, flat_map}
 use Rattle.std.proofs.lemmas.Bool.{and_parts}
@@ -14,6 +14,7 @@ use Rattle.tla_tree.specs.Tree.{Word, Name}
 use Rattle.algorithm_limits.proofs.Tables.{equal}
 use Rattle.algorithm_answer.specs.Joined.{joined}
 use Rattle.algorithm_answer.proofs.Joins.{first_append}
+use Rattle.algorithm_answer.proofs.Covers.{Covers, covers_behind, covers_if, covers_in}
 use Rattle.outside_sight.specs.ModulesIn.{AreModules}
 use Rattle.pcal_tree.specs.Offences.{offence_if, first}
 use Rattle.pcal_tree.specs.OffencesRebind.{Standings, naming, in_scope, brought, may_rebind, rebound, rebound_all}
@@ -23,9 +24,10 @@ use Rattle.pcal_tree.proofs.SetLaws.{any_flat, any_union}
 use Rattle.pcal_tree.proofs.RebindNames.{scope_of_names, says_bound, says_standing}
 use Rattle.rebind_rules.specs.Held.{same_held, held_sound}
 use Rattle.rebind_rules.specs.declared.binding.Binding.{Binding}
+use Rattle.rebind_rules.specs.declared.binding.Binding.TheVariants.{Bound, Standing, Beneath}
 use Rattle.rebind_rules.specs.declared.sight.Sight.{Sight}
 use Rattle.rebind_rules.specs.declared.walk.Walk.{Walk}
-use Rattle.rebind_rules.specs.Telling.{binding_of, sure, held_where, told, Seen, Gains, Adds}
+use Rattle.rebind_rules.specs.Telling.{binding_of, IsEarlier, sure, held_where, told, Seen, Gains, Adds}
 use Rattle.rebind_rules.proofs.ScopeLaws.{among_any}
 use Rattle.rebind_rules.proofs.TellLaws.{first_same_after, first_then, first_sure, gains_adds}
 
@@ -81,6 +83,24 @@ gains_keep j k b e g h = record {
       (any_flat f O (insert_key same_held j.free.keys b) ∙ insert_any (λ v. list_any f (O v)) j.free.keys b ∙ ap (λ (t : Bool). t || list_any f (O b)) (sym (any_flat f O j.free.keys))
       ∙ sym (list_any-append f (held_where ms s j.free.keys) (O b)))
       ∙ sym (list_any-append f (sure j.first) (held_where ms s j.free.keys ++ O b)) ∙ ap (list_any f) (sym (append_assoc (sure j.first) (held_where ms s j.free.keys) (O b))));
+}
+
+-- ---- what an earlier one tells
+
+covers_earlier : (ms : List Word) (s : Standings) (b : Binding) (n : Name) → IsEarlier b n → Covers (offences_where ms s (binding_of b)) (rebound ms s n)
+covers_earlier ms s (Bound x) n h =
+    subst (λ (y : Word). Covers (rebound ms s x) (offence_if (in_scope s y && may_rebind ms y) Rebind n.place)) h.0
+    (covers_if (in_scope s x.word && may_rebind ms x.word) Rebind x.place n.place h.1)
+covers_earlier ms s (Standing x) n h = cc
+covers_earlier ms s (Beneath x y) n h = cc
+
+pub gains_told : (w : Walk) (bs : List Binding) (i : ℕ) (b : Binding) (n : Name) → bs ≡ w.free.keys → b ≡ get_or bs i b → i < length bs → IsEarlier b n → Gains w w (λ ms s. rebound ms s n)
+gains_told w bs i b n e g l h = record {
+  bound = refl;
+  tells = λ ms s.
+      sym (first_append (told ms w s) (rebound ms s n)
+      ∙ covers_behind (sure w.first) (held_where ms s w.free.keys) (rebound ms s n)
+      (covers_in (λ v. offences_where ms s (binding_of v)) bs w.free.keys i b (rebound ms s n) e g l (covers_earlier ms s b n h)));
 }
 
 pub gains_then : (j k l : Walk) (f h : List Word → Standings → List Refusal) → Gains j k f → Gains k l h → Gains j l (λ ms s. f ms s ++ h ms s)

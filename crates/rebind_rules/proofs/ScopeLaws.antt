@@ -1,5 +1,5 @@
 -- Names that may not be bound again, and scopes with more names around.
-use Rattle.std.proofs.Common.{◌≡◌, Bool, not, ◌||◌, ◌&&◌, List, [], ◌∷◌, ◌++◌, cond, refl, sym, ap, ◌∙◌}
+use Rattle.std.proofs.Common.{◌≡◌, Bool, true, false, not, ◌||◌, ◌&&◌, List, [], ◌∷◌, ◌++◌, cond, refl, sym, ap, ◌∙◌}
 use Rattle.std.specs.List.{list_any}
 use Rattle.tla_token.specs.Signs.{is_among}
 use Rattle.tla_token.specs.Words.{is_own}
@@ -14,11 +14,14 @@ use Rattle.pcal_tree.specs.OffencesRebind.{Standings, naming, in_scope, brought,
 use Rattle.pcal_tree.proofs.RebindNames.{scope_more, brought_more}
 use Rattle.rebind_rules.specs.Telling.{Around}
 
-pub may_rebind_in : (m : Modules) (ms : List Word) (a : Bool) (x : Word) → a ≡ not (is_own x || is_standard_in m x) → AreModules m ms → a ≡ may_rebind ms x
+may_rebind_in : (m : Modules) (ms : List Word) (a : Bool) (x : Word) → a ≡ not (is_own x || is_standard_in m x) → AreModules m ms → a ≡ may_rebind ms x
 may_rebind_in m ms a x e h = e ∙ ap (λ (b : Bool). not (is_own x || b)) (standard_given m ms h x)
 
-pub rebinds_in : (m : Modules) (ms : List Word) (a b c : Bool) (x : Word) → c ≡ (a && b) → ((ns : List Word) → AreModules m ns → b ≡ may_rebind ns x) → AreModules m ms → c ≡ (a && may_rebind ms x)
-rebinds_in m ms a b c x e h k = e ∙ ap (λ (d : Bool). a && d) (h ms k)
+pub rebinds_in : (m : Modules) (ms : List Word) (a b : Bool) (x : Word) → a ≡ true → b ≡ not (is_own x || is_standard_in m x) → AreModules m ms → b ≡ (a && may_rebind ms x)
+rebinds_in m ms a b x h e k = may_rebind_in m ms b x e k ∙ ap (λ (c : Bool). c && may_rebind ms x) (sym h)
+
+pub not_rebinds : (ms : List Word) (a : Bool) (x : Word) → a ≡ false → false ≡ (a && may_rebind ms x)
+not_rebinds ms a x h = ap (λ (c : Bool). c && may_rebind ms x) (sym h)
 
 pub among_any : (xs : List Word) (x : Word) → list_any (equal x) xs ≡ is_among xs x
 among_any [] x = refl

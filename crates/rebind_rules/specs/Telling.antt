@@ -1,12 +1,12 @@
 -- What was found in a text tells in a scope: the first offence, and those of what may offend there.
-use Rattle.std.specs.Prelude.{◌≡◌, List, [], ◌∷◌, ◌++◌, Bool, ◌||◌, cond, length, take, Option, Some, None}
+use Rattle.std.specs.Prelude.{◌≡◌, List, [], ◌∷◌, ◌++◌, Bool, true, false, ◌||◌, cond, length, take, Option, Some, None}
 use Rattle.std.specs.List.{flat_map}
 use Rattle.tla_token.specs.declared.rule.Refusal.{Refusal}
 use Rattle.tla_token.specs.Signs.{is_among}
-use Rattle.tla_tree.specs.Tree.{Word}
+use Rattle.tla_tree.specs.Tree.{Word, Name}
 use Rattle.algorithm_limits.specs.DepthsIn.{Hides}
 use Rattle.outside_sight.specs.ModulesIn.{AreModules}
-use Rattle.pcal_tree.specs.Offences.{first}
+use Rattle.pcal_tree.specs.Offences.{first, is_before}
 use Rattle.pcal_tree.specs.OffencesRebind.{Standings, in_scope, brought}
 use Rattle.pcal_tree.specs.laws.MacroBindings as pure
 use Rattle.pcal_tree.specs.laws.MacroBindings.{offences_where}
@@ -26,6 +26,12 @@ sure (Some r) = r ∷ []
 
 abbrev pub held_where : List Word → Standings → List Binding → List Refusal
 held_where ms s bs = flat_map (λ b. offences_where ms s (binding_of b)) bs
+
+-- it is this name, bound no later
+abbrev pub IsEarlier : Binding → Name → Type 0
+IsEarlier (held.Bound x) n = (x.word ≡ n.word) × (is_before n.place x.place ≡ false)
+IsEarlier (held.Standing x) n = false ≡ true
+IsEarlier (held.Beneath x y) n = false ≡ true
 
 -- in a module that extends these
 abbrev pub told : List Word → Walk → Standings → List Refusal

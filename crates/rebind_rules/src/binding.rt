@@ -1,5 +1,8 @@
 //! What may offend where a macro is called: names that are bound in it, and names for which other text may be put in.
 
+ghost use Rattle.std.specs.Prelude.{IsTrue};
+ghost use Rattle.rebind_rules.specs.Telling.{IsEarlier};
+
 use std::hash::{Hash, Hasher};
 use tla_tree::{Name, PlacedName};
 
@@ -12,6 +15,25 @@ pub enum Binding {
     Standing(Name),
     /// The same where another name is bound.
     Beneath(Name, Name),
+}
+
+impl Binding {
+    /// Whether it is this name, bound no later.
+    pub fn is_earlier(&self, name: &PlacedName) -> bool
+        ensures { IsTrue result → IsEarlier self.now name.now }
+    {
+        match self {
+            Binding::Bound(one) => {
+                if name.place.line < one.place.line
+                    || (name.place.line == one.place.line && name.place.col < one.place.col)
+                {
+                    return false;
+                }
+                one.name.is(&name.name)
+            }
+            _ => false,
+        }
+    }
 }
 
 impl PartialEq for Binding {

@@ -58,9 +58,13 @@ impl Names {
     }
 
     /// Whether a name is bound.
+    #[tactic(auto, using(algorithm_limits::proofs::BoundLemmas::none_bound))]
     pub fn has(&self, name: &Name) -> bool
         ensures { result ≡ list_any (pointwise ◌==◌ name.now) self.now }
     {
+        if self.names.len() == 0 {
+            return false;
+        }
         self.names.contains(name)
     }
 

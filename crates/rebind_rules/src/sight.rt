@@ -37,12 +37,14 @@ pub struct Sight {
 
 impl Sight {
     /// Whether a name that is bound offends, where it is in scope or isn't; own and standard names are another rule's.
-    #[tactic(auto, using(crate::proofs::ScopeLaws::may_rebind_in, crate::proofs::ScopeLaws::rebinds_in))]
+    #[tactic(auto, using(crate::proofs::ScopeLaws::rebinds_in, crate::proofs::ScopeLaws::not_rebinds))]
     pub fn rebinds(&self, in_scope: bool, name: &Name) -> bool
         ensures { (ms : List Word) → AreModules self.now.modules ms → result ≡ (in_scope && may_rebind ms name.now) }
     {
-        let counts = !(is_among(&OWN, name.bytes()) || self.modules.is_standard(name.bytes()));
-        in_scope && counts
+        if !in_scope {
+            return false;
+        }
+        !(is_among(&OWN, name.bytes()) || self.modules.is_standard(name.bytes()))
     }
 
     /// Whether other text may be put in for a name, where these are bound.

@@ -1,6 +1,6 @@
 //! What was found in a text that was gone through: the first offence, and what may offend where the text is put in.
 
-ghost use Rattle.std.specs.Prelude.{◌≡◌, ◌<◌, ◌≤◌, ◌∷◌, ◌++◌, [], List, Bool, map, cond, length, codes, OnOk};
+ghost use Rattle.std.specs.Prelude.{◌≡◌, IsTrue, ◌<◌, ◌≤◌, ◌∷◌, ◌++◌, [], List, Bool, map, cond, length, codes, OnOk};
 ghost use Rattle.std.specs.List.{flat_map};
 ghost use Rattle.tla_token.specs.declared.rule.Rule.TheVariants as rule;
 ghost use Rattle.tla_tree.specs.Tree.{Word};
@@ -17,6 +17,9 @@ use indexmap::IndexSet;
 use std::alloc::{AllocError, Global};
 use tla_token::{Place, Refusal, Rule};
 use tla_tree::{Name, PlacedName};
+
+// Among how many of what is kept a name is looked for that tells another.
+const MANY: usize = 16;
 
 /// The names that are bound around what is met next; the first offence that was found, which rests on nothing around the text; and
 /// what may offend in a scope, each once.
@@ -54,6 +57,22 @@ impl Walk {
         Ok(())
     }
 
+    // Whether one of the first names that are kept is the same, bound no later: where this one offends, that one does.
+    fn is_told(&self, name: &PlacedName) -> bool
+        ensures { IsTrue result → Gains self.now self.now (λ ms s. rebound ms s name.now) }
+    {
+        let list = self.free.as_slice();
+        for i in 0..list.len() {
+            if i == MANY {
+                return false;
+            }
+            if list[i].is_earlier(name) {
+                return true;
+            }
+        }
+        false
+    }
+
     /// A name that is bound.
     ///
     /// # Errors
@@ -64,6 +83,9 @@ impl Walk {
     {
         let bound = self.bound.has(&name.name);
         self.offence(sight.rebinds(bound, &name.name), name.place);
+        if self.is_told(name) {
+            return Ok(());
+        }
         self.keep(Binding::Bound(name.copied()?))
     }
 

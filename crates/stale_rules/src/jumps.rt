@@ -61,6 +61,7 @@ fn jump(alloc: Global, pool: &Pool, one: &Procedure) -> Result<Jump, AllocError>
     ensures uses { IfOk result (λ r. r.uses.items ≡ used_by_variables (procedure_at pool.now one.now)) }
 {
     let mut used = Used {
+        only_self: false,
         names: Vec::new(alloc),
         bound: bound_in(alloc, one)?,
     };

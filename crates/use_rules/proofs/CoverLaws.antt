@@ -1,65 +1,21 @@
 -- A use tells what the same use does that doesn't come before it.
 use Rattle.std.proofs.Common.{◌≡◌, ℕ, ◌+◌, ◌<◌, List, ◌∷◌, ◌++◌, length, take, drop, get_or, Bool, true, false, ◌&&◌, ◌||◌, not, nat_eq, cond, Option, Some, None, refl, sym, ap, ◌∙◌, subst, le-ltb, arith}
 use Rattle.std.specs.List.{flat_map}
-use Rattle.std.proofs.lemmas.List.{drop_more, take-append-drop}
-use Rattle.std.proofs.lemmas.Grind.{flat_map-append}
 use Rattle.tla_token.specs.declared.place.Place.{Place}
 use Rattle.tla_token.specs.declared.rule.Rule.{Rule}
 use Rattle.tla_token.specs.declared.rule.Rule.TheVariants.{Unknown, Arity, NotVariable, NeedsModule, OpaqueUnit, Infinite}
 use Rattle.tla_token.specs.declared.rule.Refusal.{Refusal}
-use Rattle.tla_token.specs.Rules.{rule_number}
 use Rattle.pcal_tree.specs.Offences.{offence_if, is_before, is_sooner, first}
 use Rattle.tla_tree.specs.Tree.{Word}
 use Rattle.pcal_tree.specs.NameUses.{Use, Sight, use_of, takes, variable, argument, standard, unread, use_offences, module_offences, infinite_offences, applied_offences, left_offences, handed_use}
 use Rattle.algorithm_answer.specs.Joined.{joined}
-use Rattle.algorithm_answer.proofs.Joins.{joined_assoc, first_append}
+use Rattle.algorithm_answer.proofs.Joins.{joined_assoc}
+use Rattle.algorithm_answer.proofs.Covers.{Covers, covers_itself, covers_each, covers_if, covers_in}
 use Rattle.pcal_tree.specs.laws.MacroUses.{offences_as}
 use Rattle.use_rules.specs.declared.using.Kind.{Kind}
 use Rattle.use_rules.specs.declared.using.Kind.TheVariants as kind
 use Rattle.use_rules.specs.declared.using.NameUse.{NameUse}
 use Rattle.use_rules.specs.Telling.{use_as, place_in, used, looked, told_by}
-use Rattle.use_rules.proofs.JoinLaws.{joined_swapped}
-
--- ---- of both, the first one is that of these
-
-abbrev pub Covers : List Refusal → List Refusal → Type 0
-Covers a b = joined (first a) (first b) ≡ first a
-
-pub covers_itself : (a : List Refusal) → Covers a a
-covers_itself a = by (first a)
-  where
-    either : (b : Bool) (r : Refusal) → Some (cond b r r) ≡ Some r
-    either true r = refl
-    either false r = refl
-
-    by : (o : Option Refusal) → joined o o ≡ o
-    by None = refl
-    by (Some r) = either (is_sooner r r) r
-
-pub covers_before : (a b c : List Refusal) → Covers a c → Covers (a ++ b) c
-covers_before a b c h = ap (λ (o : Option Refusal). joined o (first c)) (first_append a b) ∙ joined_swapped (first a) (first b) (first c) ∙ ap (λ (o : Option Refusal). joined o (first b)) h ∙ sym (first_append a b)
-
-pub covers_behind : (a b c : List Refusal) → Covers b c → Covers (a ++ b) c
-covers_behind a b c h = ap (λ (o : Option Refusal). joined o (first c)) (first_append a b) ∙ joined_assoc (first a) (first b) (first c) ∙ ap (joined (first a)) h ∙ sym (first_append a b)
-
-covers_both : (a c d : List Refusal) → Covers a c → Covers a d → Covers a (c ++ d)
-covers_both a c d h k = ap (joined (first a)) (first_append c d) ∙ sym (joined_assoc (first a) (first c) (first d)) ∙ ap (λ (o : Option Refusal). joined o (first d)) h ∙ k
-
-covers_each : (a b c d : List Refusal) → Covers a c → Covers b d → Covers (a ++ b) (c ++ d)
-covers_each a b c d h k = covers_both (a ++ b) c d (covers_before a b c h) (covers_behind a b d k)
-
--- ---- one rule, at two places
-
-pub covers_if : (b : Bool) (k : Rule) (p q : Place) → is_before q p ≡ false → Covers (offence_if b k p) (offence_if b k q)
-covers_if true k p q e = ap (λ (b : Bool). Some (cond b (record { rule = k; place = q }) (record { rule = k; place = p }))) ((λ i. le-ltb n n (omega arith) i || (nat_eq n n && e i)) ∙ last (nat_eq n n))
-  where
-    n : ℕ
-    n = rule_number k
-
-    last : (b : Bool) → (b && false) ≡ false
-    last true = refl
-    last false = refl
-covers_if false k p q e = refl
 
 -- ---- one name, at two places
 
@@ -116,15 +72,8 @@ covers_same kind.Handed o x p q e = covers_handed p q e o
 
 -- ---- one of those that are kept
 
-covered_in : (h : NameUse → List Refusal) (vs : List NameUse) (i : ℕ) (v : NameUse) (rs : List Refusal) → v ≡ get_or vs i v → i < length vs → Covers (h v) rs → Covers (flat_map h vs) rs
-covered_in h vs i v rs e l c =
-    let rest = drop (i + 1) vs in
-    let whole = sym (flat_map-append h (take i vs) (v ∷ rest)) ∙ ap (λ (ws : List NameUse). flat_map h (take i vs ++ ws)) (ap (λ (z : NameUse). z ∷ rest) e ∙ sym (drop_more vs i v l)) ∙ ap (flat_map h) (take-append-drop i vs) in
-    subst (λ (qs : List Refusal). Covers qs rs) whole (covers_behind (flat_map h (take i vs)) (h v ++ flat_map h rest) rs (covers_before (h v) (flat_map h rest) rs c))
-
 pub told_covered : (o : Option Refusal) (vs us : List NameUse) (i : ℕ) (v : NameUse) (k : Kind) (x : Word) (p : Place) (s : Sight) → us ≡ vs → v ≡ get_or us i v → i < length us → v.kind ≡ k → v.name ≡ x
     → is_before p (place_in v) ≡ false → joined (told_by o vs s) (first (used k x p s)) ≡ told_by o vs s
 told_covered o vs us i v k x p s w e l a b h =
     let again : Covers (looked s v) (used k x p s) = subst (λ (y : Word). Covers (looked s v) (used k y p s)) b (subst (λ (d : Kind). Covers (looked s v) (used d v.name p s)) a (covers_same v.kind (use_of s v.name) v.name (place_in v) p h)) in
-    subst (λ (ws : List NameUse). joined (told_by o ws s) (first (used k x p s)) ≡ told_by o ws s) w
-    (joined_assoc o (first (flat_map (looked s) us)) (first (used k x p s)) ∙ ap (joined o) (covered_in (looked s) us i v (used k x p s) e l again))
+    joined_assoc o (first (flat_map (looked s) vs)) (first (used k x p s)) ∙ ap (joined o) (covers_in (looked s) us vs i v (used k x p s) w e l again)

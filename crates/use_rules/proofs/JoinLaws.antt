@@ -1,5 +1,5 @@
 -- What uses tell, as more of them are kept, each once.
-use Rattle.std.proofs.Common.{◌≡◌, List, [], ◌∷◌, ◌++◌, Bool, true, false, ◌||◌, Option, Some, None, refl, sym, ap, ◌∙◌, append-nil}
+use Rattle.std.proofs.Common.{◌≡◌, List, [], ◌∷◌, ◌++◌, Bool, true, false, ◌||◌, refl, sym, ap, ◌∙◌, append-nil}
 use Rattle.std.specs.Prelude.{if◌then◌else◌}
 use Rattle.std.specs.List.{list_any, flat_map}
 use Rattle.std.proofs.lemmas.List.Folds.{list_any-append}
@@ -9,26 +9,9 @@ use Rattle.pcal_tree.specs.Offences.{first}
 use Rattle.pcal_tree.proofs.SetLaws.{any_flat, Sound}
 use Rattle.pcal_tree.proofs.FirstLaws.{same_first}
 use Rattle.algorithm_answer.specs.Joined.{joined}
-use Rattle.algorithm_answer.proofs.Joins.{joined_assoc, joined_none, first_append}
+use Rattle.algorithm_answer.proofs.Joins.{first_append}
 use Rattle.tla_value.proofs.OrderSets.{either_twice}
 use Rattle.indexmap.specs.IndexSet.{insert_key}
-
--- ---- first ones
-
-or_turned : (a b : Bool) → (a || (b || false)) ≡ (b || (a || false))
-or_turned true true = refl
-or_turned true false = refl
-or_turned false true = refl
-or_turned false false = refl
-
-pub joined_turned : (a b : Option Refusal) → joined a b ≡ joined b a
-joined_turned None b = sym (joined_none b)
-joined_turned (Some r) None = refl
-joined_turned (Some r) (Some q) = same_first (r ∷ q ∷ []) (q ∷ r ∷ []) (λ f. or_turned (f r) (f q))
-
--- the two behind it, the other way round
-pub joined_swapped : (a b c : Option Refusal) → joined (joined a b) c ≡ joined (joined a c) b
-joined_swapped a b c = joined_assoc a b c ∙ ap (joined a) (joined_turned b c) ∙ sym (joined_assoc a c b)
 
 -- ---- each once
 

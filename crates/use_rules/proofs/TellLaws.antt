@@ -12,7 +12,7 @@ use Rattle.pcal_tree.specs.NameUses.{takes, Sight, use_of, seeing_plain}
 use Rattle.pcal_tree.specs.laws.MacroUses.{offences_as}
 use Rattle.pcal_tree.proofs.SetLaws.{Sound}
 use Rattle.algorithm_answer.specs.Joined.{joined}
-use Rattle.algorithm_answer.proofs.Joins.{joined_assoc, joined_none, first_append}
+use Rattle.algorithm_answer.proofs.Joins.{joined_assoc, joined_none, first_append, joined_swapped}
 use Rattle.algorithm_limits.specs.DepthsIn.{Hides}
 use Rattle.algorithm_limits.proofs.Tables.{equal, same_test}
 use Rattle.indexmap.specs.IndexSet.{insert_key}
@@ -21,7 +21,7 @@ use Rattle.use_rules.specs.declared.using.NameUse.{NameUse}
 use Rattle.use_rules.specs.declared.found.Found.{Found}
 use Rattle.use_rules.specs.Telling.{use_as, used, looked, told_by, Inside}
 use Rattle.use_rules.specs.Finding.{told, Tells}
-use Rattle.use_rules.proofs.JoinLaws.{joined_swapped, kept_once}
+use Rattle.use_rules.proofs.JoinLaws.{kept_once}
 
 -- ---- one after another
 

@@ -25,6 +25,9 @@ use tla_pool::form::Form;
 use tla_token::{Place, Refusal};
 use tla_tree::{Name, NodeId};
 
+// Among how many of the uses that are kept one is looked for that tells another.
+const MANY: usize = 16;
+
 /// The first offence that rests on no name around, the uses of names that are not bound, each once, and the names that are bound
 /// around what is looked at next.
 #[derive(Drop)]
@@ -76,7 +79,7 @@ impl Found {
     {
         let uses = self.free.as_slice();
         for i in 0..uses.len() {
-            if i == 16 {
+            if i == MANY {
                 return false;
             }
             if uses[i].is_earlier(name, kind, place) {

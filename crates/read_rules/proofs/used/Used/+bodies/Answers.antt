@@ -75,12 +75,12 @@ stmt-returns-in_ok-branches-in-Either t c =
 pub stmt-returns-in_ok-body-in-With : goal.stmt-returns-in_ok-body-in-With
 stmt-returns-in_ok-body-in-With t c =
     let ts = c.args.pool.now in
-    let last : Used = record { names = c.body-in-With.new.self.names; bound = c.truncate.new.self } in
+    let last : Used = record { only_self = c.body-in-With.new.self.only_self; names = c.body-in-With.new.self.names; bound = c.truncate.new.self } in
     subst (λ (z : Stmt). AddsStmt ts z c.args.self.now last) (sym c.in-With.is)
     (with_adds ts c.args.self.now c.binds.new.self c.body-in-With.new.self last c.in-With.field-0 c.in-With.binds c.in-With.body
     (subst (λ (bs : List Bind). AddsBinds ts bs c.args.self.now c.binds.new.self) c.deref-in-With.ensures.value c.in_ok-binds-in-With.ensures)
     (subst (λ (ys : List Stmt). Adds c.binds.new.self c.body-in-With.new.self (names_in (statements_at ts ys))) c.deref-in-With-2.ensures.value c.in_ok-body-in-With.ensures)
-    refl (c.truncate.ensures ∙ ap (λ (k : ℕ). take k c.body-in-With.new.self.bound) c.len-around.ensures))
+    refl refl (c.truncate.ensures ∙ ap (λ (k : ℕ). take k c.body-in-With.new.self.bound) c.len-around.ensures))
 
 pub stmt-returns-in_ok-body-in-While : goal.stmt-returns-in_ok-body-in-While
 stmt-returns-in_ok-body-in-While t c =

@@ -34,7 +34,7 @@ expr-returns t c =
     (subst (λ (k : Entry). Adds c.args.self.now c.form.new.self (own_names k.form k.place)) c.node.view_is c.in_ok-form.ensures)
     (subst (λ (m : Form). AddsParts c.form.new.self c.parts.new.self (used_by_parts (seen_names m) (trees_at c.args.pool.now n.parts))) f
     (subst (λ (ids : List ℕ). AddsParts c.form.new.self c.parts.new.self (used_by_parts (seen_names (form_of c.node.inside.form)) (trees_at c.args.pool.now ids))) parts c.in_ok-parts.ensures))
-    refl (c.truncate.ensures ∙ ap (λ (k : ℕ). take k c.parts.new.self.bound) c.len-around.ensures)
+    refl refl (c.truncate.ensures ∙ ap (λ (k : ℕ). take k c.parts.new.self.bound) c.len-around.ensures)
 
 pub parts-loop-i-init : goal.parts-loop-i-init
 parts-loop-i-init t c = parts_start c.args.self.now (form_of c.args.form.now) c.args.pool.now c.args.parts.now
@@ -48,7 +48,7 @@ pub parts-loop-i-preserved : goal.parts-loop-i-preserved
 parts-loop-i-preserved t c =
     let e = slice_index_or c.args.parts.now c.loop-i.i 0 in
     parts_more c.args.self.now c.loop-i.self c.expr.new.self _ (form_of c.args.form.now) c.args.pool.now c.args.parts.now c.loop-i.i e (get_or_default c.args.parts.now c.loop-i.i 0 e c.loop-i-test.true) c.loop-i-test.true
-    c.requires.shaped c.in_ok-expr.ensures refl c.in_ok-add_next.ensures c.loop-i.invariant
+    c.requires.shaped c.in_ok-expr.ensures refl refl c.in_ok-add_next.ensures c.loop-i.invariant
 
 pub parts-returns : goal.parts-returns
 parts-returns t c = parts_done c.args.self.now c.loop-i.self (form_of c.args.form.now) c.args.pool.now c.args.parts.now c.loop-i.i c.loop-i-test.false c.loop-i.invariant
