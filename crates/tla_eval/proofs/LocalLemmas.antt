@@ -1,15 +1,15 @@
 -- The names of a LET, each seen by those behind it.
-use Rattle.std.proofs.Common.{◌≡◌, ℕ, suc, zero, ◌+◌, ◌<◌, ◌≤◌, List, [], ◌∷◌, ◌++◌, length, refl, sym, ap, ◌∙◌, subst, arith, get_or, drop, add-one, Ok, Err}
+use Rattle.std.proofs.Common.{◌≡◌, ℕ, suc, zero, ◌+◌, ◌<◌, List, [], ◌∷◌, ◌++◌, length, refl, sym, ap, ◌∙◌, subst, arith, get_or, drop, add-one, Ok}
 use Rattle.std.proofs.Math.Seq.{drop-cons}
 use Rattle.std.proofs.Math.ListN.{drop_of_length-le}
 use Rattle.tla_token.specs.declared.place.Place.{Place}
 use Rattle.tla_tree.specs.Tree.{Name, Tree}
 use Rattle.tla_value.specs.declared.stop.EvalStop.{EvalStop}
 use Rattle.tla_value.specs.Value.{Value, Outcome, ◌>>=◌}
-use Rattle.tla_value.specs.Meaning.{Env, Denotation, bind, local_value}
+use Rattle.tla_value.specs.Meaning.{Env, bind, local_value}
 use Rattle.value_forms.specs.Gives.{Stops}
-use Rattle.tla_eval.specs.Parts.{den, dens, value_at}
-use Rattle.tla_eval.specs.Scopes.{with_locals}
+use Rattle.tla_eval.specs.Parts.{dens, value_at}
+use Rattle.eval_scopes.specs.Scopes.{with_locals}
 use Rattle.value_forms.proofs.StopLaws.{then_stops}
 
 pub locals_none : (xs : List Name) (env : Env) → with_locals xs [] env ≡ env

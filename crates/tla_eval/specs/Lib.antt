@@ -1,13 +1,3 @@
--- What code that evaluates expressions of a pool promises.
+-- What the evaluator promises, and how much there is for it to do.
 pub mod Parts
-pub mod Forms
-pub mod Visits
-pub mod Scopes
-pub mod Contexts
 pub mod Work
-pub mod HeldOf
-pub mod GatheredOf
-pub mod Operands
-pub mod Standards
-pub mod Tested
-pub mod TestsBy

@@ -1,6 +1,6 @@
 -- How much there is to do for a tree: its nodes and the names that they bind, with room for the functions between; and for definitions.
-use Rattle.std.specs.Prelude.{ℕ, zero, suc, ◌+◌, List, [], ◌∷◌, Option, Some, None, length, slice_get}
-use Rattle.tla_tree.specs.Tree.{Name, Form, binding, local, Tree, node, Trees, no_trees, tree}
+use Rattle.std.specs.Prelude.{ℕ, zero, suc, ◌+◌, List, Option, Some, None, slice_get}
+use Rattle.tla_tree.specs.Tree.{Tree, node, Trees, no_trees, tree}
 use Rattle.tla_tree.specs.Pool.{at}
 use Rattle.tla_value.specs.declared.names.Definition.{Definition as Kept}
 

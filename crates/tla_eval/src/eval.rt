@@ -9,25 +9,29 @@ ghost use Rattle.tla_value.specs.Limits.{bounded};
 ghost use Rattle.tla_value.specs.Definitions.{scope_of, no_state, with_definitions};
 ghost use Rattle.tla_value.specs.Defs.{definitions_at, DefinitionsIn};
 ghost use Rattle.tla_value.specs.Meaning.{part_values, meaning_of, value_of, bound_value, local_value, first_arm, test as is_true};
-ghost use Rattle.tla_eval.specs.Scopes.{seen_of, with_locals};
-ghost use Rattle.tla_eval.specs.Contexts.{env_of, outside, use_of, IsWithin};
+ghost use Rattle.eval_scopes.specs.Scopes.{seen_of, with_locals};
+ghost use Rattle.eval_scopes.specs.Contexts.{env_of, outside, use_of, IsWithin};
 ghost use Rattle.tla_eval.specs.Parts.{den, dens, value_at};
-ghost use Rattle.tla_eval.specs.Forms.{connective_form};
-ghost use Rattle.tla_eval.specs.Visits.{visited, chosen, unbound, body_at};
-ghost use Rattle.tla_eval.specs.GatheredOf.{gathered_of};
+ghost use Rattle.eval_steps.specs.Forms.{connective_form};
+ghost use Rattle.eval_visits.specs.Visits.{visited, body_at};
+ghost use Rattle.eval_scopes.specs.Choices.{chosen, unbound};
+ghost use Rattle.eval_visits.specs.GatheredOf.{gathered_of};
 ghost use Rattle.value_forms.specs.Gives.{Gives, Tells};
 
-use crate::context::{Context, next_named, outer_named, seen_latest, stopped};
-use crate::forms::{
+use eval_operators::member::{TestBy, test_of};
+use eval_operators::standard::undefined;
+use eval_operators::strict::make;
+use eval_operators::tests::{in_sequences, in_standard, in_strict, is_text};
+use eval_scopes::context::{Context, next_named, outer_named, seen_latest, stopped};
+use eval_scopes::got::{Got, all_taken};
+use eval_scopes::scope::{OverName, Scope};
+use eval_steps::answers::with_answer;
+use eval_steps::forms::{
     Connective, left_alone, misshapen, no_arm, number, pair, text, triple, truth_values,
 };
-use crate::got::{Got, all_taken};
-use crate::member::{TestBy, test_of};
-use crate::scope::{OverName, Scope};
-use crate::standard::undefined;
-use crate::strict::make;
-use crate::tests::{in_sequences, in_standard, in_strict, is_text};
-use crate::visits::{Gathered, begun, over_sets, whole, with_row};
+use eval_visits::gathered::{Gathered, begun};
+use eval_visits::visits::{over_sets, whole};
+use eval_visits::walk::{first_choice, next_choice};
 use std::alloc::Global;
 use tla_pool::Pool;
 use tla_pool::form::Form;
@@ -349,8 +353,9 @@ fn visit<'x, N: Names>(
 {
     let mut gathered = gathered;
     let mut left = Vec::new(alloc);
-    if names.is_empty() {
-        return at_choice(
+    let mut more = first_choice(names, &mut left)?;
+    while more {
+        gathered = at_choice(
             alloc,
             &*cx,
             binder,
@@ -360,30 +365,8 @@ fn visit<'x, N: Names>(
             left.as_slice(),
             &*scope,
             gathered,
-        );
-    }
-    left.push(0)?;
-    while let Some(next) = left.pop() {
-        let here = left.len();
-        let over = &names[here];
-        if next < over.members.len() {
-            left.push(next + 1)?;
-            if here + 1 == names.len() {
-                gathered = at_choice(
-                    alloc,
-                    &*cx,
-                    binder,
-                    place,
-                    body,
-                    &*names,
-                    left.as_slice(),
-                    &*scope,
-                    gathered,
-                )?;
-            } else {
-                left.push(0)?;
-            }
-        }
+        )?;
+        more = next_choice(names, &mut left)?;
     }
     Ok(gathered)
 }
@@ -406,8 +389,8 @@ fn at_choice<'x, N: Names>(
     ensures { Gives gathered_of result (visited (gathered_of gathered) [] (body_at binder place (den cx.now.pool.now body)) (chosen names.now left.now (unbound (env_of N.look cx.now scope.now)))) }
 {
     let inner = Scope::Choice(&*names, &*left, &*scope);
-    let v = valued(alloc, &*cx, body, &inner)?;
-    with_row(alloc, binder, place, gathered, &*names, &*left, v)
+    let answer = valued(alloc, &*cx, body, &inner);
+    with_answer(alloc, binder, place, gathered, &*names, &*left, answer)
 }
 
 // The value of a `LET`: its right sides in order, each seen by those behind it, and then its body.

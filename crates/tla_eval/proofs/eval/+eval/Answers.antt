@@ -1,9 +1,9 @@
 -- Proves what is asked of the evaluator.
-use Rattle.std.proofs.Common.{rules, ◌≡◌, ◌∙◌, sym, refl, ap, subst, arith, length, get_or, take, drop, Some, None, ◌+◌, ◌-◌, ◌<◌, ◌≤◌, ◌++◌, [], ◌∷◌, List, suc, zero, add-one, length-append, Ok, true, false}
+use Rattle.std.proofs.Common.{rules, ◌≡◌, ◌∙◌, sym, ap, subst, arith, length, get_or, take, drop, ◌+◌, ◌-◌, ◌≤◌, [], ◌∷◌, suc, length-append, Ok, true, false}
 use Rattle.std.specs.Prelude.{slice_get}
 use Rattle.std.specs.Option.{option_copied}
 use Rattle.tla_token.specs.Places.{nowhere}
-use Rattle.tla_tree.specs.Tree.{Word, Name, node}
+use Rattle.tla_tree.specs.Tree.{Name, node}
 use Rattle.tla_tree.specs.Pool.{Entry, at, tree_in, trees_at, AllBelow}
 use Rattle.tla_tree.specs.Shapes.{Shaped, StrictShaped}
 use Rattle.tla_tree.proofs.PoolNumbers.{AllBelow-at, AllBelow-more}
@@ -11,21 +11,25 @@ use Rattle.tla_pool.specs.FormOf.{form_of, groups_of, strict_of}
 use Rattle.tla_value.specs.Limits.{bounded}
 use Rattle.tla_value.specs.Value.{Value, truth}
 use Rattle.tla_value.specs.Definitions.{at_use}
-use Rattle.tla_value.specs.Meaning.{eval, meaning_of, part_values, local_value, first_arm}
-use Rattle.value_forms.specs.Gives.{Tells, Stops}
+use Rattle.tla_value.specs.Meaning.{eval, meaning_of, local_value, first_arm}
+use Rattle.value_forms.specs.Gives.{Gives, Tells, Stops}
 use Rattle.value_forms.proofs.StopLaws.{tells_err, err_is, then_stops, then_later, tells_then}
 use Rattle.tla_eval.specs.Parts.{den, dens, value_at}
-use Rattle.tla_eval.specs.GatheredOf.{gathered_of}
-use Rattle.tla_eval.specs.Visits.{visited, start, over_sets, under, here, chosen, members_of_choice, turns_left, body_at, unbound}
-use Rattle.tla_eval.specs.Scopes.{with_locals, with_words, seen_of}
-use Rattle.tla_eval.specs.Contexts.{env_of, outside, seen_env, use_of}
+use Rattle.eval_visits.specs.GatheredOf.{gathered_of}
+use Rattle.eval_visits.specs.Visits.{visited, over_sets, choice_turns, body_at}
+use Rattle.eval_visits.specs.Gathered.{start}
+use Rattle.eval_scopes.specs.Choices.{chosen, members_of_choice, unbound}
+use Rattle.eval_scopes.specs.Scopes.{with_locals, with_words, seen_of}
+use Rattle.eval_scopes.specs.Contexts.{env_of, outside, seen_env, use_of}
 use Rattle.tla_eval.specs.Work.{work, body_work, defs_work}
-use Rattle.tla_eval.proofs.ScopeLemmas.{choice_members}
-use Rattle.tla_eval.proofs.ContextLemmas.{last_below, work_grows, used_work, used_value, used_wrongly, definition_in}
-use Rattle.tla_eval.proofs.NameLemmas.{bound_name, defined_name, outer_name, primed_name, defined_call, outer_call, call_tells}
-use Rattle.tla_eval.proofs.FormLemmas.{arm_passed, arm_stops, last_wrong}
-use Rattle.tla_eval.proofs.WalkLemmas.{walk_done, walk_asked, walk_stopped, walk_down, turns_next, turns_done, turns_down}
-use Rattle.tla_eval.proofs.EvalLemmas.{node_work, works-at, take_below, take_works, take_count, values_count, bound_parts, bound_shaped, choice_gathers}
+use Rattle.eval_scopes.proofs.ScopeLemmas.{choice_members}
+use Rattle.eval_scopes.proofs.ContextLemmas.{last_below, used_value, used_wrongly, definition_in}
+use Rattle.tla_eval.proofs.WorkLemmas.{work_grows, used_work}
+use Rattle.eval_scopes.proofs.NameLemmas.{bound_name, defined_name, outer_name, primed_name, defined_call, outer_call}
+use Rattle.tla_eval.proofs.CaseLemmas.{arm_passed, arm_stops, last_wrong}
+use Rattle.eval_visits.proofs.WalkLemmas.{choice_visits, choice_stops, no_choice_left}
+use Rattle.tla_eval.proofs.EvalLemmas.{call_tells, node_work, works-at, take_below, take_works, take_count, values_count, bound_parts}
+use Rattle.eval_visits.proofs.VisitLemmas.{choice_gathers}
 use Rattle.tla_eval.proofs.LocalLemmas.{locals_none, locals_push, local_step, local_stop, same_got}
 use Rattle.tla_eval.proofs.eval.+eval.Goals as goal
 
@@ -61,9 +65,9 @@ member-in_form-requires g t c κs within =
 
 pub at_choice-returns : goal.at_choice-returns
 at_choice-returns g t c =
-    let s = chosen c.args.names.now c.args.left.now (unbound (env_of g.N.Names.look c.args.cx.now c.args.scope.now)) in
-    choice_gathers c.with_row.result c.args.binder c.args.place (den c.args.cx.now.pool.now c.args.body) (gathered_of c.args.gathered) s (members_of_choice c.args.names.now c.args.left.now) c.in_ok-v.v c.in_ok-v.ensures
-    (choice_members c.args.names.now c.args.left.now (unbound (env_of g.N.Names.look c.args.cx.now c.args.scope.now))) c.with_row.ensures
+    let env = unbound (env_of g.N.Names.look c.args.cx.now c.args.scope.now) in let s = chosen c.args.names.now c.args.left.now env in let d = den c.args.cx.now.pool.now c.args.body in
+    subst (Gives gathered_of c.with_answer.result) (choice_gathers c.args.binder c.args.place d (gathered_of c.args.gathered) s (members_of_choice c.args.names.now c.args.left.now) (choice_members c.args.names.now c.args.left.now env))
+    (c.with_answer.ensures (d s.0).value c.valued-answer.ensures)
 
 pub bound-values-requires : goal.bound-values-requires
 bound-values-requires g t c κs within =
@@ -292,100 +296,33 @@ used-returns-in-Err g t c =
     ∙ ap (λ l. at_use d.outside c.args.place (eval bounded (at ts d.body) (with_words l vs (seen_env ts ds k env))).value) (sym c.as_slice.ensures)))
     (c.stopped.ensures _ c.in-Err.ensures)
 
-pub visit-loop-next-preserved : goal.visit-loop-next-preserved
-visit-loop-next-preserved g t c =
-    let names = c.args.names.now in let P = c.pop.new.self.items in let next = c.in-Some.next in let env = unbound (env_of g.N.Names.look c.args.cx.now c.args.scope.now) in
-    let b = c.args.binder in let go = body_at b c.args.place (den c.args.cx.now.pool.now c.args.body) in let f = gathered_of c.loop-next.gathered in
-    let o = c.index-names-here.result in
+pub visit-loop-more-init : goal.visit-loop-more-init
+visit-loop-more-init g t c =
+    let env = unbound (env_of g.N.Names.look c.args.cx.now c.args.scope.now) in let go = body_at c.args.binder c.args.place (den c.args.cx.now.pool.now c.args.body) in
+    let first = c.in_ok-more.ensures in
+    (first.0, first.1 (gathered_of c.args.gathered) go env)
+
+pub visit-loop-more-preserved : goal.visit-loop-more-preserved
+visit-loop-more-preserved g t c =
+    let names = c.args.names.now in let left = c.loop-more.left.items in let env = unbound (env_of g.N.Names.look c.args.cx.now c.args.scope.now) in
+    let go = body_at c.args.binder c.args.place (den c.args.cx.now.pool.now c.args.body) in let f = gathered_of c.loop-more.gathered in let h = gathered_of c.in_ok-gathered.gathered in
     let all = visited (gathered_of c.args.gathered) names go env in
-    let at_P : c.len-here.result ≡ length P = omega (arith, c.len-here.ensures) in
-    let is : o ≡ get_or names (length P) o = subst (λ n. o ≡ get_or names n o) at_P c.index-names-here.is in
-    let many : length o.1 ≡ c.len.result = omega (arith, ap (λ (p : Word × List Value). length p.1) c.over.view_is, c.len.ensures) in
-    let lt : length P < length names = omega (arith, c.loop-next.invariant.0, ap length c.in-Some.ensures.items, length-append P (next ∷ [])) in
-    let inv = subst (λ l. under go names l env (here f) ≡ all) c.in-Some.ensures.items c.loop-next.invariant.1 in
-    (omega (arith, lt), walk_done go names P next env f o all lt is (omega (arith, many, c.if-next-len.false)) inv)
+    let asked = subst (λ l. visited f [] go (chosen names l env) ≡ Ok h) c.as_slice.ensures.value c.in_ok-gathered.ensures in
+    let next = c.in_ok-more-2.ensures in
+    (next.0, next.1.1 h go env ∙ choice_visits c.loop-more.more go names left env f h all c.loop-more-test.true c.loop-more.invariant.0 asked c.loop-more.invariant.1)
 
-pub visit-loop-next-smaller : goal.visit-loop-next-smaller
-visit-loop-next-smaller g t c =
-    let names = c.args.names.now in let P = c.pop.new.self.items in let next = c.in-Some.next in
-    let o = c.index-names-here.result in
-    let at_P : c.len-here.result ≡ length P = omega (arith, c.len-here.ensures) in
-    let is : o ≡ get_or names (length P) o = subst (λ n. o ≡ get_or names n o) at_P c.index-names-here.is in
-    let lt : length P < length names = omega (arith, c.loop-next.invariant.0, ap length c.in-Some.ensures.items, length-append P (next ∷ [])) in
-    subst (λ l. turns_left names P < turns_left names l) (sym c.in-Some.ensures.items) (turns_done names P next o lt is)
+pub visit-loop-more-smaller : goal.visit-loop-more-smaller
+visit-loop-more-smaller g t c = omega (arith, c.in_ok-more-2.ensures.1.0, ap (λ b. choice_turns b c.args.names.now c.loop-more.left.items) c.loop-more-test.true)
 
-pub visit-loop-next-preserved-then-here-names : goal.visit-loop-next-preserved-then-here-names
-visit-loop-next-preserved-then-here-names g t c =
-    let names = c.args.names.now in let P = c.pop.new.self.items in let next = c.in-Some.next in let env = unbound (env_of g.N.Names.look c.args.cx.now c.args.scope.now) in
-    let b = c.args.binder in let go = body_at b c.args.place (den c.args.cx.now.pool.now c.args.body) in let f = gathered_of c.loop-next.gathered in
-    let h = gathered_of c.in_ok-gathered.gathered in
-    let o = c.index-names-here.result in
-    let all = visited (gathered_of c.args.gathered) names go env in
-    let at_P : c.len-here.result ≡ length P = omega (arith, c.len-here.ensures) in
-    let is : o ≡ get_or names (length P) o = subst (λ n. o ≡ get_or names n o) at_P c.index-names-here.is in
-    let many : length o.1 ≡ c.len.result = omega (arith, ap (λ (p : Word × List Value). length p.1) c.over.view_is, c.len.ensures) in
-    let whole : suc (length P) ≡ length names = omega (arith, at_P, c.if-here-names.true) in
-    let Q : c.push-then-next-len.new.self.items ≡ P ++ suc next ∷ [] = c.in_ok-push-2.ensures.items ∙ ap (λ n. P ++ n ∷ []) (add-one next) in
-    let inv = subst (λ l. under go names l env (here f) ≡ all) c.in-Some.ensures.items c.loop-next.invariant.1 in
-    let asked = subst (λ l. visited f [] go (chosen names l env) ≡ Ok h) (c.as_slice-then-here-names.ensures.value ∙ Q) c.in_ok-gathered.ensures in (
-      omega (arith, whole, ap length Q, length-append P (suc next ∷ [])),
-      subst (λ l. under go names l env (here h) ≡ all) (sym Q) (walk_asked go names P next env f h o (get_or o.1 next nothing) all whole is (omega (arith, many, c.if-next-len.true)) asked inv),
-    )
-
-pub visit-loop-next-smaller-then-here-names : goal.visit-loop-next-smaller-then-here-names
-visit-loop-next-smaller-then-here-names g t c =
-    let names = c.args.names.now in let P = c.pop.new.self.items in let next = c.in-Some.next in
-    let o = c.index-names-here.result in
-    let at_P : c.len-here.result ≡ length P = omega (arith, c.len-here.ensures) in
-    let is : o ≡ get_or names (length P) o = subst (λ n. o ≡ get_or names n o) at_P c.index-names-here.is in
-    let many : length o.1 ≡ c.len.result = omega (arith, ap (λ (p : Word × List Value). length p.1) c.over.view_is, c.len.ensures) in
-    let lt : length P < length names = omega (arith, c.loop-next.invariant.0, ap length c.in-Some.ensures.items, length-append P (next ∷ [])) in
-    let Q : c.push-then-next-len.new.self.items ≡ P ++ suc next ∷ [] = c.in_ok-push-2.ensures.items ∙ ap (λ n. P ++ n ∷ []) (add-one next) in
-    let fewer : turns_left names (P ++ suc next ∷ []) < turns_left names (P ++ next ∷ []) = omega (arith, turns_next names P next o lt is (omega (arith, many, c.if-next-len.true))) in
-    subst (λ l. turns_left names c.push-then-next-len.new.self.items < turns_left names l) (sym c.in-Some.ensures.items) (subst (λ l. turns_left names l < turns_left names (P ++ next ∷ [])) (sym Q) fewer)
-
-pub visit-loop-next-preserved-in-Continue-branch-4 : goal.visit-loop-next-preserved-in-Continue-branch-4
-visit-loop-next-preserved-in-Continue-branch-4 g t c =
-    let names = c.args.names.now in let P = c.pop.new.self.items in let next = c.in-Some.next in let env = unbound (env_of g.N.Names.look c.args.cx.now c.args.scope.now) in
-    let b = c.args.binder in let go = body_at b c.args.place (den c.args.cx.now.pool.now c.args.body) in let f = gathered_of c.loop-next.gathered in
-    let o = c.index-names-here.result in
-    let all = visited (gathered_of c.args.gathered) names go env in
-    let at_P : c.len-here.result ≡ length P = omega (arith, c.len-here.ensures) in
-    let is : o ≡ get_or names (length P) o = subst (λ n. o ≡ get_or names n o) at_P c.index-names-here.is in
-    let many : length o.1 ≡ c.len.result = omega (arith, ap (λ (p : Word × List Value). length p.1) c.over.view_is, c.len.ensures) in
-    let lt : length P < length names = omega (arith, c.loop-next.invariant.0, ap length c.in-Some.ensures.items, length-append P (next ∷ [])) in
-    let more : suc (length P) < length names = omega (arith, lt, at_P, c.if-here-names.false) in
-    let Q : c.push-then-next-len.new.self.items ≡ P ++ suc next ∷ [] = c.in_ok-push-2.ensures.items ∙ ap (λ n. P ++ n ∷ []) (add-one next) in
-    let R : c.push-else-here-names.new.self.items ≡ (P ++ suc next ∷ []) ++ zero ∷ [] = c.in_ok-push-3.ensures.items ∙ ap (λ l. l ++ zero ∷ []) Q in
-    let inv = subst (λ l. under go names l env (here f) ≡ all) c.in-Some.ensures.items c.loop-next.invariant.1 in (
-      omega (arith, more, ap length R, length-append (P ++ suc next ∷ []) (zero ∷ []), length-append P (suc next ∷ [])),
-      subst (λ l. under go names l env (here f) ≡ all) (sym R) (walk_down go names P next env f o (get_or o.1 next nothing) all more is (omega (arith, many, c.if-next-len.true)) inv),
-    )
-
-pub visit-loop-next-smaller-in-Continue-branch-4 : goal.visit-loop-next-smaller-in-Continue-branch-4
-visit-loop-next-smaller-in-Continue-branch-4 g t c =
-    let names = c.args.names.now in let P = c.pop.new.self.items in let next = c.in-Some.next in
-    let o = c.index-names-here.result in
-    let at_P : c.len-here.result ≡ length P = omega (arith, c.len-here.ensures) in
-    let is : o ≡ get_or names (length P) o = subst (λ n. o ≡ get_or names n o) at_P c.index-names-here.is in
-    let many : length o.1 ≡ c.len.result = omega (arith, ap (λ (p : Word × List Value). length p.1) c.over.view_is, c.len.ensures) in
-    let lt : length P < length names = omega (arith, c.loop-next.invariant.0, ap length c.in-Some.ensures.items, length-append P (next ∷ [])) in
-    let more : suc (length P) < length names = omega (arith, lt, at_P, c.if-here-names.false) in
-    let Q : c.push-then-next-len.new.self.items ≡ P ++ suc next ∷ [] = c.in_ok-push-2.ensures.items ∙ ap (λ n. P ++ n ∷ []) (add-one next) in
-    let R : c.push-else-here-names.new.self.items ≡ (P ++ suc next ∷ []) ++ zero ∷ [] = c.in_ok-push-3.ensures.items ∙ ap (λ l. l ++ zero ∷ []) Q in
-    subst (λ l. turns_left names c.push-else-here-names.new.self.items < turns_left names l) (sym c.in-Some.ensures.items) (subst (λ l. turns_left names l < turns_left names (P ++ next ∷ [])) (sym R) (turns_down names P next o more is (omega (arith, many, c.if-next-len.true))))
+pub visit-returns : goal.visit-returns
+visit-returns g t c =
+    let go = body_at c.args.binder c.args.place (den c.args.cx.now.pool.now c.args.body) in
+    no_choice_left c.loop-more.more go c.args.names.now c.loop-more.left.items _ (gathered_of c.loop-more.gathered) _ c.loop-more-test.false c.loop-more.invariant.1
 
 pub visit-returns-in_err-gathered : goal.visit-returns-in_err-gathered
 visit-returns-in_err-gathered g t c =
-    let names = c.args.names.now in let P = c.pop.new.self.items in let next = c.in-Some.next in let env = unbound (env_of g.N.Names.look c.args.cx.now c.args.scope.now) in
-    let b = c.args.binder in let go = body_at b c.args.place (den c.args.cx.now.pool.now c.args.body) in let f = gathered_of c.loop-next.gathered in
-    let o = c.index-names-here.result in let s = c.in_err-gathered.field-0.0 in
+    let names = c.args.names.now in let left = c.loop-more.left.items in let env = unbound (env_of g.N.Names.look c.args.cx.now c.args.scope.now) in
+    let go = body_at c.args.binder c.args.place (den c.args.cx.now.pool.now c.args.body) in let f = gathered_of c.loop-more.gathered in let s = c.in_err-gathered.field-0.0 in
     let all = visited (gathered_of c.args.gathered) names go env in
-    let at_P : c.len-here.result ≡ length P = omega (arith, c.len-here.ensures) in
-    let is : o ≡ get_or names (length P) o = subst (λ n. o ≡ get_or names n o) at_P c.index-names-here.is in
-    let many : length o.1 ≡ c.len.result = omega (arith, ap (λ (p : Word × List Value). length p.1) c.over.view_is, c.len.ensures) in
-    let whole : suc (length P) ≡ length names = omega (arith, at_P, c.if-here-names.true) in
-    let Q : c.push-then-next-len.new.self.items ≡ P ++ suc next ∷ [] = c.in_ok-push-2.ensures.items ∙ ap (λ n. P ++ n ∷ []) (add-one next) in
-    let inv = subst (λ l. under go names l env (here f) ≡ all) c.in-Some.ensures.items c.loop-next.invariant.1 in
-    let stopped = subst (λ l. Stops s (visited f [] go (chosen names l env))) (c.as_slice-then-here-names.ensures.value ∙ Q) c.in_err-gathered.ensures in
-    err_is gathered_of c.from_residual-in_err-gathered.result s all c.from_residual-in_err-gathered.ensures (walk_stopped go names P next env f o (get_or o.1 next nothing) all s whole is (omega (arith, many, c.if-next-len.true)) stopped inv)
+    let stopped = subst (λ l. Stops s (visited f [] go (chosen names l env))) c.as_slice.ensures.value c.in_err-gathered.ensures in
+    err_is gathered_of c.from_residual-in_err-gathered.result s all c.from_residual-in_err-gathered.ensures (choice_stops c.loop-more.more go names left env f all s c.loop-more-test.true c.loop-more.invariant.0 stopped c.loop-more.invariant.1)

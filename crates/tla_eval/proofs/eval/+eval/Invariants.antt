@@ -1,14 +1,15 @@
 -- The measures of the evaluator, and what its loops keep.
-use Rattle.std.proofs.Common.{◌≡◌, ◌≤◌, ◌+◌, ◌-◌, suc, drop, length}
+use Rattle.std.proofs.Common.{◌≡◌, ◌≤◌, ◌+◌, ◌-◌, suc, true, drop, length}
 use Rattle.tla_tree.specs.Pool.{at, trees_at}
 use Rattle.tla_value.specs.Meaning.{part_values, local_value, first_arm}
 use Rattle.value_forms.proofs.StopLaws.{behind}
 use Rattle.tla_eval.specs.Work.{work, works, defs_work}
-use Rattle.tla_eval.specs.Scopes.{seen_of, with_locals}
-use Rattle.tla_eval.specs.Contexts.{env_of}
+use Rattle.eval_scopes.specs.Scopes.{seen_of, with_locals}
+use Rattle.eval_scopes.specs.Contexts.{env_of}
 use Rattle.tla_eval.specs.Parts.{den, dens}
-use Rattle.tla_eval.specs.Visits.{visited, under, here, turns_left, body_at, unbound}
-use Rattle.tla_eval.specs.GatheredOf.{gathered_of}
+use Rattle.eval_visits.specs.Visits.{visited, from_choice, choice_turns, body_at}
+use Rattle.eval_scopes.specs.Choices.{unbound}
+use Rattle.eval_visits.specs.GatheredOf.{gathered_of}
 use Rattle.tla_eval.proofs.eval.+eval.Given as goal
 
 abbrev pub decreases-valued : goal.decreases-valued
@@ -80,10 +81,10 @@ abbrev pub invariant-locals-loop-i : goal.invariant-locals-loop-i
 invariant-locals-loop-i g l =
     (length l.values.items ≡ l.i) × (local_value l.fn.place (drop l.i l.names) (dens l.cx.pool.now (drop l.i l.parts)) (with_locals l.names l.values.items (env_of g.N.Names.look l.cx l.scope)) ≡ local_value l.fn.place l.names (dens l.cx.pool.now l.parts) (env_of g.N.Names.look l.cx l.scope))
 
-abbrev pub invariant-visit-loop-next : goal.invariant-visit-loop-next
-invariant-visit-loop-next g l =
-    (length l.left.items ≤ length l.names)
-    × (under (body_at l.binder l.place (den l.cx.pool.now l.body)) l.names l.left.items (unbound (env_of g.N.Names.look l.cx l.scope)) (here (gathered_of l.gathered)) ≡ visited (gathered_of l.fn.gathered) l.names (body_at l.binder l.place (den l.cx.pool.now l.body)) (unbound (env_of g.N.Names.look l.cx l.scope)))
+abbrev pub invariant-visit-loop-more : goal.invariant-visit-loop-more
+invariant-visit-loop-more g l =
+    (l.more ≡ true → length l.left.items ≡ length l.names)
+    × (from_choice l.more (gathered_of l.gathered) (body_at l.binder l.place (den l.cx.pool.now l.body)) l.names l.left.items (unbound (env_of g.N.Names.look l.cx l.scope)) ≡ visited (gathered_of l.fn.gathered) l.names (body_at l.binder l.place (den l.cx.pool.now l.body)) (unbound (env_of g.N.Names.look l.cx l.scope)))
 
-abbrev pub decreases-visit-loop-next : goal.decreases-visit-loop-next
-decreases-visit-loop-next g l = turns_left l.names l.left.items
+abbrev pub decreases-visit-loop-more : goal.decreases-visit-loop-more
+decreases-visit-loop-more g l = choice_turns l.more l.names l.left.items

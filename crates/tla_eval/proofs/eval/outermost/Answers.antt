@@ -3,8 +3,8 @@ use Rattle.std.proofs.Common.{◌∙◌, sym, ap, subst, length, Ok}
 use Rattle.value_forms.specs.Gives.{Stops}
 use Rattle.value_forms.proofs.StopLaws.{tells_err}
 use Rattle.tla_eval.specs.Parts.{value_at}
-use Rattle.tla_eval.specs.Contexts.{outside, seen_env}
-use Rattle.tla_eval.proofs.ContextLemmas.{seen_all}
+use Rattle.eval_scopes.specs.Contexts.{outside, seen_env}
+use Rattle.eval_scopes.proofs.ContextLemmas.{seen_all}
 use Rattle.tla_eval.proofs.eval.outermost.Goals as goal
 
 pub returns-in_err-v : goal.returns-in_err-v

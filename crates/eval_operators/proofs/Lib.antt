@@ -1,0 +1,2 @@
+-- Sets that are tested by their members.
+pub mod ListedLemmas
