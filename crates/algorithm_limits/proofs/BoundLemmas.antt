@@ -1,5 +1,5 @@
 -- Names that are bound behind others.
-use Rattle.std.proofs.Common.{◌≡◌, ℕ, ◌+◌, ◌-◌, ◌<◌, ◌≤◌, Bool, true, false, ◌||◌, nat_eq, nat_lt, List, [], ◌∷◌, ◌++◌, length, take, drop, get_or, Vec, Global, refl, sym, ap, ◌∙◌, subst, arith, cond, append-nil, append_assoc, le-ltb, lt-ltb, ltb-true, ltb-false, eqb-true, eq-eqb, ne_eqb}
+use Rattle.std.proofs.Common.{◌≡◌, ℕ, zero, suc, ◌+◌, ◌-◌, ◌<◌, ◌≤◌, Bool, true, false, ◌||◌, nat_eq, nat_lt, List, [], ◌∷◌, ◌++◌, length, take, drop, get_or, Vec, Global, refl, sym, ap, ◌∙◌, subst, arith, cond, append-nil, append_assoc, le-ltb, lt-ltb, ltb-true, ltb-false, eqb-true, eq-eqb, ne_eqb}
 use Rattle.std.specs.Prelude.{if◌then◌else◌}
 use Rattle.std.specs.List.{list_any, flat_map}
 use Rattle.std.proofs.lemmas.List.{drop_more, drop_all, take_more, take_all, map-append, length-map}
@@ -45,9 +45,65 @@ hides_one old x = by (list_any (equal x) old) refl
     }
     by false e = record { more = x ∷ []; behind = refl; has = λ y. refl }
 
-pub none_bound : (hs : List Word) (x : Word) → length hs ≡ 0 → list_any (equal x) hs ≡ false
-none_bound [] x e = refl
-none_bound (h ∷ hs) x e = absurd (omega (arith, e))
+-- ---- names one by one
+
+pub none_more : (f : Word → Bool) (xs : List Word) (i : ℕ) (x : Word) → x ≡ get_or xs i x → i < length xs → list_any f (take i xs) ≡ false → f x ≡ false → list_any f (take (i + 1) xs) ≡ false
+none_more f xs i x e l h k =
+    ap (list_any f) (take_more xs i x l ∙ ap (λ (z : Word). take i xs ++ z ∷ []) (sym e)) ∙ list_any-append f (take i xs) (x ∷ []) ∙ (λ j. h j || (k j || false))
+
+pub found_at : (f : Word → Bool) (xs : List Word) (i : ℕ) (x : Word) → x ≡ get_or xs i x → i < length xs → f x ≡ true → true ≡ list_any f xs
+found_at f [] i x e l h = absurd (omega (arith, l))
+found_at f (y ∷ ys) zero x e l h = ap (λ (b : Bool). b || list_any f ys) (sym h ∙ ap f e)
+found_at f (y ∷ ys) (suc i) x e l h = or_true (f y) ∙ ap (λ (b : Bool). f y || b) (found_at f ys i x e (omega (arith, l)) h)
+  where
+    or_true : (b : Bool) → true ≡ (b || true)
+    or_true true = refl
+    or_true false = refl
+
+pub none_at_all : (f : Word → Bool) (xs : List Word) (i : ℕ) → length xs ≤ i → list_any f (take i xs) ≡ false → false ≡ list_any f xs
+none_at_all f xs i l h = sym h ∙ ap (list_any f) (take_all i xs l)
+
+-- ---- few names, and many behind them
+
+pub few_hides : (few many : List Word) (x : Word) → length many ≡ 0 → Hides (few ++ many) ((few ++ x ∷ []) ++ many) (x ∷ [])
+few_hides few [] x e = record {
+  more = x ∷ [];
+  behind = append-nil (few ++ x ∷ []) ∙ ap (λ (l : List Word). l ++ x ∷ []) (sym (append-nil few));
+  has = λ y. ap (list_any (equal y)) (append-nil (few ++ x ∷ []) ∙ ap (λ (l : List Word). l ++ x ∷ []) (sym (append-nil few)));
+}
+few_hides few (m ∷ many) x e = absurd (omega (arith, e))
+
+pub many_hides : (few many : List Word) (x : Word) → Hides (few ++ many) (few ++ insert_key equal many x) (x ∷ [])
+many_hides few many x =
+    let h = hides_one many x in record {
+      more = h.more;
+      behind = ap (λ (l : List Word). few ++ l) h.behind ∙ sym (append_assoc few many h.more);
+      has = λ y.
+          list_any-append (equal y) few (insert_key equal many x) ∙ ap (λ (b : Bool). list_any (equal y) few || b) (h.has y) ∙ sym (list_any-append (equal y) few (many ++ x ∷ []))
+          ∙ ap (list_any (equal y)) (sym (append_assoc few many (x ∷ [])));
+    }
+
+pub few_kept : (few many : List Word) (n : ℕ) → n ≤ length few → take n few ++ take 0 many ≡ take n (few ++ many)
+few_kept few many zero l = refl
+few_kept [] many (suc n) l = absurd (omega (arith, l))
+few_kept (x ∷ few) many (suc n) l = ap (λ (l : List Word). x ∷ l) (few_kept few many n (omega (arith, l)))
+
+pub many_kept : (few many : List Word) (n : ℕ) → length few ≤ n → few ++ take (n - length few) many ≡ take n (few ++ many)
+many_kept [] many n l = ap (λ (k : ℕ). take k many) (omega arith)
+many_kept (x ∷ few) many zero l = absurd (omega (arith, l))
+many_kept (x ∷ few) many (suc n) l =
+    let less : suc n - suc (length few) ≡ n - length few = omega arith in
+    ap (λ (k : ℕ). x ∷ (few ++ take k many)) less ∙ ap (λ (l : List Word). x ∷ l) (many_kept few many n (omega (arith, l)))
+
+pub has_few : (f : Word → Bool) (few many : List Word) → list_any f few ≡ true → true ≡ list_any f (few ++ many)
+has_few f few many h = ap (λ (b : Bool). b || list_any f many) (sym h) ∙ sym (list_any-append f few many)
+
+pub has_no_more : (f : Word → Bool) (few many : List Word) → list_any f few ≡ false → length many ≡ 0 → false ≡ list_any f (few ++ many)
+has_no_more f few [] h e = sym h ∙ ap (list_any f) (sym (append-nil few))
+has_no_more f few (m ∷ many) h e = absurd (omega (arith, e))
+
+pub has_many : (f : Word → Bool) (few many : List Word) → list_any f few ≡ false → list_any f many ≡ list_any f (few ++ many)
+has_many f few many h = ap (λ (b : Bool). b || list_any f many) (sym h) ∙ sym (list_any-append f few many)
 
 -- so the names that were bound first are those that were bound
 pub first_kept : (old new xs : List Word) → Hides old new xs → take (length old) new ≡ old

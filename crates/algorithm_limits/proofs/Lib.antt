@@ -7,6 +7,7 @@ pub mod Tables
 pub mod CallWalks
 pub mod BoundLemmas
 pub mod Greater
+pub mod LiteralLaws
 pub mod NestLaws
 pub mod DeepFound
 pub mod AllCounts

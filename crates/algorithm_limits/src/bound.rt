@@ -1,6 +1,6 @@
 //! Names that are bound around an expression.
 
-ghost use Rattle.std.specs.Prelude.{◌≡◌, ◌==◌, [], ◌∷◌, length, take, OnOk};
+ghost use Rattle.std.specs.Prelude.{◌≡◌, ◌==◌, ◌<◌, [], ◌∷◌, length, take, slice_get, Some, OnOk};
 ghost use Rattle.std.specs.List.{list_any, flat_map};
 ghost use Rattle.std.specs.Cmp.Lexicographic.{pointwise};
 ghost use Rattle.tla_tree.specs.Tree.{words};
@@ -13,21 +13,37 @@ use std::marker::Model;
 use tla_pool::form::Form;
 use tla_tree::{Name, PlacedName};
 
-/// Names that are bound. Contracts see the list of them, each once.
+// How many names are looked through one by one; those that come when there are as many are found by their hashes.
+const FEW: usize = 8;
+
+/// Names that are bound. Contracts see the list of them.
 #[derive(Drop)]
 pub struct Bound {
-    names: IndexSet<Name>,
+    few: Vec<Name>,
+    many: IndexSet<Name>,
 }
 
 impl Model for Bound {
-    ghost use Rattle.std.specs.Prelude.{ℕ, List};
+    ghost use Rattle.std.specs.Prelude.{ℕ, List, ◌++◌};
     ghost use Rattle.std.specs.Coded.{coded_list, coded_ℕ};
 
     ghost Value = { List (List ℕ) };
 
     ghost coded = { coded_list (coded_list coded_ℕ) };
 
-    ghost view = { λ b. b.names.keys };
+    ghost view = { λ b. b.few.items ++ b.many.keys };
+}
+
+// Whether a name is one of these.
+fn is_among(names: &[Name], name: &Name) -> bool
+    ensures { result ≡ list_any (pointwise ◌==◌ name.now) names.now }
+{
+    for i in 0..names.len() {
+        if *name == names[i] {
+            return true;
+        }
+    }
+    false
 }
 
 impl Bound {
@@ -36,7 +52,8 @@ impl Bound {
         ensures { result ≡ [] }
     {
         Bound {
-            names: IndexSet::new(alloc),
+            few: Vec::new(alloc),
+            many: IndexSet::new(alloc),
         }
     }
 
@@ -44,18 +61,32 @@ impl Bound {
     pub fn len(&self) -> usize
         ensures { result ≡ length self.now }
     {
-        self.names.len()
+        self.few.len() + self.many.len()
+    }
+
+    /// The name that was bound with so many before it.
+    pub fn at(&self, at: usize) -> &Name
+        requires { at < length self.now }
+        ensures { slice_get self.now at ≡ Some result.now }
+    {
+        let few = self.few.len();
+        if at < few {
+            return &self.few[at];
+        }
+        self.many.get_index(at - few).unwrap()
     }
 
     /// Whether a name is bound.
-    #[tactic(auto, using(crate::proofs::BoundLemmas::none_bound))]
     pub fn has(&self, name: &Name) -> bool
         ensures { result ≡ list_any (pointwise ◌==◌ name.now) self.now }
     {
-        if self.names.len() == 0 {
+        if is_among(&self.few, name) {
+            return true;
+        }
+        if self.many.len() == 0 {
             return false;
         }
-        self.names.contains(name)
+        self.many.contains(name)
     }
 
     /// Binds one more name.
@@ -63,11 +94,14 @@ impl Bound {
     /// # Errors
     ///
     /// Only for want of memory.
-    #[tactic(auto, using(crate::proofs::BoundLemmas::hides_one))]
     pub fn add(&mut self, name: &Name) -> Result<(), AllocError>
         ensures { OnOk result (Hides self.old self.new (name.now ∷ [])) }
     {
-        self.names.insert(name.copied()?)?;
+        if self.many.len() == 0 && self.few.len() < FEW {
+            self.few.push(name.copied()?)?;
+        } else {
+            self.many.insert(name.copied()?)?;
+        }
         Ok(())
     }
 
@@ -132,6 +166,15 @@ impl Bound {
     pub fn truncate(&mut self, len: usize)
         ensures { self.new ≡ take len self.old }
     {
-        self.names.truncate(len);
+        if self.len() <= len {
+            return;
+        }
+        let few = self.few.len();
+        if len <= few {
+            self.few.truncate(len);
+            self.many.truncate(0);
+        } else {
+            self.many.truncate(len - few);
+        }
     }
 }

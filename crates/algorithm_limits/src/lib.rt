@@ -6,6 +6,7 @@ pub mod chains;
 pub mod count;
 pub mod labels;
 pub mod limits;
+pub mod literal;
 pub mod names;
 pub mod nesting;
 pub mod order;

@@ -14,7 +14,9 @@ use Rattle.tla_tree.specs.Pool.{Entry, at, trees_at, tree_in}
 use Rattle.pcal_tree.specs.Algorithm.{Name}
 use Rattle.pcal_tree.specs.Reads.{named, if_free, used_by_form, used, used_by_parts}
 use Rattle.algorithm_limits.specs.DepthsIn.{seen_by, seen_next, Hides}
+use Rattle.algorithm_limits.specs.Literals.{are_literals}
 use Rattle.algorithm_limits.proofs.BoundLemmas.{hides_none, hides_then, hides_as, first_kept, seen_first, seen_more}
+use Rattle.algorithm_limits.proofs.LiteralLaws.{each_literal, first_literal, more_literals}
 use Rattle.outside_reading.specs.TreeDepth.{first_names, more_names}
 use Rattle.outside_sight.specs.SightIn.{Binds}
 use Rattle.outside_sight.proofs.SightLaws.{binds_more}
@@ -134,6 +136,32 @@ parts_more old now met next m ts ids i e is l s a own same k h = record {
       (same ∙ a.meets (seen_by m i ++ xs) (binds_more old.bound now.bound (seen_by m i) xs b h.bound) ∙ ap (λ (only : Bool). now.names.items ++ kept only here) h.only)
       ∙ append_assoc now.names.items (kept o here) (kept o more)
       ∙ ap (λ (ns : List Name). now.names.items ++ ns) (sym (kept_both o here more) ∙ ap (kept o) (sym (part_met m ts ids i e xs is l s)))
+      ∙ h.meets xs b;
+}
+
+-- a literal uses no name
+literals_left : (m : Form) (ts : List Tree) (ids : List ℕ) (i : ℕ) (xs : List Word) → are_literals (trees_at ts (drop i ids)) ≡ true → parts_from m ts ids i xs ≡ []
+literals_left m ts ids i xs e = none (drop i (seen_names m)) (trees_at ts (drop i ids)) e
+  where
+    none : (names : List (List Word)) (us : Trees) → are_literals us ≡ true → used_by_parts names us xs ≡ []
+    none [] no_trees e = refl
+    none (ys ∷ names) no_trees e = refl
+    none names (tree u us) e =
+        part_first names u us xs
+        ∙ (λ j. each_literal (λ t. used t (first_names names ++ xs) ≡ []) (λ n p. refl) (λ w p. refl) (λ b p. refl) (λ p. refl) (λ p. refl) u (first_literal u us e) j
+        ++ none (more_names names) us (more_literals u us e) j)
+
+pub parts_cut : (old now met : Used) (m : Form) (ts : List Tree) (ids : List ℕ) (i e : ℕ) → e ≡ get_or ids i e → i < length ids → Shaped m (length ids) → Adds now met (used (at ts e))
+    → are_literals (trees_at ts (drop (i + 1) ids)) ≡ true → MetParts old now m ts ids i → AddsParts old met (used_by_parts (seen_names m) (trees_at ts ids))
+parts_cut old now met m ts ids i e is l s a lit h = record {
+  only = a.only ∙ h.only;
+  bound = ap (take (length old.bound)) a.bound ∙ first_kept old.bound now.bound (seen_by m i) h.bound;
+  meets = λ xs b.
+      let o = old.only_self in
+      let here = used (at ts e) (seen_by m i ++ xs) in
+      a.meets (seen_by m i ++ xs) (binds_more old.bound now.bound (seen_by m i) xs b h.bound)
+      ∙ ap (λ (only : Bool). now.names.items ++ kept only here) h.only
+      ∙ ap (λ (ns : List Name). now.names.items ++ kept o ns) (sym (append-nil here) ∙ ap (λ (ns : List Name). here ++ ns) (sym (literals_left m ts ids (i + 1) xs lit)) ∙ sym (part_met m ts ids i e xs is l s))
       ∙ h.meets xs b;
 }
 

@@ -9,6 +9,7 @@ ghost use Rattle.pcal_tree.specs.Reads.{named, if_free, used, used_by_parts};
 ghost use Rattle.read_rules.specs.Using.{own_names, Adds, AddsParts};
 
 use algorithm_limits::bound::Bound;
+use algorithm_limits::literal::ends_in_literal;
 use std::alloc::{AllocError, Global};
 use tla_pool::Pool;
 use tla_pool::form::Form;
@@ -81,7 +82,7 @@ impl Used {
         Ok(())
     }
 
-    // The parts of a form, which have smaller numbers than this; what it binds is bound then.
+    // The parts of a form, which have smaller numbers than this; what it binds is bound then, unless just a literal is left.
     #[cycle(used)]
     fn parts(
         &mut self,
@@ -97,6 +98,9 @@ impl Used {
     {
         for i in 0..parts.len() {
             self.expr(pool, parts[i])?;
+            if ends_in_literal(pool, parts, i, past) {
+                return Ok(());
+            }
             self.bound.add_next(form, i)?;
         }
         Ok(())

@@ -46,6 +46,17 @@ impl Pool {
         }
     }
 
+    /// Makes room for so many more nodes, which are then put in without growing.
+    ///
+    /// # Errors
+    ///
+    /// Only for want of memory; the pool is then as before.
+    pub fn reserve(&mut self, additional: usize) -> Result<(), AllocError>
+        ensures { self.new ≡ self.old }
+    {
+        self.nodes.reserve(additional)
+    }
+
     /// How many nodes there are.
     pub fn len(&self) -> usize
         ensures { result ≡ length self.now }

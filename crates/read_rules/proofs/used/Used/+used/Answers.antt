@@ -8,7 +8,7 @@ use Rattle.tla_tree.proofs.PoolNumbers.{AllBelow-at}
 use Rattle.tla_pool.specs.FormOf.{form_of}
 use Rattle.pcal_tree.specs.Reads.{used_by_parts}
 use Rattle.read_rules.specs.Using.{own_names, Adds, AddsParts}
-use Rattle.read_rules.proofs.UsedLaws.{parts_start, parts_more, parts_done, node_met}
+use Rattle.read_rules.proofs.UsedLaws.{parts_start, parts_more, parts_cut, parts_done, node_met}
 use Rattle.read_rules.proofs.used.Used.+used.Goals as goal
 
 pub expr-parts-requires : goal.expr-parts-requires
@@ -52,3 +52,9 @@ parts-loop-i-preserved t c =
 
 pub parts-returns : goal.parts-returns
 parts-returns t c = parts_done c.args.self.now c.loop-i.self (form_of c.args.form.now) c.args.pool.now c.args.parts.now c.loop-i.i c.loop-i-test.false c.loop-i.invariant
+
+pub parts-returns-then-ends_in_literal : goal.parts-returns-then-ends_in_literal
+parts-returns-then-ends_in_literal t c =
+    let e = slice_index_or c.args.parts.now c.loop-i.i 0 in
+    parts_cut c.args.self.now c.loop-i.self c.expr.new.self (form_of c.args.form.now) c.args.pool.now c.args.parts.now c.loop-i.i e (get_or_default c.args.parts.now c.loop-i.i 0 e c.loop-i-test.true) c.loop-i-test.true
+    c.requires.shaped c.in_ok-expr.ensures (c.ends_in_literal.ensures c.if-ends_in_literal.true) c.loop-i.invariant

@@ -1,0 +1,35 @@
+//! Literals, in which no name is used and none is bound.
+
+ghost use Rattle.std.specs.Prelude.{◌≡◌, ◌<◌, ◌≤◌, ◌+◌, true, IsTrue, drop, length};
+ghost use Rattle.tla_tree.specs.Pool.{trees_at, AllBelow};
+ghost use Rattle.tla_pool.specs.FormOf.{form_of};
+ghost use Rattle.algorithm_limits.specs.Literals as meant;
+ghost use Rattle.algorithm_limits.specs.Literals.{are_literals};
+
+use tla_pool::Pool;
+use tla_pool::form::Form;
+use tla_tree::NodeId;
+
+// Whether a form is a literal.
+fn is_literal(form: &Form) -> bool
+    ensures { result ≡ meant.is_literal (form_of form.now) }
+{
+    matches!(
+        form,
+        Form::Number(_) | Form::String(_) | Form::Truth(_) | Form::Booleans | Form::Strings
+    )
+}
+
+/// Whether all that follows the part of this number is one more part, a literal: what is bound around it doesn't matter.
+pub fn ends_in_literal(pool: &Pool, parts: &[NodeId], part: usize, past: NodeId) -> bool
+    requires there { AllBelow past parts.now }
+    requires inside { past ≤ length pool.now }
+    requires within { part < length parts.now }
+    ensures { IsTrue result → are_literals (trees_at pool.now (drop (part + 1) parts.now)) ≡ true }
+{
+    if parts.len() - part != 2 {
+        return false;
+    }
+    let node = pool.node(parts[part + 1]);
+    node.parts.len() == 0 && is_literal(&node.form)
+}
