@@ -18,6 +18,7 @@ use except_forms::slots::excepted;
 use function_forms::functions;
 use function_forms::joining::extended;
 use function_forms::records::record;
+use override_forms::overridden;
 use space_forms::record_sets::records;
 use space_forms::spaces::functions as functions_of;
 use space_forms::subsets::subsets;
@@ -76,7 +77,7 @@ fn of_two(alloc: Global, o: Op, at: Place, a: &Value, b: &Value) -> Result<Value
         Op::SubsetEq => sets::subset_of(at, a, b),
         Op::Concat => extended(alloc, at, copied(alloc, a)?, b),
         Op::MapsTo => functions::maps_to(alloc, at, a, b),
-        Op::Override => functions::overridden(alloc, at, a, b),
+        Op::Override => overridden(alloc, at, a, b),
         _ => no_value(at),
     }
 }

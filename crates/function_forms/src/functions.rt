@@ -1,15 +1,13 @@
-//! Functions: what they give, their domains, and two of them taken together.
+//! Functions: what they give, and their domains.
 
 ghost use Rattle.std.specs.Prelude.{◌≡◌, ◌∷◌, [], ◌++◌, OnOk, IfOk};
 ghost use Rattle.std.specs.Option.{option_copied};
 ghost use Rattle.tla_tree.specs.declared.op.Op.TheVariants as op;
 ghost use Rattle.tla_tree.specs.Tree.{operator, apply, select};
-ghost use Rattle.tla_value.specs.Value.{fun, values_in};
-ghost use Rattle.tla_value.specs.Order.{count, found_at, pairs_of, first_at, values_at, IsAscending};
+ghost use Rattle.tla_value.specs.Value.{values_in};
+ghost use Rattle.tla_value.specs.Order.{count, found_at, IsAscending};
 ghost use Rattle.tla_value.specs.Limits.{bounded};
-ghost use Rattle.tla_value.specs.Sets.{cup};
 ghost use Rattle.tla_value.specs.Strict.{strict_value};
-ghost use Rattle.tla_value.specs.ValueOf.{IsStored};
 ghost use Rattle.value_forms.specs.Gives.{Tells, Gives};
 ghost use Rattle.function_forms.specs.Functions.{listed_option};
 
@@ -21,7 +19,7 @@ use tla_value::stop::EvalStop;
 use tla_value::value::{Value, copied};
 use value_forms::kinds::function_of;
 use value_forms::made::{copies, function};
-use value_forms::sets::{Merge, merged, set_in_order};
+use value_forms::sets::set_in_order;
 
 /// The value of a function at an argument, by its domain and the value at each member of it; `None`
 /// outside the domain.
@@ -98,24 +96,6 @@ pub fn maps_to(alloc: Global, at: Place, d: &Value, e: &Value) -> Result<Value, 
     function(at, domain, values)
 }
 
-// The value at an argument of the first of two functions that has it in its domain.
-fn first_found<'x>(
-    ds: &[Value],
-    rs: &'x [Value],
-    es: &[Value],
-    qs: &'x [Value],
-    d: &Value,
-) -> Option<&'x Value>
-    requires first { IsStored (fun (values_in ds.now) (values_in rs.now)) }
-    requires second { IsStored (fun (values_in es.now) (values_in qs.now)) }
-    ensures { option_copied result ≡ first_at (pairs_of (values_in ds.now) (values_in rs.now) ++ pairs_of (values_in es.now) (values_in qs.now)) d.now }
-{
-    match value_at(ds, rs, d) {
-        Some(v) => Some(v),
-        None => value_at(es, qs, d),
-    }
-}
-
 /// Adds a value once more to a list, if it is there.
 ///
 /// # Errors
@@ -131,39 +111,4 @@ pub fn add_found(alloc: Global, all: &mut Vec<Value>, v: Option<&Value>) -> Resu
         }
         None => Ok(()),
     }
-}
-
-// The values of two functions at the members of a domain, those of the first function where it has them.
-fn values_over(
-    alloc: Global,
-    ds: &[Value],
-    rs: &[Value],
-    es: &[Value],
-    qs: &[Value],
-    domain: &[Value],
-) -> Result<Vec<Value>, AllocError>
-    requires first { IsStored (fun (values_in ds.now) (values_in rs.now)) }
-    requires second { IsStored (fun (values_in es.now) (values_in qs.now)) }
-    ensures { IfOk result (λ r. values_in r.items ≡ values_at (pairs_of (values_in ds.now) (values_in rs.now) ++ pairs_of (values_in es.now) (values_in qs.now)) (values_in domain.now)) }
-{
-    let mut all = Vec::new(alloc);
-    for d in domain {
-        add_found(alloc, &mut all, first_found(ds, rs, es, qs, d))?;
-    }
-    Ok(all)
-}
-
-/// `f @@ g`, which gives what `f` gives on the domain of `f`.
-///
-/// # Errors
-///
-/// For want of memory, where `f` or `g` isn't a function, and where the function is past the limits.
-pub fn overridden(alloc: Global, at: Place, f: &Value, g: &Value) -> Result<Value, EvalStop>
-    ensures { Tells result (strict_value bounded (operator op.Override) at (f.now ∷ g.now ∷ [])) }
-{
-    let (ds, rs) = function_of(at, f)?;
-    let (es, qs) = function_of(at, g)?;
-    let domain = merged(alloc, Merge::Either, ds, es)?;
-    let values = values_over(alloc, ds, rs, es, qs, &domain)?;
-    function(at, domain, values)
 }

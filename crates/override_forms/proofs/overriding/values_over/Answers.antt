@@ -4,7 +4,7 @@ use Rattle.std.specs.Option.{option_copied}
 use Rattle.tla_value.specs.Value.{values_in}
 use Rattle.tla_value.specs.Order.{pairs_of}
 use Rattle.function_forms.proofs.FunctionLaws.{values_next, values_end}
-use Rattle.function_forms.proofs.functions.values_over.Goals as goal
+use Rattle.override_forms.proofs.overriding.values_over.Goals as goal
 
 pub loop-d-preserved : goal.loop-d-preserved
 loop-d-preserved c =

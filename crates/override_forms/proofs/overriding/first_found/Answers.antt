@@ -3,7 +3,7 @@ use Rattle.std.proofs.Common.{◌∙◌, sym, ap}
 use Rattle.tla_value.specs.Value.{values_in}
 use Rattle.tla_value.specs.Order.{found_at}
 use Rattle.function_forms.proofs.FunctionLaws.{first_of_two, or_else}
-use Rattle.function_forms.proofs.functions.first_found.Goals as goal
+use Rattle.override_forms.proofs.overriding.first_found.Goals as goal
 
 pub returns-in-Some : goal.returns-in-Some
 returns-in-Some c =

@@ -3,7 +3,7 @@ use Rattle.std.proofs.Common.{◌≡◌, ◌++◌, drop}
 use Rattle.tla_value.specs.Value.{values_in}
 use Rattle.tla_value.specs.Order.{pairs_of, values_at}
 use Rattle.value_forms.specs.Parts.{follow}
-use Rattle.function_forms.proofs.functions.values_over.Given as goal
+use Rattle.override_forms.proofs.overriding.values_over.Given as goal
 
 abbrev pub invariant-loop-d : goal.invariant-loop-d
 invariant-loop-d l =

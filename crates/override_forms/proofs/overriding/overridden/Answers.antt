@@ -6,7 +6,7 @@ use Rattle.tla_value.specs.Limits.{bounded}
 use Rattle.tla_value.proofs.OrderSets.{set_from_ascending}
 use Rattle.value_forms.specs.Gives.{Tells}
 use Rattle.function_forms.proofs.FunctionLaws.{two_counts, two_joined}
-use Rattle.function_forms.proofs.functions.overridden.Goals as goal
+use Rattle.override_forms.proofs.overriding.overridden.Goals as goal
 
 pub function-requires-clause-ascending : goal.function-requires-clause-ascending
 function-requires-clause-ascending c =
