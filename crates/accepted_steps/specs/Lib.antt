@@ -1,0 +1,2 @@
+-- The laws on steps of accepted algorithms, as statements.
+pub mod AcceptedSteps

@@ -1,0 +1,21 @@
+//! Laws of steps and starts by lists of choices, stated as what functions without a body ensure.
+
+ghost use Rattle.std.specs.Prelude.{◌≡◌, ℕ, List};
+ghost use Rattle.tla_value.specs.Stops.{Check};
+ghost use Rattle.pcal_tree.specs.Choices.{walk, went};
+ghost use Rattle.pcal_tree.specs.InitialChoice.{started};
+ghost use Rattle.pcal_tree.specs.Program.{Program};
+ghost use Rattle.step_walks.specs.Flows.{finish};
+ghost use Rattle.step_walks.specs.StartFlows.{start_flow};
+ghost use Rattle.accepted_steps.specs.AcceptedSteps.{StepsFlow};
+
+/// A step of an accepted algorithm from a label comes to what its statements come to one by one, with the written names and
+/// with a process's own variables at its identifier; so it does whatever its state holds, and under any limits.
+pub fn steps_go_by_the_written_names()
+    ensures { (c : Check) → StepsFlow c }
+{}
+
+/// A start comes to what its declarations come to one by one.
+pub fn starts_go_by_declarations()
+    ensures { (P : Program) (ns : List ℕ) → walk (started P) ns ≡ finish (start_flow P ns) went }
+{}

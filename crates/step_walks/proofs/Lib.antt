@@ -1,0 +1,6 @@
+-- That walks along courses come of statements one by one.
+pub mod FlowLaws
+pub mod StepLaws
+pub mod StartLaws
+pub mod WrittenLaws
+mod Rows
