@@ -1,0 +1,37 @@
+# make install    proves and builds the program, and puts it, its man page and completions under PREFIX
+# make uninstall  takes away what install put there
+# make links      looks for dead links and long lines in the pages, and for mistakes in the man page
+#
+# The first build proves all that the program stands on, which takes some three quarters of an hour on four cores
+# at least. The gate is `rt ci`, not make.
+
+PREFIX = $(HOME)/.local
+DESTDIR =
+
+BIN = $(DESTDIR)$(PREFIX)/bin
+MAN = $(DESTDIR)$(PREFIX)/share/man/man1
+BASH = $(DESTDIR)$(PREFIX)/share/bash-completion/completions
+ZSH = $(DESTDIR)$(PREFIX)/share/zsh/site-functions
+FISH = $(DESTDIR)$(PREFIX)/share/fish/vendor_completions.d
+
+.PHONY: build install uninstall links
+
+# rt proves and builds what has changed, and runs it once: it writes ok
+build:
+	cd crates/pcal && rt run -- check data/M.tla
+
+install: build
+	install -d "$(BIN)" "$(MAN)" "$(BASH)" "$(ZSH)" "$(FISH)"
+	install -m 755 crates/pcal/out/pcal "$(BIN)/pcal"
+	install -m 644 man/pcal.1 "$(MAN)/pcal.1"
+	install -m 644 completions/pcal.bash "$(BASH)/pcal"
+	install -m 644 completions/_pcal "$(ZSH)/_pcal"
+	install -m 644 completions/pcal.fish "$(FISH)/pcal.fish"
+
+uninstall:
+	rm -f "$(BIN)/pcal" "$(MAN)/pcal.1" "$(BASH)/pcal" "$(ZSH)/_pcal" "$(FISH)/pcal.fish"
+
+links:
+	python3 tools/links.py
+	python3 tools/errors.py
+	if command -v mandoc > /dev/null; then mandoc -Tlint man/pcal.1; fi
