@@ -1,7 +1,7 @@
 # make install    proves and builds the program, and puts it, its man page and completions under PREFIX
 # make uninstall  takes away what install put there
-# make links      looks for dead links and long lines in the pages, for texts in them that are no rows, and for mistakes
-#                 in the man page
+# make links      looks for dead links and long lines in the pages, for what they name
+#                 and isn't there, and for mistakes in the man page
 #
 # The first build proves all that the program stands on, which takes some three quarters of an hour on four cores
 # at least. The gate is `rt ci`, not make.
@@ -35,4 +35,5 @@ uninstall:
 links:
 	python3 tools/links.py
 	python3 tools/rows.py
+	python3 tools/walk.py
 	if command -v mandoc > /dev/null; then mandoc -Tlint man/pcal.1; fi

@@ -16,7 +16,7 @@ TOP = os.path.dirname(os.path.dirname(os.path.abspath(__file__)))
 MOST = 120
 # lines of the pages that were written before this script; they are to be broken anew
 OLDER = 160
-NEWER = ["docs/ERRORS.md", "docs/FROM-JAVA.md", "docs/TUTORIAL.md", "editors/", "examples/"]
+NEWER = ["docs/ERRORS.md", "docs/WALK.md", "docs/FROM-JAVA.md", "docs/TUTORIAL.md", "editors/", "examples/"]
 FOLDERS = ["crates", "docs", "editors", "examples", "tools", "man", "completions"]
 
 
