@@ -9,7 +9,7 @@ ghost use Rattle.tla_value.specs.Limits.{bounded};
 ghost use Rattle.tla_value.specs.Definitions.{scope_of, no_state, with_definitions};
 ghost use Rattle.tla_value.specs.Defs.{definitions_at, DefinitionsIn};
 ghost use Rattle.tla_value.specs.Meaning.{part_values, meaning_of, value_of, bound_value, local_value, first_arm, test as is_true};
-ghost use Rattle.eval_scopes.specs.Scopes.{seen_of, with_locals};
+ghost use Rattle.eval_scopes.specs.Scopes.{seen_of, with_words, with_locals};
 ghost use Rattle.eval_scopes.specs.Contexts.{env_of, outside, use_of, IsWithin};
 ghost use Rattle.tla_eval.specs.Parts.{den, dens, value_at};
 ghost use Rattle.eval_steps.specs.Forms.{connective_form};
@@ -568,6 +568,52 @@ pub fn eval_between<'x, N: Names>(
         defs,
     };
     outermost(alloc, &cx, e)
+}
+
+/// The value of an expression where these names are bound to values, and others stand for values and definitions; of two
+/// that are alike the later one counts.
+///
+/// # Errors
+///
+/// As those of `eval`.
+pub fn eval_where<'x, N: Names>(
+    alloc: Global,
+    pool: &'x Pool,
+    e: NodeId,
+    names: &'x N,
+    defs: &'x Defs,
+    bound: &'x [Name],
+    values: &'x [Value],
+) -> Result<Value, EvalStop>
+    requires below { e < length pool.now }
+    requires defined { DefinitionsIn (length pool.now) defs.now }
+    ensures { Tells result (value_at pool.now e (with_words bound.now values.now (scope_of bounded (N.look names.now) (definitions_at pool.now defs.now) no_state no_state))) }
+{
+    let cx = Context {
+        pool,
+        names,
+        next: None,
+        defs,
+    };
+    bound_outermost(alloc, &cx, e, bound, values)
+}
+
+// The value of an expression in which these names are bound, and all definitions are seen.
+fn bound_outermost<'x, N: Names>(
+    alloc: Global,
+    cx: &'x Context<'x, N>,
+    e: NodeId,
+    bound: &'x [Name],
+    values: &'x [Value],
+) -> Result<Value, EvalStop>
+    requires below { e < length cx.now.pool.now }
+    requires within { DefinitionsIn (length cx.now.pool.now) cx.now.defs.now }
+    ensures { Tells result (value_at cx.now.pool.now e (with_words bound.now values.now (with_definitions bounded (definitions_at cx.now.pool.now cx.now.defs.now) (outside N.look cx.now)))) }
+{
+    let scope = Scope::Params(&*bound, &*values, cx.defs.as_slice().len());
+    let v = valued(alloc, &*cx, e, &scope)?;
+    let v = v.taken(alloc)?;
+    Ok(v)
 }
 
 // The value of an expression in which all definitions are seen.

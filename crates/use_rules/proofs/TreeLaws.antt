@@ -1,5 +1,5 @@
 -- What is found in an expression, part by part.
-use Rattle.std.proofs.Common.{◌≡◌, ℕ, zero, suc, ◌+◌, ◌<◌, ◌≤◌, Bool, true, false, ◌&&◌, nat_eq, List, [], ◌∷◌, ◌++◌, length, take, drop, get_or, Option, refl, sym, ap, ◌∙◌, subst, arith, eqb-true}
+use Rattle.std.proofs.Common.{◌≡◌, ℕ, zero, suc, ◌+◌, ◌<◌, ◌≤◌, Bool, true, false, ◌&&◌, nat_eq, List, [], ◌∷◌, ◌++◌, length, take, drop, get_or, Option, refl, sym, ap, ◌∙◌, subst, arith, eqb-true, append-nil}
 use Rattle.std.proofs.lemmas.Bool.{eqb-false}
 use Rattle.std.proofs.lemmas.List.{drop_more, drop_all, length-drop}
 use Rattle.tla_token.specs.declared.rule.Refusal.{Refusal}
@@ -13,7 +13,9 @@ use Rattle.pcal_tree.specs.OffencesNames.{form_offences, root_offences, count, i
 use Rattle.algorithm_answer.specs.Joined.{joined}
 use Rattle.algorithm_answer.proofs.Joins.{joined_assoc, joined_none, first_append}
 use Rattle.algorithm_limits.specs.DepthsIn.{seen_by, seen_next, Hides}
+use Rattle.algorithm_limits.specs.Literals.{are_literals}
 use Rattle.algorithm_limits.proofs.BoundLemmas.{hides_none, hides_then, hides_as, first_kept, seen_first, seen_more}
+use Rattle.algorithm_limits.proofs.LiteralLaws.{each_literal, first_literal, more_literals}
 use Rattle.outside_reading.specs.TreeDepth.{first_names, more_names}
 use Rattle.outside_sight.proofs.DepthLaws.{part_sees}
 use Rattle.use_rules.specs.declared.found.Found.{Found}
@@ -94,6 +96,31 @@ parts_more old now met next m ts ids i e right is l s f a p q k h = record {
       ∙ ap (λ (o : Option Refusal). joined o (first more)) (a.tells v (seeing_plain (seen_by m i) r) (inside_more old.bound now.bound (seen_by m i) v r b h.bound))
       ∙ joined_assoc (told now v) (first here) (first more)
       ∙ ap (joined (told now v)) (sym (first_append here more) ∙ ap first (sym (part_met m ts ids i e right r is l s f)))
+      ∙ h.tells v r b;
+}
+
+-- a literal uses no name
+literals_left : (m : Form) (ts : List Tree) (ids : List ℕ) (i : ℕ) (s : Sight) → are_literals (trees_at ts (drop i ids)) ≡ true → parts_from m ts ids i s ≡ []
+literals_left m ts ids i s e = none (drop i (seen_names m)) (trees_at ts (drop i ids)) e
+  where
+    none : (names : List (List Word)) (us : Trees) → are_literals us ≡ true → in_parts names (is_member m) us s ≡ []
+    none [] no_trees e = refl
+    none (ys ∷ names) no_trees e = refl
+    none names (tree u us) e =
+        part_first names (is_member m) u us s
+        ∙ (λ j. each_literal (λ t. in_tree t (is_member m && is_last us) (seeing_plain (first_names names) s) ≡ []) (λ n p. refl) (λ w p. refl) (λ b p. refl) (λ p. refl) (λ p. refl) u (first_literal u us e) j
+        ++ none (more_names names) us (more_literals u us e) j)
+
+pub parts_cut : (old now met : Found) (m : Form) (ts : List Tree) (ids : List ℕ) (i e : ℕ) (right : Bool) → e ≡ get_or ids i e → i < length ids → Shaped m (length ids)
+    → right ≡ (is_member m && nat_eq (i + 1) (length ids)) → Tells now met (in_tree (at ts e) right) → are_literals (trees_at ts (drop (i + 1) ids)) ≡ true → ToldParts old now m ts ids i
+    → TellsParts old met (in_parts (seen_names m) (is_member m) (trees_at ts ids))
+parts_cut old now met m ts ids i e right is l s f a lit h = record {
+  bound = ap (take (length old.bound)) a.bound ∙ first_kept old.bound now.bound (seen_by m i) h.bound;
+  tells = λ v r b.
+      let here = in_tree (at ts e) right (seeing_plain (seen_by m i) r) in
+      a.tells v (seeing_plain (seen_by m i) r) (inside_more old.bound now.bound (seen_by m i) v r b h.bound)
+      ∙ ap (λ (rs : List Refusal). joined (told now v) (first rs))
+      (sym (append-nil here) ∙ ap (λ (rs : List Refusal). here ++ rs) (sym (literals_left m ts ids (i + 1) r lit)) ∙ sym (part_met m ts ids i e right r is l s f))
       ∙ h.tells v r b;
 }
 

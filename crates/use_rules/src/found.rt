@@ -17,6 +17,7 @@ ghost use Rattle.use_rules.specs.Finding.{told, IsNew, Tells, TellsParts};
 
 use crate::using::{Kind, NameUse, Use, offence_as};
 use algorithm_limits::bound::Bound;
+use algorithm_limits::literal::ends_in_literal;
 use algorithm_limits::order::least;
 use indexmap::IndexSet;
 use std::alloc::{AllocError, Global};
@@ -149,7 +150,7 @@ impl Found {
         Ok(())
     }
 
-    // The parts of a form, which have smaller numbers than this; what it binds is bound then.
+    // The parts of a form, which have smaller numbers than this; what it binds is bound then, unless just a literal is left.
     #[cycle(trees)]
     fn parts(
         &mut self,
@@ -166,6 +167,9 @@ impl Found {
         for i in 0..parts.len() {
             let right = is_last_of_member(form, i, parts.len());
             self.expr(pool, right, parts[i])?;
+            if ends_in_literal(pool, parts, i, past) {
+                return Ok(());
+            }
             self.bound.add_next(form, i)?;
         }
         Ok(())

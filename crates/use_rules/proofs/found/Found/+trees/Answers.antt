@@ -8,7 +8,7 @@ use Rattle.tla_value.specs.StandardModules.{is_member}
 use Rattle.tla_pool.specs.FormOf.{form_of}
 use Rattle.pcal_tree.specs.OffencesNames.{form_offences, in_parts}
 use Rattle.use_rules.specs.Finding.{Tells, TellsParts}
-use Rattle.use_rules.proofs.TreeLaws.{parts_more, node_met}
+use Rattle.use_rules.proofs.TreeLaws.{parts_more, parts_cut, node_met}
 use Rattle.use_rules.proofs.found.Found.+trees.Goals as goal
 
 pub expr-returns : goal.expr-returns
@@ -34,3 +34,10 @@ parts-loop-i-preserved t c =
     parts_more c.args.self.now c.loop-i.self c.expr.new.self _ (form_of c.args.form.now) c.args.pool.now c.args.parts.now c.loop-i.i e c.is_last_of_member-right.result
     (get_or_default c.args.parts.now c.loop-i.i 0 e c.loop-i-test.true) c.loop-i-test.true
     c.requires.shaped c.is_last_of_member-right.ensures c.in_ok-expr.ensures refl refl c.in_ok-add_next.ensures c.loop-i.invariant
+
+pub parts-returns-then-ends_in_literal : goal.parts-returns-then-ends_in_literal
+parts-returns-then-ends_in_literal t c =
+    let e = slice_index_or c.args.parts.now c.loop-i.i 0 in
+    parts_cut c.args.self.now c.loop-i.self c.expr.new.self (form_of c.args.form.now) c.args.pool.now c.args.parts.now c.loop-i.i e c.is_last_of_member-right.result
+    (get_or_default c.args.parts.now c.loop-i.i 0 e c.loop-i-test.true) c.loop-i-test.true
+    c.requires.shaped c.is_last_of_member-right.ensures c.in_ok-expr.ensures (c.ends_in_literal.ensures c.if-ends_in_literal.true) c.loop-i.invariant

@@ -8,7 +8,7 @@ use Rattle.tla_value.specs.laws.UnderLimits.{Below, SensesBelow}
 use Rattle.pcal_tree.specs.Scope.{State}
 use Rattle.pcal_tree.specs.Run.{Course, stops, chooses, Courses, no_courses, course, after, at_each}
 use Rattle.pcal_tree.specs.Choices.{Walk, went, failed, blocked, wanting, count_courses, missing, walk, walk_into}
-use Rattle.limited_runs.specs.LimitedRuns.{WalkBelow}
+use Rattle.run_laws.specs.LimitedRuns.{WalkBelow}
 
 -- ---- outcomes
 

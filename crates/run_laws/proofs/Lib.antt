@@ -6,3 +6,4 @@ pub mod Calls
 pub mod Steps
 pub mod Starts
 pub mod Followed
+pub mod ScriptsFollowed

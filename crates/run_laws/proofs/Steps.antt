@@ -19,11 +19,11 @@ use Rattle.pcal_tree.specs.Processes.{one_value, identifiers_of, all_actors, ide
 use Rattle.pcal_tree.specs.Step.{pc_of, Stand, routines_of, course_of}
 use Rattle.pcal_tree.specs.FirstTrouble.{stand_named}
 use Rattle.pcal_tree.specs.StepAnswers.{Reply, reached, held_at, no_label, needs_choice, too_many_choices, stopped_by, replied, label_place, step_from, step_at, with_self, step_of, step_in, stepped}
-use Rattle.limited_runs.specs.LimitedRuns.{under, WalkBelow, ReplyBelow}
-use Rattle.limited_runs.proofs.Outcomes.{CourseBelow, below_same, below_then, reached_below}
-use Rattle.limited_runs.proofs.Scopes.{routine_below}
-use Rattle.limited_runs.proofs.Statements.{list_below, macros_below}
-use Rattle.limited_runs.proofs.Calls.{rules_below}
+use Rattle.run_laws.specs.LimitedRuns.{under, WalkBelow, ReplyBelow}
+use Rattle.run_laws.proofs.Outcomes.{CourseBelow, below_same, below_then, reached_below}
+use Rattle.run_laws.proofs.Scopes.{routine_below}
+use Rattle.run_laws.proofs.Statements.{list_below, macros_below}
+use Rattle.run_laws.proofs.Calls.{rules_below}
 
 -- ---- replies
 

@@ -15,10 +15,10 @@ use Rattle.pcal_tree.specs.Processes.{actors}
 use Rattle.pcal_tree.specs.InitialStates.{values_for, function_on, running, is_multiprocess}
 use Rattle.pcal_tree.specs.InitialChoice.{nothing, plain_begun, each_chosen, values_begun, spread_begun, globals_begun, local_begun, locals_begun, procedures_begun, processes_begun, stack_begun, pc_begun, started}
 use Rattle.pcal_tree.specs.StepAnswers.{start_by}
-use Rattle.limited_runs.specs.LimitedRuns.{under, ReplyBelow}
-use Rattle.limited_runs.proofs.Outcomes.{CourseBelow, course_same, after_below, chooses_below, each_below, below_same, below_then, below_order, reached_below}
-use Rattle.limited_runs.proofs.Scopes.{ScopesBelow, value_below, routine_below, global_below}
-use Rattle.limited_runs.proofs.Steps.{actors_below, replied_below}
+use Rattle.run_laws.specs.LimitedRuns.{under, ReplyBelow}
+use Rattle.run_laws.proofs.Outcomes.{CourseBelow, course_same, after_below, chooses_below, each_below, below_same, below_then, below_order, reached_below}
+use Rattle.run_laws.proofs.Scopes.{ScopesBelow, value_below, routine_below, global_below}
+use Rattle.run_laws.proofs.Steps.{actors_below, replied_below}
 
 abbrev GoesBelow : {X : Type 0} → (X → Course) → (X → Course) → Type 0
 GoesBelow f g = (x : _) → CourseBelow (f x) (g x)

@@ -14,10 +14,10 @@ use Rattle.pcal_tree.specs.Run.{ends, stops, held, Partner, no_partner, goto_par
 use Rattle.pcal_tree.specs.Program.{Program, Actor, index, local_index, written, routine_scope}
 use Rattle.pcal_tree.specs.Variables.{pc, stack, written_all}
 use Rattle.pcal_tree.specs.Calls.{label_value, first_label, setting, all_read, frame, on_stack, argument_settings, initial_value, initial_place, variables_started, entered_keeping, entered, fields_read, part_settings, restored, returned, values_left, replaced, returned_and_entered, finished, called_with, entered_at, routine_named, rules_without_macros}
-use Rattle.limited_runs.specs.LimitedRuns.{under}
-use Rattle.limited_runs.proofs.Outcomes.{CourseBelow, course_same, below_same, below_then, reached_below}
-use Rattle.limited_runs.proofs.Scopes.{value_below, one_below, all_below, routine_below}
-use Rattle.limited_runs.proofs.Statements.{PartsBelow}
+use Rattle.run_laws.specs.LimitedRuns.{under}
+use Rattle.run_laws.proofs.Outcomes.{CourseBelow, course_same, below_same, below_then, reached_below}
+use Rattle.run_laws.proofs.Scopes.{value_below, one_below, all_below, routine_below}
+use Rattle.run_laws.proofs.Statements.{PartsBelow}
 
 pub finished_below : (o q : Outcome State) → Below o q → CourseBelow (finished o) (finished q)
 finished_below (Ok t) q h = subst (λ (o : Outcome State). CourseBelow (ends t) (finished o)) h (course_same (ends t))

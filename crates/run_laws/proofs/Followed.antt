@@ -10,9 +10,9 @@ use Rattle.pcal_tree.specs.Script.{Turn}
 use Rattle.pcal_tree.specs.StepAnswers.{Reply, reached, held_at, no_label, needs_choice, too_many_choices, stopped_by, stepped}
 use Rattle.step_runner.specs.Script.{Script}
 use Rattle.step_runner.specs.Followed.{Stop, Followed, landed, after_reply, turns_followed, followed}
-use Rattle.limited_runs.specs.LimitedRuns.{under, ReplyBelow, StoppedBelow, StopBelow, FollowedBelow}
-use Rattle.limited_runs.proofs.Steps.{stepped_below}
-use Rattle.limited_runs.proofs.Starts.{start_below}
+use Rattle.run_laws.specs.LimitedRuns.{under, ReplyBelow, StoppedBelow, StopBelow, FollowedBelow}
+use Rattle.run_laws.proofs.Steps.{stepped_below}
+use Rattle.run_laws.proofs.Starts.{start_below}
 
 landed_below : (r q : Reply (State × Word)) → ReplyBelow r q → ReplyBelow (landed r) (landed q)
 landed_below (reached (t, l)) q h = ap landed h

@@ -11,8 +11,8 @@ use Rattle.pcal_tree.specs.Algorithm.{Binds, no_binds, one_of, is, Statement, as
 use Rattle.pcal_tree.specs.Scope.{State, Scope, bound, places_of, value_of, test, members}
 use Rattle.pcal_tree.specs.Assign.{after_assignments}
 use Rattle.pcal_tree.specs.Run.{Course, stops, held, Partner, no_partner, partner_of, Follow, Rules, unlabelled, label_of, run_binds, run_one, run, run_branches, arguments, Calling, with_calls, called}
-use Rattle.limited_runs.proofs.Outcomes.{CourseBelow, course_same, after_below, CoursesBelow, chooses_below, each_below, cond_below}
-use Rattle.limited_runs.proofs.Scopes.{ScopesBelow, bound_scope, of_places, value_below, test_below, members_below, values_below, through_scope, assignments_below}
+use Rattle.run_laws.proofs.Outcomes.{CourseBelow, course_same, after_below, CoursesBelow, chooses_below, each_below, cond_below}
+use Rattle.run_laws.proofs.Scopes.{ScopesBelow, bound_scope, of_places, value_below, test_below, members_below, values_below, through_scope, assignments_below}
 
 -- what follows
 pub record FollowBelow (K L : Follow) : Type 0 where

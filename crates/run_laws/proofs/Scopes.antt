@@ -15,8 +15,8 @@ use Rattle.pcal_tree.specs.Algorithm.{nowhere, Assignments, no_assignments, assi
 use Rattle.pcal_tree.specs.Scope.{State, Scope, bound, place_in, place_of, places_of, reach, reach_path, reach_in, origin_in, through, value_of, test, members}
 use Rattle.pcal_tree.specs.Assign.{Setting, set_one, set_all, settings, after_assignments}
 use Rattle.pcal_tree.specs.Program.{Program, Actor, inner, global_env, globals_on, read_name, read_at, local_index, written, routine_scope, global_scope}
-use Rattle.limited_runs.specs.LimitedRuns.{under}
-use Rattle.limited_runs.proofs.Outcomes.{below_same, below_then, reached_below, senses_same}
+use Rattle.run_laws.specs.LimitedRuns.{under}
+use Rattle.run_laws.proofs.Outcomes.{below_same, below_then, reached_below, senses_same}
 
 pub record ScopesBelow (sc sd : Scope) : Type 0 where
   pub env : (s : State) → EnvsBelow (sc.env s) (sd.env s)

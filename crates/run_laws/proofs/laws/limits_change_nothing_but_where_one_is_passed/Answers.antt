@@ -1,7 +1,7 @@
 -- Proves the law `limits_change_nothing_but_where_one_is_passed`.
-use Rattle.limited_runs.proofs.Steps.{actors_below, stepped_below}
-use Rattle.limited_runs.proofs.Starts.{start_below}
-use Rattle.limited_runs.proofs.laws.limits_change_nothing_but_where_one_is_passed.Goals as goal
+use Rattle.run_laws.proofs.Steps.{actors_below, stepped_below}
+use Rattle.run_laws.proofs.Starts.{start_below}
+use Rattle.run_laws.proofs.laws.limits_change_nothing_but_where_one_is_passed.Goals as goal
 
 pub returns-clause-processes : goal.returns-clause-processes
 returns-clause-processes c = actors_below
