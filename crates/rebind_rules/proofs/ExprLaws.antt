@@ -1,5 +1,5 @@
 -- What expressions offend, part by part.
-use Rattle.std.proofs.Common.{◌≡◌, ℕ, zero, suc, ◌+◌, ◌<◌, ◌≤◌, Bool, List, [], ◌∷◌, ◌++◌, length, take, drop, get_or, Vec, Global, refl, sym, ap, ◌∙◌, subst, arith, append-nil, append_assoc}
+use Rattle.std.proofs.Common.{◌≡◌, ℕ, zero, suc, ◌+◌, ◌<◌, ◌≤◌, Bool, true, List, [], ◌∷◌, ◌++◌, length, take, drop, get_or, Vec, Global, refl, sym, ap, ◌∙◌, subst, arith, append-nil, append_assoc}
 use Rattle.std.specs.List.{flat_map}
 use Rattle.std.proofs.lemmas.List.{drop_more, drop_all}
 use Rattle.std.proofs.lemmas.Grind.{flat_map-append}
@@ -10,7 +10,9 @@ use Rattle.tla_tree.specs.Shapes.{Shaped}
 use Rattle.tla_tree.specs.Pool.{Entry, at, trees_at, tree_in}
 use Rattle.tla_pool.specs.FormOf.{groups_of}
 use Rattle.algorithm_limits.specs.DepthsIn.{seen_by, seen_next, Hides}
+use Rattle.algorithm_limits.specs.Literals.{are_literals}
 use Rattle.algorithm_limits.proofs.BoundLemmas.{hides_none, hides_then, hides_as, first_kept, seen_first, seen_more}
+use Rattle.algorithm_limits.proofs.LiteralLaws.{each_literal, first_literal, more_literals}
 use Rattle.outside_reading.specs.TreeDepth.{first_names, more_names}
 use Rattle.outside_sight.proofs.DepthLaws.{part_sees}
 use Rattle.pcal_tree.specs.BoundNames.{all_of}
@@ -91,6 +93,31 @@ parts_more g K old now met next m ts ids i e is l s a same free k h = record {
       (λ j. first (told ms (record { bound = next.bound; first = same j; free = free j }) z ++ more))
       ∙ first_same_after (told ms met z) (told ms now z ++ here) more (a.tells ms z (naming (seen_by m i) r) (tell.seen_more g K old now ms (seen_by m i) z r h.bound q))
       ∙ ap first (append_assoc (told ms now z) here more ∙ ap (λ (rs : List Refusal). told ms now z ++ rs) (sym (part_met ms K m ts ids i e r is l s)))
+      ∙ h.tells ms z r q;
+}
+
+-- a literal binds no name
+literals_left : (ms : List Word) (K : Word → Bool) (m : Form) (ts : List Tree) (ids : List ℕ) (i : ℕ) (r : Standings) → are_literals (trees_at ts (drop i ids)) ≡ true → parts_from ms K m ts ids i r ≡ []
+literals_left ms K m ts ids i r e = none (drop i (seen_names m)) (trees_at ts (drop i ids)) e
+  where
+    none : (names : List (List Word)) (us : Trees) → are_literals us ≡ true → parts_rebind ms K names us r ≡ []
+    none [] no_trees e = refl
+    none (ys ∷ names) no_trees e = refl
+    none names (tree u us) e =
+        part_first ms K names u us r
+        ∙ (λ j. each_literal (λ t. tree_rebinds ms K t (naming (first_names names) r) ≡ []) (λ n p. refl) (λ w p. refl) (λ b p. refl) (λ p. refl) (λ p. refl) u (first_literal u us e) j
+        ++ none (more_names names) us (more_literals u us e) j)
+
+pub parts_cut : (g : Sight) (K : Word → Bool) (old now met : Walk) (m : Form) (ts : List Tree) (ids : List ℕ) (i e : ℕ) → e ≡ get_or ids i e → i < length ids → Shaped m (length ids)
+    → Adds g K now met (λ ms r. tree_rebinds ms K (at ts e) r) → are_literals (trees_at ts (drop (i + 1) ids)) ≡ true → MetParts g K old now m ts ids i
+    → AddsParts g K old met (λ ms r. parts_rebind ms K (seen_names m) (trees_at ts ids) r)
+parts_cut g K old now met m ts ids i e is l s a lit h = record {
+  bound = ap (take (length old.bound)) a.bound ∙ first_kept old.bound now.bound (seen_by m i) h.bound;
+  tells = λ ms z r q.
+      let here = tree_rebinds ms K (at ts e) (naming (seen_by m i) r) in
+      a.tells ms z (naming (seen_by m i) r) (tell.seen_more g K old now ms (seen_by m i) z r h.bound q)
+      ∙ ap (λ (rs : List Refusal). first (told ms now z ++ rs))
+      (sym (append-nil here) ∙ ap (λ (rs : List Refusal). here ++ rs) (sym (literals_left ms K m ts ids (i + 1) r lit)) ∙ sym (part_met ms K m ts ids i e r is l s))
       ∙ h.tells ms z r q;
 }
 

@@ -12,6 +12,7 @@ ghost use Rattle.rebind_rules.specs.Telling.{Adds, AddsParts};
 
 use crate::sight::Sight;
 use crate::walk::Walk;
+use algorithm_limits::literal::ends_in_literal;
 use std::alloc::AllocError;
 use tla_pool::Pool;
 use tla_pool::form::Form;
@@ -59,7 +60,7 @@ impl Walk {
         Ok(())
     }
 
-    // The parts of a form, which have smaller numbers than this; what it binds is bound then.
+    // The parts of a form, which have smaller numbers than this; what it binds is bound then, unless just a literal is left.
     #[cycle(exprs)]
     fn parts(
         &mut self,
@@ -76,6 +77,9 @@ impl Walk {
     {
         for i in 0..parts.len() {
             self.expr(sight, pool, parts[i])?;
+            if ends_in_literal(pool, parts, i, past) {
+                return Ok(());
+            }
             self.bound.add_next(form, i)?;
         }
         Ok(())

@@ -1,163 +1,26 @@
-//! Names that are bound around, each once, in the order in which they were bound.
+//! Names of declarations, which are bound.
 
-ghost use Rattle.std.specs.Prelude.{◌≡◌, ◌==◌, [], ◌∷◌, length, take, slice_get, Some, ◌<◌, OnOk};
-ghost use Rattle.std.specs.List.{list_any, flat_map};
-ghost use Rattle.std.specs.Cmp.Lexicographic.{pointwise};
+ghost use Rattle.std.specs.Prelude.{OnOk};
 ghost use Rattle.tla_tree.specs.Tree.{words};
-ghost use Rattle.tla_pool.specs.FormOf.{groups_of, form_of};
-ghost use Rattle.algorithm_limits.specs.DepthsIn.{seen_next, Hides};
+ghost use Rattle.algorithm_limits.specs.DepthsIn.{Hides};
 ghost use Rattle.rebind_rules.specs.Units.{declared_names};
 
-use indexmap::IndexSet;
+use algorithm_limits::bound::Bound;
 use pcal_tree::algorithm::Declaration;
-use std::alloc::{AllocError, Global};
-use std::marker::Model;
-use tla_pool::form::Form;
-use tla_tree::{Name, PlacedName};
+use std::alloc::AllocError;
 
-/// Names that are bound. Contracts see the list of them, each once.
-#[derive(Drop)]
-pub struct Names {
-    names: IndexSet<Name>,
-}
-
-impl Model for Names {
-    ghost use Rattle.std.specs.Prelude.{ℕ, List};
-    ghost use Rattle.std.specs.Coded.{coded_list, coded_ℕ};
-
-    ghost Value = { List (List ℕ) };
-
-    ghost coded = { coded_list (coded_list coded_ℕ) };
-
-    ghost view = { λ b. b.names.keys };
-}
-
-impl Names {
-    /// No name is bound.
-    pub fn new(alloc: Global) -> Names
-        ensures { result ≡ [] }
-    {
-        Names {
-            names: IndexSet::new(alloc),
-        }
+/// Binds the names of these declarations too.
+///
+/// # Errors
+///
+/// Only for want of memory.
+#[tactic(auto, using(algorithm_limits::proofs::BoundLemmas::hides_none))]
+pub fn add_declared(bound: &mut Bound, list: &[Declaration]) -> Result<(), AllocError>
+    ensures { OnOk result (Hides bound.old bound.new (words (declared_names list.now))) }
+{
+    for i in 0..list.len() {
+        let declaration = &list[i];
+        bound.add(&declaration.name.name)?;
     }
-
-    /// How many names are bound.
-    pub fn len(&self) -> usize
-        ensures { result ≡ length self.now }
-    {
-        self.names.len()
-    }
-
-    /// The name at a place of the order.
-    pub fn at(&self, at: usize) -> &Name
-        requires { at < length self.now }
-        ensures { slice_get self.now at ≡ Some result.now }
-    {
-        self.names.get_index(at).unwrap()
-    }
-
-    /// Whether a name is bound.
-    #[tactic(auto, using(algorithm_limits::proofs::BoundLemmas::none_bound))]
-    pub fn has(&self, name: &Name) -> bool
-        ensures { result ≡ list_any (pointwise ◌==◌ name.now) self.now }
-    {
-        if self.names.len() == 0 {
-            return false;
-        }
-        self.names.contains(name)
-    }
-
-    /// Binds one more name.
-    ///
-    /// # Errors
-    ///
-    /// Only for want of memory.
-    #[tactic(auto, using(algorithm_limits::proofs::BoundLemmas::hides_one))]
-    pub fn add(&mut self, name: &Name) -> Result<(), AllocError>
-        ensures { OnOk result (Hides self.old self.new (name.now ∷ [])) }
-    {
-        self.names.insert(name.copied()?)?;
-        Ok(())
-    }
-
-    /// Binds these names too.
-    ///
-    /// # Errors
-    ///
-    /// Only for want of memory.
-    #[tactic(auto, using(algorithm_limits::proofs::BoundLemmas::hides_none, algorithm_limits::proofs::BoundLemmas::names_more, algorithm_limits::proofs::BoundLemmas::names_all))]
-    pub fn add_all(&mut self, names: &[PlacedName]) -> Result<(), AllocError>
-        ensures { OnOk result (Hides self.old self.new (words names.now)) }
-    {
-        for one in names {
-            self.add(&one.name)?;
-        }
-        Ok(())
-    }
-
-    /// Binds the names of these groups too.
-    ///
-    /// # Errors
-    ///
-    /// Only for want of memory.
-    #[tactic(auto, using(algorithm_limits::proofs::BoundLemmas::hides_none, algorithm_limits::proofs::BoundLemmas::groups_more, algorithm_limits::proofs::BoundLemmas::groups_all))]
-    pub fn add_groups(&mut self, groups: &[Vec<PlacedName>]) -> Result<(), AllocError>
-        ensures { OnOk result (Hides self.old self.new (flat_map words (groups_of groups.now))) }
-    {
-        for i in 0..groups.len() {
-            self.add_all(&groups[i])?;
-        }
-        Ok(())
-    }
-
-    /// Binds what the next part of a form sees besides what the part of this number does.
-    ///
-    /// # Errors
-    ///
-    /// Only for want of memory.
-    pub fn add_next(&mut self, form: &Form, part: usize) -> Result<(), AllocError>
-        ensures { OnOk result (Hides self.old self.new (seen_next (form_of form.now) part)) }
-    {
-        match form {
-            Form::Binding(_, groups) => {
-                if groups.len() > 0 && part == groups.len() - 1 {
-                    self.add_groups(groups)
-                } else {
-                    Ok(())
-                }
-            }
-            Form::Local(names) => {
-                if part < names.len() {
-                    self.add(&names[part].name)
-                } else {
-                    Ok(())
-                }
-            }
-            _ => Ok(()),
-        }
-    }
-
-    /// Binds the names of these declarations too.
-    ///
-    /// # Errors
-    ///
-    /// Only for want of memory.
-    #[tactic(auto, using(algorithm_limits::proofs::BoundLemmas::hides_none))]
-    pub fn add_declared(&mut self, list: &[Declaration]) -> Result<(), AllocError>
-        ensures { OnOk result (Hides self.old self.new (words (declared_names list.now))) }
-    {
-        for i in 0..list.len() {
-            let declaration = &list[i];
-            self.add(&declaration.name.name)?;
-        }
-        Ok(())
-    }
-
-    /// Keeps the names that were bound first, so many.
-    pub fn truncate(&mut self, len: usize)
-        ensures { self.new ≡ take len self.old }
-    {
-        self.names.truncate(len);
-    }
+    Ok(())
 }

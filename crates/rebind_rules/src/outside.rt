@@ -7,7 +7,7 @@ ghost use Rattle.algorithm_limits.specs.DepthsIn.{Hides};
 ghost use Rattle.module_outside.specs.WholeAt.{outside_at};
 ghost use Rattle.rebind_rules.specs.OutsideWords.{read_words, passed_words};
 
-use crate::names::Names;
+use algorithm_limits::bound::Bound;
 use module_outside::definition::ReadDefinition;
 use module_outside::outside::Outside;
 use outside_units::passed::Passed;
@@ -15,7 +15,7 @@ use std::alloc::AllocError;
 use tla_tree::Name;
 
 // Names.
-fn bind_names(bound: &mut Names, names: &[Name]) -> Result<(), AllocError>
+fn bind_names(bound: &mut Bound, names: &[Name]) -> Result<(), AllocError>
     ensures { OnOk result (Hides bound.old bound.new names.now) }
 {
     for name in names {
@@ -25,7 +25,7 @@ fn bind_names(bound: &mut Names, names: &[Name]) -> Result<(), AllocError>
 }
 
 // Those of definitions.
-fn bind_read(bound: &mut Names, list: &[ReadDefinition]) -> Result<(), AllocError>
+fn bind_read(bound: &mut Bound, list: &[ReadDefinition]) -> Result<(), AllocError>
     ensures { OnOk result (Hides bound.old bound.new (read_words list.now)) }
 {
     for definition in list {
@@ -35,7 +35,7 @@ fn bind_read(bound: &mut Names, list: &[ReadDefinition]) -> Result<(), AllocErro
 }
 
 // Those of units that are passed on.
-fn bind_passed(bound: &mut Names, list: &[Passed]) -> Result<(), AllocError>
+fn bind_passed(bound: &mut Bound, list: &[Passed]) -> Result<(), AllocError>
     ensures { OnOk result (Hides bound.old bound.new (passed_words list.now)) }
 {
     for unit in list {
@@ -49,7 +49,7 @@ fn bind_passed(bound: &mut Names, list: &[Passed]) -> Result<(), AllocError>
 /// # Errors
 ///
 /// Only for want of memory.
-pub fn bind_units(bound: &mut Names, outside: &Outside) -> Result<(), AllocError>
+pub fn bind_units(bound: &mut Bound, outside: &Outside) -> Result<(), AllocError>
     ensures { OnOk result ((ts : List Tree) → Hides bound.old bound.new (unit_names (outside_at ts outside.now))) }
 {
     bound.add_all(&outside.constants)?;

@@ -13,6 +13,7 @@ ghost use Rattle.rebind_rules.specs.Macros.{macro_names};
 ghost use Rattle.rebind_rules.specs.Whole.{AreNone, AreAlone, AreSights, Begins, insides};
 
 use crate::kept::{Calls, Keeps};
+use crate::names::add_declared;
 use crate::outside::bind_units;
 use crate::sight::Sight;
 use crate::walk::Walk;
@@ -154,7 +155,7 @@ impl Whole {
         self.calls
             .procedures
             .procedures(alloc, &self.sights.own, pool, &algorithm.procedures)?;
-        self.walk.bound.add_declared(&algorithm.globals)?;
+        add_declared(&mut self.walk.bound, &algorithm.globals)?;
         bind_units(&mut self.walk.bound, outside)?;
         self.walk
             .definitions(&self.sights.near, pool, &algorithm.definitions)?;

@@ -7,7 +7,6 @@ ghost use Rattle.tla_tree.specs.Tree.{Word};
 ghost use Rattle.outside_sight.specs.ModulesIn.{AreModules};
 ghost use Rattle.pcal_tree.specs.OffencesRebind.{may_rebind};
 
-use crate::names::Names;
 use algorithm_limits::bound::Bound;
 use outside_sight::modules::Modules;
 use tla_token::word::is_among;
@@ -48,7 +47,7 @@ impl Sight {
     }
 
     /// Whether other text may be put in for a name, where these are bound.
-    pub fn lets(&self, bound: &Names, name: &Name) -> bool
+    pub fn lets(&self, bound: &Bound, name: &Name) -> bool
         ensures { result ≡ (list_any (pointwise ◌==◌ name.now) self.now.stands && not (list_any (pointwise ◌==◌ name.now) bound.now)) }
     {
         let stands = self.stands.has(name);

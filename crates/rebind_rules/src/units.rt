@@ -13,6 +13,7 @@ ghost use Rattle.rebind_rules.specs.Keeping.{KnowsCalls};
 ghost use Rattle.rebind_rules.specs.Units.{declared_names};
 
 use crate::kept::Calls;
+use crate::names::add_declared;
 use crate::sight::Sight;
 use crate::walk::Walk;
 use pcal_tree::algorithm::{Declaration, Definition, Procedure};
@@ -49,8 +50,8 @@ impl Walk {
     {
         self.declared(sight, params)?;
         self.declared(sight, variables)?;
-        self.bound.add_declared(params)?;
-        self.bound.add_declared(variables)?;
+        add_declared(&mut self.bound, params)?;
+        add_declared(&mut self.bound, variables)?;
         self.starts(sight, pool, params)?;
         self.starts(sight, pool, variables)
     }

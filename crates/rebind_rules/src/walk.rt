@@ -10,8 +10,8 @@ ghost use Rattle.pcal_tree.specs.laws.MacroBindings.{beneath, offences_where};
 ghost use Rattle.rebind_rules.specs.Telling.{binding_of, IsNew, Gains, Adds};
 
 use crate::binding::Binding;
-use crate::names::Names;
 use crate::sight::Sight;
+use algorithm_limits::bound::Bound;
 use algorithm_limits::order::or_offence;
 use indexmap::IndexSet;
 use std::alloc::{AllocError, Global};
@@ -25,7 +25,7 @@ const MANY: usize = 16;
 /// what may offend in a scope, each once.
 #[derive(Drop)]
 pub struct Walk {
-    pub bound: Names,
+    pub bound: Bound,
     pub first: Option<Refusal>,
     pub free: IndexSet<Binding>,
 }
@@ -36,7 +36,7 @@ impl Walk {
         ensures { IsNew result }
     {
         Walk {
-            bound: Names::new(alloc),
+            bound: Bound::new(alloc),
             first: None,
             free: IndexSet::new(alloc),
         }

@@ -40,8 +40,8 @@ returns c = λ m e z n w.
     let mid : Walk = record { bound = c.bind_units.new.bound; first = old.first; free = old.free } in
     refusal_told ts a o mid c.definitions.new.self c.inside.new.self s m e g w.first w.free
     (subst (λ (b : List Word). Hides b c.bind_units.new.bound (globals ++ unit_names o)) w.bound
-    (hides_then old.bound c.add_declared.new.self c.bind_units.new.bound globals (unit_names o)
-    (subst (λ (ws : List Word). Hides old.bound c.add_declared.new.self ws) (ap (λ (ds : List Declaration). words (declared_names ds)) c.deref-3.ensures.value ∙ words_are ts a.globals.items) c.in_ok-add_declared.ensures) (c.in_ok-bind_units.ensures ts)))
+    (hides_then old.bound c.add_declared.new.bound c.bind_units.new.bound globals (unit_names o)
+    (subst (λ (ws : List Word). Hides old.bound c.add_declared.new.bound ws) (ap (λ (ds : List Declaration). words (declared_names ds)) c.deref-3.ensures.value ∙ words_are ts a.globals.items) c.in_ok-add_declared.ensures) (c.in_ok-bind_units.ensures ts)))
     (subst (λ (ds : List memory.Definition). AddsNaming s.near any_name mid c.definitions.new.self (map (λ (d : Definition). d.name.word) (definitions_at ts ds)) (λ ms r. definitions_rebind ms (definitions_at ts ds) r)) c.deref-4.ensures.value
     c.in_ok-definitions.ensures)
     (c.in_ok-inside.ensures (record { modules = m; sights = g; process = n.process; macros = n.macros; procedures = kept s.far.stands n.procedures g.own }))

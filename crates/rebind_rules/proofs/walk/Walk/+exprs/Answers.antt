@@ -8,7 +8,7 @@ use Rattle.tla_tree.proofs.PoolNumbers.{AllBelow-at}
 use Rattle.tla_pool.specs.FormOf.{form_of}
 use Rattle.pcal_tree.specs.OffencesRebind.{form_rebinds, parts_rebind}
 use Rattle.rebind_rules.specs.Telling.{Adds, AddsParts}
-use Rattle.rebind_rules.proofs.ExprLaws.{parts_start, parts_more, parts_done, node_adds}
+use Rattle.rebind_rules.proofs.ExprLaws.{parts_start, parts_more, parts_cut, parts_done, node_adds}
 use Rattle.rebind_rules.proofs.walk.Walk.+exprs.Goals as goal
 
 pub expr-parts-requires : goal.expr-parts-requires
@@ -53,3 +53,9 @@ parts-loop-i-preserved t c = λ K.
 
 pub parts-returns : goal.parts-returns
 parts-returns t c = λ K. parts_done c.args.sight.now K c.args.self.now c.loop-i.self (form_of c.args.form.now) c.args.pool.now c.args.parts.now c.loop-i.i c.loop-i-test.false (c.loop-i.invariant K)
+
+pub parts-returns-then-ends_in_literal : goal.parts-returns-then-ends_in_literal
+parts-returns-then-ends_in_literal t c = λ K.
+    let e = slice_index_or c.args.parts.now c.loop-i.i 0 in
+    parts_cut c.args.sight.now K c.args.self.now c.loop-i.self c.expr.new.self (form_of c.args.form.now) c.args.pool.now c.args.parts.now c.loop-i.i e (get_or_default c.args.parts.now c.loop-i.i 0 e c.loop-i-test.true) c.loop-i-test.true
+    c.requires.shaped (c.in_ok-expr.ensures K) (c.ends_in_literal.ensures c.if-ends_in_literal.true) (c.loop-i.invariant K)

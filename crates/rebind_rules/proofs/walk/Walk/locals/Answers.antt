@@ -13,7 +13,7 @@ pub returns : goal.returns
 returns c =
     on_ok_weaker c.starts-2.result
     (λ a.
-    let mid : Walk = record { bound = c.add_declared-2.new.self; first = c.declared-2.new.self.first; free = c.declared-2.new.self.free } in
+    let mid : Walk = record { bound = c.add_declared-2.new.bound; first = c.declared-2.new.self.first; free = c.declared-2.new.self.free } in
     locals_adds c.args.sight.now c.args.pool.now c.args.self.now c.declared.new.self c.declared-2.new.self mid c.starts.new.self c.starts-2.new.self c.args.params.now c.args.variables.now c.in_ok-declared.ensures c.in_ok-declared-2.ensures refl refl
-    (hides_then c.declared-2.new.self.bound c.add_declared.new.self c.add_declared-2.new.self (words (declared_names c.args.params.now)) (words (declared_names c.args.variables.now)) c.in_ok-add_declared.ensures c.in_ok-add_declared-2.ensures)
+    (hides_then c.declared-2.new.self.bound c.add_declared.new.bound c.add_declared-2.new.bound (words (declared_names c.args.params.now)) (words (declared_names c.args.variables.now)) c.in_ok-add_declared.ensures c.in_ok-add_declared-2.ensures)
     (c.in_ok-starts.ensures any_name) (a any_name)) c.starts-2.ensures

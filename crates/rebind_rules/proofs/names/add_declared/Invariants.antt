@@ -3,7 +3,7 @@ use Rattle.std.proofs.Common.{take}
 use Rattle.tla_tree.specs.Tree.{words}
 use Rattle.algorithm_limits.specs.DepthsIn.{Hides}
 use Rattle.rebind_rules.specs.Units.{declared_names}
-use Rattle.rebind_rules.proofs.names.Names.add_declared.Given as goal
+use Rattle.rebind_rules.proofs.names.add_declared.Given as goal
 
 abbrev pub invariant-loop-i : goal.invariant-loop-i
-invariant-loop-i l = Hides l.fn.self l.self (words (declared_names (take l.i l.list)))
+invariant-loop-i l = Hides l.fn.bound l.bound (words (declared_names (take l.i l.list)))
