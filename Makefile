@@ -3,8 +3,8 @@
 # make links      looks for dead links and long lines in the pages, for what they name
 #                 and isn't there, and for mistakes in the man page
 #
-# The first build proves all that the program stands on, which takes some three quarters of an hour on four cores
-# at least. The gate is `rt ci`, not make.
+# The first build proves all that the program stands on, which takes about an hour on four cores, and up to two where
+# these are slow. The gate is `rt ci`, not make.
 
 PREFIX = $(HOME)/.local
 DESTDIR =
