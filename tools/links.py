@@ -14,9 +14,6 @@ import sys
 
 TOP = os.path.dirname(os.path.dirname(os.path.abspath(__file__)))
 MOST = 120
-# lines of the pages that were written before this script; they are to be broken anew
-OLDER = 160
-NEWER = ["docs/ERRORS.md", "docs/WALK.md", "docs/FROM-JAVA.md", "docs/TUTORIAL.md", "editors/", "examples/"]
 FOLDERS = ["crates", "docs", "editors", "examples", "tools", "man", "completions"]
 
 
@@ -24,10 +21,6 @@ def pages():
     listed = subprocess.run(["git", "ls-files", "-z", "--cached", "--others", "--exclude-standard", "*.md"],
                             cwd=TOP, capture_output=True, check=True)
     return sorted(p for p in listed.stdout.decode().split("\0") if p and os.path.exists(os.path.join(TOP, p)))
-
-
-def most(page):
-    return MOST if any(page == n or (n.endswith("/") and page.startswith(n)) for n in NEWER) else OLDER
 
 
 def text_lines(path):
@@ -76,8 +69,8 @@ def is_there(page, target):
 def look(page):
     full = os.path.join(TOP, page)
     for number, line in text_lines(full):
-        if len(line) > most(page) and not line.startswith("|"):
-            yield number, f"{len(line)} characters, {most(page)} are the most"
+        if len(line) > MOST and not line.startswith("|"):
+            yield number, f"{len(line)} characters, {MOST} are the most"
         bare = re.sub(r"`[^`]*`", lambda m: "`" * len(m.group(0)), line)
         for m in re.finditer(r"\]\(([^)\s]+)\)", bare):
             target = m.group(1)
