@@ -66,10 +66,8 @@ fn alone(alloc: Global, tokens: &Tokens, word: Word, set: Read) -> Result<Bound,
     ensures nesting { IfOk result (λ x. x.nesting ≡ set.shape.nesting) }
 {
     let sets = Vec::from_array(alloc, [set.id])?;
-    let mut names = Vec::new(alloc);
-    keep_name(alloc, tokens, &mut names, word)?;
-    let mut groups = Vec::new(alloc);
-    groups.push(names)?;
+    let names = Vec::from_array(alloc, [placed(alloc, tokens, word)?])?;
+    let groups = Vec::from_array(alloc, [names])?;
     let all = Bound {
         groups,
         sets,

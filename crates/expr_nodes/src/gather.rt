@@ -85,10 +85,8 @@ pub fn filter(
     ensures within { IfOk result (λ x. x.id < length pool.new) }
     ensures kept { Keeps pool.old pool.new }
 {
-    let mut group = Vec::new(alloc);
-    group.push(placed(alloc, tokens, word)?)?;
-    let mut groups = Vec::new(alloc);
-    groups.push(group)?;
+    let group = Vec::from_array(alloc, [placed(alloc, tokens, word)?])?;
+    let groups = Vec::from_array(alloc, [group])?;
     let mut sets = Vec::new(alloc);
     sets.push(set.id)?;
     let nesting = larger(set.shape.nesting, test.shape.nesting);

@@ -114,7 +114,7 @@ pub fn read_parts(alloc: Global, parts: &Parts<'_>, pool: &mut Pool) -> Result<A
     ensures stopped { IfErr result (λ e. IsStop (λ r. AnswersRewriting parts.now.text.now (Some r)) e) }
 {
     match algorithm_tokens(alloc, parts) {
-        Ok(tokens) => match pool.reserve(tokens.items.len()) {
+        Ok(tokens) => match pool.reserve(tokens.items.len() / 2) {
             Ok(()) => read_in(alloc, &tokens, parts.is_c, pool),
             Err(AllocError) => Err(Stop::Memory),
         },
