@@ -45,10 +45,10 @@ module _ (o : Outside) (a : Algorithm) (h : IsAcceptedInFile o a) (values : Valu
 
   -- ---- bound names are neither self nor own variables
 
-  abbrev Aside : Word → Type 0
+  abbrev pub Aside : Word → Type 0
   Aside x = (bytes_eq x self ≡ false) × (is_own_variable A x ≡ false)
 
-  bound_aside : (x : Word) → Bound o a h values x → Aside x
+  pub bound_aside : (x : Word) → Bound o a h values x → Aside x
   bound_aside x b =
       let n = not_own o x b.1 in (
         turned self x (own_differs self x refl n),
@@ -60,14 +60,14 @@ module _ (o : Outside) (a : Algorithm) (h : IsAcceptedInFile o a) (values : Valu
   all_aside : AllIn Aside (bound_lists a)
   all_aside = each_to (Bound o a h values) Aside bound_aside _ (bound_all o a h values)
 
-  aside_apart : (x : Word) → Aside x → Apart (owned self (is_own_variable A)) x
+  pub aside_apart : (x : Word) → Aside x → Apart (owned self (is_own_variable A)) x
   aside_apart x n = record { left = λ at. ap (λ c. cond c (Some (own_part self x at)) None) n.1; unread = λ y at. unread y at (is_own_variable A y) refl }
     where
       unread : (y : Word) (at : Place) (c : Bool) → is_own_variable A y ≡ c → NotFreeIn x (cond c (Some (own_part self y at)) None)
       unread y at true q = (tt, ((false_among (bytes_eq x y) (λ e. never (sym q ∙ ap (is_own_variable A) (sym ((bytes_eq-Decides x y).0 e)) ∙ n.1)), tt), ((n.0, tt), tt)))
       unread y at false q = tt
 
-  renames_has : (N : Word → Type 0) (u : Routine) (x : Word) (at : Place) → Has (BindsAll N) N (renames A u) (renames A u x at)
+  pub renames_has : (N : Word → Type 0) (u : Routine) (x : Word) (at : Place) → Has (BindsAll N) N (renames A u) (renames A u x at)
   renames_has N u x at = by (declares (locals u) x)
     where
       by : (c : Bool) → Has (BindsAll N) N (renames A u) (cond c (Some (node (name (written A u x)) at no_trees)) None)

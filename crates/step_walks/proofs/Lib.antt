@@ -2,5 +2,7 @@
 pub mod FlowLaws
 pub mod StepLaws
 pub mod StartLaws
+pub mod FirstValueLaws
+pub mod WrittenValues
 pub mod WrittenLaws
 mod Rows

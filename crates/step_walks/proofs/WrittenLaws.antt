@@ -3,8 +3,9 @@ use Rattle.std.proofs.Common.{◌≡◌, ℕ, List, refl, sym, ap, ◌∙◌}
 use Rattle.tla_value.specs.Grafts.{owned}
 use Rattle.tla_value.specs.Definitions.{Definition}
 use Rattle.module_tree.specs.Formulas.{self}
+use Rattle.pcal_tree.specs.Algorithm.{procedure_routines}
 use Rattle.pcal_tree.specs.Scope.{State}
-use Rattle.pcal_tree.specs.Run.{Course, exit_to}
+use Rattle.pcal_tree.specs.Run.{Course, Rules, exit_to}
 use Rattle.pcal_tree.specs.Program.{Program, Actor}
 use Rattle.pcal_tree.specs.Calls.{rules_without_macros}
 use Rattle.pcal_tree.specs.Step.{Stand, course_of}
@@ -16,7 +17,10 @@ use Rattle.action_builder.specs.laws.WrittenScope.{written_scope, NamesApart}
 use Rattle.action_builder.specs.laws.StepsOfLabels.{NamesGiven}
 use Rattle.action_builder.proofs.Prepared.{localised}
 use Rattle.action_builder.proofs.StepsOfLabels.{course_named}
-use Rattle.step_walks.specs.WrittenFlows.{own_statements, written_flow}
+use Rattle.step_walks.specs.FirstValues.{as_declared, as_written}
+use Rattle.step_walks.specs.WrittenFlows.{own_statements, flow_by_rules, written_flow, written_flow_by}
+use Rattle.step_walks.specs.laws.FirstValues.{CallsAlike}
+use Rattle.step_walks.proofs.FirstValueLaws.{rules_declared}
 use Rattle.step_walks.proofs.StepLaws.{list_flows}
 
 pub written_flows : (P : Program) (extra : List Definition) (v : Actor) (d : Stand) → NamesApart P extra v d.routine → NamesGiven P extra d
@@ -28,3 +32,10 @@ written_flows P extra v d apart given clean s ns =
     (course_named P extra v d apart given
     ∙ sym (localised M self (is_own_variable P) d.label (written_statements P d.routine d.begins.items) sc (λ x at p s. refl) clean (exit_to M d.begins.exit)))
     ∙ list_flows M (λ here at m ts sc K s. refl) d.label (own_statements P d.routine d.begins.items) sc (exit_to M d.begins.exit) s ns
+
+-- where the first values of procedures' variables are the same by their written names
+pub written_flows_by : (P : Program) (extra : List Definition) (v : Actor) (d : Stand) → NamesApart P extra v d.routine → NamesGiven P extra d
+    → Clean P.check (owned self (is_own_variable P)) (written_statements P d.routine d.begins.items) → CallsAlike (as_written P extra) (as_declared P) v (procedure_routines P.algorithm)
+    → (s : State) (ns : List ℕ) → walk (course_of P v d s) ns ≡ written_flow_by P extra v d s ns
+written_flows_by P extra v d apart given clean calls s ns =
+    written_flows P extra v d apart given clean s ns ∙ ap (λ (M : Rules). flow_by_rules M P extra v d s ns) (sym (rules_declared (as_written P extra) P v calls d.routine))

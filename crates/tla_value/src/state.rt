@@ -1,6 +1,6 @@
 //! States: a value for each name, in the order of the names.
 
-ghost use Rattle.std.specs.Prelude.{◌≡◌, [], OnOk, OnErr, length};
+ghost use Rattle.std.specs.Prelude.{◌≡◌, [], OnOk, OnErr, IfOk, length};
 ghost use Rattle.std.specs.Option.{option_copied};
 ghost use Rattle.tla_value.specs.States.{value_of, updated};
 
@@ -51,6 +51,22 @@ impl State {
         ensures { option_copied result ≡ value_of self.now name.now }
     {
         self.map.get(name)
+    }
+
+    /// Gives a name a value, and answers the one that it had; a new name goes last.
+    ///
+    /// # Errors
+    ///
+    /// Only for want of memory; the state is then as before.
+    pub fn replace(&mut self, name: Name, value: Value) -> Result<Option<Value>, AllocError>
+        ensures ok { OnOk result (self.new ≡ updated self.old name value) }
+        ensures before { IfOk result (λ o. o ≡ value_of self.old name) }
+        ensures err { OnErr result (self.new ≡ self.old) }
+    {
+        match self.map.insert(name, value) {
+            Ok(old) => Ok(old),
+            Err(_) => Err(AllocError),
+        }
     }
 
     /// Gives a name a value; a new name goes last.

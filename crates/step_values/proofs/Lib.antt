@@ -1,0 +1,4 @@
+-- Lemmas of this crate.
+pub mod ScopeLaws
+pub mod LeftLaws
+pub mod SettingLists

@@ -1,0 +1,2 @@
+-- What laws on steps and starts ask.
+pub mod FirstValues
