@@ -1,0 +1,4 @@
+-- Lemmas of this crate.
+pub mod PlaceLists
+pub mod CallLaws
+pub mod FlowLaws
