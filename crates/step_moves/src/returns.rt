@@ -52,12 +52,8 @@ fn set_locals(
     set_all(state, all)
 }
 
-/// Sets a process's stack.
-///
-/// # Errors
-///
-/// For want of memory, and exactly where it can't be set. The state may then have changed.
-pub fn set_stack(
+// Sets a process's stack.
+fn set_stack(
     alloc: Global,
     runner: &Runner<'_>,
     state: &mut State,

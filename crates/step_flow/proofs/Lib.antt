@@ -1,4 +1,0 @@
--- Lemmas of this crate.
-pub mod PlaceLists
-pub mod CallLaws
-pub mod FlowLaws
