@@ -1,9 +1,0 @@
--- Lemmas of this crate.
-pub mod PreparedLaws
-pub mod CalledLaws
-pub mod CallForms
-pub mod SettingLaws
-pub mod VariableLaws
-pub mod OrderLaws
-pub mod MoveLaws
-pub mod ReturnForms
