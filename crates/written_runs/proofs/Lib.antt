@@ -1,0 +1,7 @@
+-- Lemmas of this crate.
+pub mod SameRuns
+pub mod OnceRuns
+pub mod StandLaws
+pub mod SpotsPut
+pub mod OwnSpotLaws
+pub mod Rows

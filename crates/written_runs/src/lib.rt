@@ -1,0 +1,4 @@
+//! Runs that take their steps with the written names: they are those that follow a script.
+#![tactic(auto)]
+
+pub mod laws;
