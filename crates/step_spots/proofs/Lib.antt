@@ -1,3 +1,4 @@
 -- Lemmas of this crate.
 pub mod SpotLaws
 pub mod FirstSpots
+pub mod SpotNumbers

@@ -1,10 +1,11 @@
 -- Labels and routines in memory, and what they stand for where the pool has these trees.
 use Rattle.std.specs.Prelude.{◌≡◌, ℕ, zero, suc, List, [], ◌++◌, map, drop, codes, false}
 use Rattle.tla_tree.specs.Tree.{Word, Tree, Name}
+use Rattle.tla_tree.specs.Nesting.{greatest}
 use Rattle.pcal_tree.specs.declared.algorithm.Stmt.{Stmt}
 use Rattle.pcal_tree.specs.Algorithm as tree
 use Rattle.pcal_tree.specs.Algorithm.{Statements}
-use Rattle.pcal_tree.specs.InMemory.{statements_at, declarations_at}
+use Rattle.pcal_tree.specs.InMemory.{statements_at, declarations_at, past_statements}
 use Rattle.pcal_tree.specs.Run.{label_of}
 use Rattle.step_spots.specs.declared.walk.Spot as code
 use Rattle.step_spots.specs.declared.routine.Routine.{Routine}
@@ -13,6 +14,13 @@ use Rattle.step_spots.specs.Spots.{Spot}
 
 abbrev pub spot_at : List Tree → code.Spot → Spot
 spot_at ts s = record { name = s.label.now; begins = record { items = statements_at ts s.items.now; exit = target_word s.exit } }
+
+-- past which numbers those of the statements after a label are, and after labels: the least number that is above each
+abbrev pub past_spot : code.Spot → ℕ
+past_spot s = past_statements s.items.now
+
+abbrev pub past_spots : List code.Spot → ℕ
+past_spots ss = greatest (map past_spot ss)
 
 -- these were added
 abbrev pub AddsSpots : List Tree → List code.Spot → List code.Spot → List Spot → Type 0

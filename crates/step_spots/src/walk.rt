@@ -1,13 +1,13 @@
 //! The labels of a routine, in the order of the text.
 
-ghost use Rattle.std.specs.Prelude.{◌≡◌, ◌<◌, List, length, drop, map, bytes_eq, IfOk, OnOk};
+ghost use Rattle.std.specs.Prelude.{◌≡◌, ◌<◌, ◌≤◌, max, List, length, drop, map, bytes_eq, Contains, IfOk, IfSome, OnOk};
 ghost use Rattle.std.specs.Option.{option_map};
 ghost use Rattle.tla_tree.specs.Tree.{Tree};
-ghost use Rattle.pcal_tree.specs.InMemory.{statements_at, branches_at};
+ghost use Rattle.pcal_tree.specs.InMemory.{statements_at, branches_at, past_statements, past_branches};
 ghost use Rattle.pcal_tree.specs.Run.{unlabelled};
 ghost use Rattle.step_spots.specs.Targets.{target_word};
 ghost use Rattle.step_spots.specs.Spots.{spots as spots_of, spots_some, first_spots, spot_named};
-ghost use Rattle.step_spots.specs.InMemory.{spot_at, here_at, AddsSpots};
+ghost use Rattle.step_spots.specs.InMemory.{spot_at, past_spot, past_spots, here_at, AddsSpots};
 
 use crate::target::{Target, next_target};
 use pcal_tree::algorithm::Stmt;
@@ -47,7 +47,8 @@ fn add_stmt<'a>(
     out: &mut Vec<Spot<'a>>,
 ) -> Result<(), AllocError>
     requires { number < length stmts.now }
-    ensures { OnOk result ((ts : List Tree) → AddsSpots ts out.old.items out.new.items (first_spots (target_word here.entry) (statements_at ts (drop number stmts.now)) (target_word exit.entry))) }
+    ensures adds { OnOk result ((ts : List Tree) → AddsSpots ts out.old.items out.new.items (first_spots (target_word here.entry) (statements_at ts (drop number stmts.now)) (target_word exit.entry))) }
+    ensures within { OnOk result (past_spots out.new.items ≤ max (past_spots out.old.items) (past_statements stmts.now)) }
 {
     let rest = &stmts[number + 1..];
     let next = next_target(rest, exit);
@@ -78,7 +79,8 @@ fn add_branches<'a>(
     list: &'a [Vec<Stmt>],
     out: &mut Vec<Spot<'a>>,
 ) -> Result<(), AllocError>
-    ensures { OnOk result ((ts : List Tree) → AddsSpots ts out.old.items out.new.items (spots_some (branches_at ts list.now) (target_word exit.entry))) }
+    ensures adds { OnOk result ((ts : List Tree) → AddsSpots ts out.old.items out.new.items (spots_some (branches_at ts list.now) (target_word exit.entry))) }
+    ensures within { OnOk result (past_spots out.new.items ≤ max (past_spots out.old.items) (past_branches list.now)) }
 {
     for i in 0..list.len() {
         add_stmts(Target::Nowhere, exit, &list[i], out)?;
@@ -95,7 +97,8 @@ fn add_stmts<'a>(
     stmts: &'a [Stmt],
     out: &mut Vec<Spot<'a>>,
 ) -> Result<(), AllocError>
-    ensures { OnOk result ((ts : List Tree) → AddsSpots ts out.old.items out.new.items (spots_of (target_word here.entry) (statements_at ts stmts.now) (target_word exit.entry))) }
+    ensures adds { OnOk result ((ts : List Tree) → AddsSpots ts out.old.items out.new.items (spots_of (target_word here.entry) (statements_at ts stmts.now) (target_word exit.entry))) }
+    ensures within { OnOk result (past_spots out.new.items ≤ max (past_spots out.old.items) (past_statements stmts.now)) }
 {
     for i in 0..stmts.len() {
         let label = target_at(stmts, i, here, exit);
@@ -115,7 +118,8 @@ pub fn spots<'a>(
     body: &'a [Stmt],
     exit: Target<'a>,
 ) -> Result<Vec<Spot<'a>>, AllocError>
-    ensures { IfOk result (λ r. (ts : List Tree) → map (spot_at ts) r.items ≡ spots_of unlabelled (statements_at ts body.now) (target_word exit.entry)) }
+    ensures list { IfOk result (λ r. (ts : List Tree) → map (spot_at ts) r.items ≡ spots_of unlabelled (statements_at ts body.now) (target_word exit.entry)) }
+    ensures within { IfOk result (λ r. past_spots r.items ≤ past_statements body.now) }
 {
     let mut all = Vec::new(alloc);
     add_stmts(Target::Nowhere, exit, body, &mut all)?;
@@ -132,7 +136,10 @@ fn has_name(spot: Spot<'_>, name: &Name) -> bool
 
 /// The first of some labels that has a name.
 pub fn spot_of<'a>(spots: &[Spot<'a>], name: &Name) -> Option<Spot<'a>>
-    ensures { (ts : List Tree) → option_map (spot_at ts) result ≡ spot_named (map (spot_at ts) spots.now) name.now }
+    ensures first { (ts : List Tree) → option_map (spot_at ts) result ≡ spot_named (map (spot_at ts) spots.now) name.now }
+    ensures among { IfSome result (λ s. Contains spots.now s) }
+    ensures named { IfSome result (λ s. s.label.now.word ≡ name.now) }
+    ensures within { IfSome result (λ s. past_spot s ≤ past_spots spots.now) }
 {
     for i in 0..spots.len() {
         let spot = spots[i];

@@ -1,0 +1,5 @@
+-- Lemmas for the contracts of this crate.
+mod PlacesLaws
+mod NumberedLaws
+mod RoutineLaws
+pub mod LabelLaws

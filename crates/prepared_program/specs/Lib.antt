@@ -1,0 +1,2 @@
+-- What the contracts of this crate are said in.
+pub mod PlacesOf
