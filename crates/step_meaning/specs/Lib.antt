@@ -1,0 +1,5 @@
+-- Words in which the contracts of this crate are said.
+pub mod Replies
+pub mod Stages
+pub mod StandsAt
+pub mod Walks
