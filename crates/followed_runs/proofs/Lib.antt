@@ -1,0 +1,6 @@
+-- Lemmas of this crate.
+pub mod OwnLaws
+pub mod ActorLaws
+pub mod StopLaws
+pub mod StartLaws
+pub mod FollowLaws
