@@ -1,0 +1,6 @@
+-- Lemmas of this crate.
+pub mod OwnLaws
+pub mod KeptLaws
+pub mod ConstantLaws
+pub mod GroundsLaws
+pub mod ProgramLaws

@@ -1,0 +1,4 @@
+-- Words in which the contracts of this crate are said.
+pub mod GroundsOf
+pub mod KeptOf
+pub mod ProgramsOf
