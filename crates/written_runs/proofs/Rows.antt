@@ -74,13 +74,13 @@ stop_of ns = (followed_once P (script ns)).stop
 abbrev values : State → List Value
 values s = s x ∷ s y ∷ s pc ∷ []
 
-abbrev row : ℕ → ℕ → Word → List Value
-row a b l = int (pos a) ∷ int (pos b) ∷ text l ∷ []
+abbrev told : ℕ → ℕ → Word → List Value
+told a b l = int (pos a) ∷ int (pos b) ∷ text l ∷ []
 
 to_the_end : stop_of (step ∷ step ∷ []) ≡ None
 to_the_end = refl
 
-each_state : map values (followed_once P (script (step ∷ step ∷ []))).states ≡ row 0 0 (codes "A") ∷ row 1 0 (codes "B") ∷ row 1 1 (codes "Done") ∷ []
+each_state : map values (followed_once P (script (step ∷ step ∷ []))).states ≡ told 0 0 (codes "A") ∷ told 1 0 (codes "B") ∷ told 1 1 (codes "Done") ∷ []
 each_state = refl
 
 past_the_end : stop_of (step ∷ step ∷ step ∷ []) ≡ Some (record { step = 3; reply = no_label })
