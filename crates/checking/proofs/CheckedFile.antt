@@ -21,6 +21,9 @@ use Rattle.file_answer.specs.Checking.{AnswersChecking}
 use Rattle.file_answer.specs.Holds.{HoldsTree}
 use Rattle.file_answer.specs.Refusals.{or_else, IsStop}
 use Rattle.file_answer.specs.Spelling.{AnswersRewriting}
+use Rattle.module_outside.specs.declared.outside.Outside as beside
+use Rattle.module_outside.specs.FoundAt.{AreHeld}
+use Rattle.module_outside.specs.WholeAt.{outside_at}
 use Rattle.written_names.specs.Units.{naming_of}
 use Rattle.checking.specs.CheckedIn.{IsLabelled}
 use Rattle.checking.specs.declared.check.Checked.{Checked}
@@ -57,10 +60,10 @@ module _ (forced : Bool) (x : Text) (g a : Algorithm) (o : Outside) (right : Ans
   stop_told (Err (stop.Refused q)) h = decided (Some q) (h q refl)
 
   -- in memory
-  pub labelled_told : (ts : List Tree) (b : code.Algorithm) → algorithm_at ts b ≡ a → past_algorithm b ≤ length ts → (r : Result Checked Stop)
-      → IfOk r (λ c. c.algorithm ≡ b) → IfOk r (λ c. naming_of c.naming ≡ naming (algorithm_at ts b) o) → IfOk r (λ c. IsLabelled forced x ts c)
-  labelled_told ts b at past (Err s) h k = tt
-  labelled_told ts b at past (Ok c) h k = record {
+  pub labelled_told : (ts : List Tree) (b : code.Algorithm) (u : beside.Outside) → algorithm_at ts b ≡ a → past_algorithm b ≤ length ts → outside_at ts u ≡ o → AreHeld (length ts) u.definitions.items → (r : Result Checked Stop)
+      → IfOk r (λ c. c.algorithm ≡ b) → IfOk r (λ c. c.outside ≡ u) → IfOk r (λ c. naming_of c.naming ≡ naming (algorithm_at ts b) o) → IfOk r (λ c. IsLabelled forced x ts c)
+  labelled_told ts b u at past this held (Err s) h l k = tt
+  labelled_told ts b u at past this held (Ok c) h l k = record {
     tree = g;
     holds = holds;
     outside = o;
@@ -68,4 +71,6 @@ module _ (forced : Bool) (x : Text) (g a : Algorithm) (o : Outside) (right : Ans
     algorithm = ap (algorithm_at ts) h ∙ at ∙ is;
     past = subst (λ (d : code.Algorithm). past_algorithm d ≤ length ts) (sym h) past;
     names = k ∙ ap (λ (d : Algorithm). naming d o) (at ∙ is);
+    is_outside = ap (outside_at ts) l ∙ this;
+    held = subst (λ (v : beside.Outside). AreHeld (length ts) v.definitions.items) (sym l) held;
   }

@@ -17,6 +17,7 @@ use Rattle.module_tree.specs.laws.Outsides.{HasOutside}
 use Rattle.file_answer.specs.Holds.{HoldsTree}
 use Rattle.file_answer.specs.Refusals.{or_else}
 use Rattle.module_outside.specs.declared.outside.Outside as code
+use Rattle.module_outside.specs.FoundAt.{AreHeld}
 use Rattle.module_outside.specs.WholeAt.{outside_at}
 use Rattle.written_names.specs.Units.{naming_of}
 use Rattle.checking.specs.declared.check.Checked.{Checked}
@@ -26,7 +27,7 @@ use Rattle.checking.specs.declared.check.Checked.{Checked}
 abbrev pub wrong_with : List Tree → Algorithm → code.Outside → List Refusal
 wrong_with ts a o = or_else (name_offences (algorithm_at ts a) (outside_at ts o)) (label_offences (algorithm_at ts a) ++ too_large (algorithm_at ts a))
 
--- it is the algorithm of the file x with labels added, over these trees, and with the names that it is written with
+-- it is the algorithm of the file x with labels added, over these trees, with the names that it is written with, and with what the file has outside
 pub record IsLabelled (forced : Bool) (x : Text) (ts : List Tree) (c : Checked) : Type 0 where
   pub tree : tree.Algorithm
   pub holds : HoldsTree x tree
@@ -35,3 +36,5 @@ pub record IsLabelled (forced : Bool) (x : Text) (ts : List Tree) (c : Checked) 
   pub algorithm : algorithm_at ts c.algorithm ≡ labelled forced tree
   pub past : past_algorithm c.algorithm ≤ length ts
   pub names : naming_of c.naming ≡ naming (labelled forced tree) outside
+  pub is_outside : outside_at ts c.outside ≡ outside
+  pub held : AreHeld (length ts) c.outside.definitions.items

@@ -15,6 +15,7 @@ ghost use Rattle.pcal_tree.specs.Labelled.{labelled};
 ghost use Rattle.pcal_tree.specs.Names.{naming};
 ghost use Rattle.module_tree.specs.Walk.{walk};
 ghost use Rattle.module_tree.specs.laws.Outsides.{HasOutside};
+ghost use Rattle.module_outside.specs.FoundAt.{AreHeld};
 ghost use Rattle.module_outside.specs.WholeAt.{outside_at};
 ghost use Rattle.written_names.specs.Units.{naming_of};
 ghost use Rattle.checking.specs.CheckedIn.{wrong_with, IsLabelled};
@@ -32,13 +33,16 @@ use tla_pool::Pool;
 use tla_token::Stop;
 use written_names::naming::Naming;
 
-/// The algorithm of a module with which nothing is wrong: with its labels added, and with the names that it is written with.
+/// The algorithm of a module with which nothing is wrong: with its labels added, with the names that it is written with, and with what
+/// the module has outside.
 #[derive(Drop)]
 pub struct Checked {
     /// The algorithm, whose expressions are numbers of a pool.
     pub algorithm: Algorithm,
     /// Its written names.
     pub naming: Naming,
+    /// What the module has outside.
+    pub outside: Outside,
 }
 
 // Whether the labels of an algorithm are right, and it isn't too large.
@@ -65,6 +69,7 @@ struct Beside {
 fn rules_kept(alloc: Global, pool: &Pool, beside: Beside) -> Result<Checked, Stop>
     requires { past_algorithm beside.algorithm ≤ length pool.now }
     ensures algorithm { IfOk result (λ c. c.algorithm ≡ beside.algorithm) }
+    ensures outside { IfOk result (λ c. c.outside ≡ beside.outside) }
     ensures names { IfOk result (λ c. naming_of c.naming ≡ naming (algorithm_at pool.now beside.algorithm) (outside_at pool.now beside.outside)) }
     ensures clean { OnOk result (wrong_with pool.now beside.algorithm beside.outside ≡ []) }
     ensures refused { (r : refusals.Refusal) → result ≡ Err (stop.Refused r) → first (wrong_with pool.now beside.algorithm beside.outside) ≡ Some r }
@@ -75,8 +80,12 @@ fn rules_kept(alloc: Global, pool: &Pool, beside: Beside) -> Result<Checked, Sto
     };
     match check_labels(alloc, pool, &beside.algorithm) {
         Ok(()) => {
-            let Beside { algorithm, .. } = beside;
-            Ok(Checked { algorithm, naming })
+            let Beside { algorithm, outside } = beside;
+            Ok(Checked {
+                algorithm,
+                naming,
+                outside,
+            })
         }
         Err(stop) => Err(stop),
     }
@@ -95,6 +104,7 @@ fn with_labels(
     ensures algorithm { IfOk result (λ p. algorithm_at pool.new p.algorithm ≡ labelled forced (algorithm_at pool.old read)) }
     ensures past { IfOk result (λ p. past_algorithm p.algorithm ≤ length pool.new) }
     ensures outside { IfOk result (λ p. HasOutside (walk parts.now.text.now) (outside_at pool.new p.outside)) }
+    ensures held { IfOk result (λ p. AreHeld (length pool.new) p.outside.definitions.items) }
 {
     let outside = read_outside(alloc, pool, &parts.before, &parts.after)?;
     let algorithm = add_labels(alloc, pool, read, forced)?;

@@ -38,7 +38,11 @@ pub fn written_text(alloc: Global, text: &[u8], options: &Options) -> Result<Vec
         Ok(checked) => checked,
         Err(stop) => return Err(stop),
     };
-    let Checked { algorithm, naming } = checked;
+    let Checked {
+        algorithm,
+        naming,
+        ..
+    } = checked;
     let region = built_region(alloc, &mut pool, algorithm, &naming, options.no_terminating)?;
     let mut translation = Text::new(Vec::new(alloc));
     write_region(alloc, &pool, &region, &mut translation)?;

@@ -46,7 +46,11 @@ pub fn region_text(
     ensures made { (o : around.Outside) → IsAcceptedInFile o (algorithm_at pool.old checked.algorithm) → naming_of checked.naming ≡ names.naming (algorithm_at pool.old checked.algorithm) o → length (vars (with_names o (algorithm_at pool.old checked.algorithm))) ≤ most → IfOk result (IsRegionText no_terminating (with_names o (algorithm_at pool.old checked.algorithm))) }
     ensures stopped { IfErr result (IsStop (λ r. first (too_large (algorithm_at pool.old checked.algorithm)) ≡ Some r)) }
 {
-    let Checked { algorithm, naming } = checked;
+    let Checked {
+        algorithm,
+        naming,
+        ..
+    } = checked;
     let region = match built_region(alloc, pool, algorithm, &naming, no_terminating) {
         Ok(region) => region,
         Err(stop) => return Err(stop),

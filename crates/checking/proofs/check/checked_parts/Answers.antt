@@ -13,7 +13,8 @@ returns-in-Ok-with_labels-clause-labelled c =
     let ts = c.with_labels.new.pool in
     let b = c.in-Ok-with_labels.beside.algorithm in
     labelled_told c.args.forced c.args.parts.now.text.now (algorithm_at c.read_parts.new.pool c.in-Ok.read) (algorithm_at ts b) (outside_at ts c.in-Ok-with_labels.beside.outside) c.in-Ok.ensures.clean c.in-Ok.ensures.held
-    c.in-Ok-with_labels.ensures.outside c.in-Ok-with_labels.ensures.algorithm ts b refl c.in-Ok-with_labels.ensures.past c.rules_kept.result c.rules_kept.ensures.algorithm c.rules_kept.ensures.names
+    c.in-Ok-with_labels.ensures.outside c.in-Ok-with_labels.ensures.algorithm ts b c.in-Ok-with_labels.beside.outside refl c.in-Ok-with_labels.ensures.past refl c.in-Ok-with_labels.ensures.held c.rules_kept.result c.rules_kept.ensures.algorithm
+    c.rules_kept.ensures.outside c.rules_kept.ensures.names
 
 pub returns-in-Ok-with_labels-clause-clean : goal.returns-in-Ok-with_labels-clause-clean
 returns-in-Ok-with_labels-clause-clean c =
