@@ -1,0 +1,5 @@
+-- Proofs of the command `run`.
+pub mod Told
+pub mod FilesRead
+pub mod Answering
+pub mod Putting
