@@ -1,5 +1,5 @@
 # fish completion for pcal
-set -l commands translate check map rewrite make
+set -l commands translate check map rewrite run make
 
 complete -c pcal -f
 complete -c pcal -n "not __fish_seen_subcommand_from $commands" -a translate -d "the module with its translation"
@@ -7,8 +7,10 @@ complete -c pcal -n "not __fish_seen_subcommand_from $commands" -a check -d "whe
 complete -c pcal -n "not __fish_seen_subcommand_from $commands" -a map -d "where each label is"
 complete -c pcal -n "not __fish_seen_subcommand_from $commands" -a rewrite -d "the module in P- or C-syntax"
 complete -c pcal -n "not __fish_seen_subcommand_from $commands" -a make -d "counts of a made module"
+complete -c pcal -n "not __fish_seen_subcommand_from $commands" -a run -d "the states of the run that a script chooses"
 
 complete -c pcal -n "__fish_seen_subcommand_from translate check map rewrite" -k -a "(__fish_complete_suffix .tla)"
-complete -c pcal -n "__fish_seen_subcommand_from translate check map" -l label -d "add labels wherever some are missing"
-complete -c pcal -n "__fish_seen_subcommand_from translate" -l no-terminating -d "write no Terminating"
+complete -c pcal -n "__fish_seen_subcommand_from run" -F
+complete -c pcal -n "__fish_seen_subcommand_from translate check map run" -l label -d "add labels wherever some are missing"
+complete -c pcal -n "__fish_seen_subcommand_from translate run" -l no-terminating -d "write no Terminating"
 complete -c pcal -n "__fish_seen_subcommand_from rewrite" -l to -x -a "p\tP-syntax c\tC-syntax" -d "the syntax of the algorithm"

@@ -3,8 +3,9 @@
 
 Of each rule's section of docs/ERRORS.md the first block is the line, the second the text that is refused, the third the
 same text mended. The row `errors explained: N NAME` must have the second with the first for its answer, and the row
-with `, mended` the third. Texts that are told in short (`and so on`) are not compared.
-Of each example the module, its translation, `map.txt`, `slip.tla` and `slip.txt` must be as in its rows.
+with `, mended` the third; of rule 50 the texts are scripts. Texts that are told in short (`and so on`) are not compared.
+Of each example the module, its translation, `map.txt`, `slip.tla`, `slip.txt`, and its run with what it reads must be
+as in its rows.
 It writes one line for each that differs, and ends with status 1 where there is one.
 """
 import os
@@ -71,6 +72,11 @@ def errors():
         line, wrong, mended = blocks(rest)[:3]
         row = f"errors explained: {name}"
         what = f"docs/ERRORS.md, {name}:"
+        if name.startswith("50 "):
+            is_file(row, "S", wrong, f"{what} the refused text")
+            is_answer(row, "pcal run M.tla C S", refused(line), f"{what} the line")
+            is_file(f"{row}, mended", "S", mended, f"{what} the mended text")
+            continue
         if "and so on" not in wrong:
             is_file(row, "M.tla", wrong, f"{what} the refused text")
         is_answer(row, "pcal check M.tla", refused(line), f"{what} the line")
@@ -93,6 +99,12 @@ def examples():
         slip = f"{folder}/slip.tla"
         is_file(slip, "slip.tla", read(slip), slip)
         is_answer(slip, "pcal check slip.tla", refused(read(f"{folder}/slip.txt")), f"{folder}/slip.txt")
+        run = f"{folder}/run"
+        is_file(run, "M.tla", read(row), row)
+        is_file(run, "run.cfg", read(f"{run}.cfg"), f"{run}.cfg")
+        is_file(run, "run.script", read(f"{run}.script"), f"{run}.script")
+        states = f"--- status 0\n--- output\n{read(f'{run}.txt')}"
+        is_answer(run, "pcal run M.tla run.cfg run.script", states, f"{run}.txt")
 
 
 errors()

@@ -180,3 +180,72 @@ fn files_may_fail(rt: HostRuntime) -> Result<(), Fail> {
     }
     Ok(())
 }
+
+const RUN: &str = "pcal run M.tla C S";
+
+/// An algorithm that counts, and scripts of three steps, and of one that isn't taken after them.
+const COUNTS: &str =
+    "---- MODULE M ----\nEXTENDS Integers\n(*\n--algorithm R\nvariables x = 0;\nbegin\n  A: while TRUE do x := x + 1; end while;\nend algorithm\n*)\n====\n";
+
+const THREE: &str = "init\nstep :\nstep :\nstep :\n";
+
+const FOUR: &str = "init\nstep :\nstep :\nstep :\nstep : 1\n";
+
+const COUNTED: &str =
+    "State 0: initial\n/\\ x = 0\n/\\ pc = \"A\"\nState 1: A at 7:3\n/\\ x = 1\n/\\ pc = \"A\"\nState 2: A at 7:3\n/\\ x = 2\n/\\ pc = \"A\"\nState 3: A at 7:3\n/\\ x = 3\n/\\ pc = \"A\"\n";
+
+const LEFT_OVER: &str = "pcal: script step 4: too many choices at 7:3\n";
+
+/// A shelf with the files of a run; the call of this number fails, if it isn't 0.
+fn run_shelf(alloc: Global, script: &str, fails: u64) -> Result<MemShelf, AllocError> {
+    let mut texts = Vec::new(alloc);
+    for (name, text) in [("M.tla", COUNTS), ("C", "\n"), ("S", script)] {
+        texts.push((
+            String::from_str(alloc, name)?,
+            text.as_bytes().to_vec(alloc)?,
+        ))?;
+    }
+    Ok(MemShelf::new(texts, vec![in alloc; fails]?, 4096))
+}
+
+/// Each of the three files is read in two calls; the states go out in two, or none of them where a file can't be read. Each row: the
+/// calls of the shelf, the output and the error output that fail, if not 0; the script, the status, how many bytes go out, if not
+/// all, and the line.
+const RUNS: [(u64, u64, u64, &str, u8, usize, &str); 15] = [
+    (1, 0, 0, THREE, 3, 0, "pcal: cannot read M.tla\n"),
+    (2, 0, 0, THREE, 3, 0, "pcal: cannot read M.tla\n"),
+    (3, 0, 0, THREE, 3, 0, "pcal: cannot read C\n"),
+    (4, 0, 0, THREE, 3, 0, "pcal: cannot read C\n"),
+    (5, 0, 0, THREE, 3, 0, "pcal: cannot read S\n"),
+    (6, 0, 0, FOUR, 3, 0, "pcal: cannot read S\n"),
+    (7, 0, 0, THREE, 0, usize::MAX, ""),
+    (0, 1, 0, THREE, 4, 0, "pcal: cannot write\n"),
+    (0, 2, 0, THREE, 4, 100, "pcal: cannot write\n"),
+    (0, 3, 0, THREE, 0, usize::MAX, ""),
+    (0, 1, 0, FOUR, 4, 0, "pcal: cannot write\n"),
+    (0, 2, 0, FOUR, 4, 100, "pcal: cannot write\n"),
+    (0, 3, 0, FOUR, 6, usize::MAX, LEFT_OVER),
+    (0, 0, 1, FOUR, 6, usize::MAX, ""),
+    (1, 0, 1, FOUR, 3, 0, ""),
+];
+
+#[test]
+fn each_call_of_a_run_may_fail(rt: HostRuntime) -> Result<(), Fail> {
+    let alloc = rt.alloc();
+    for (shelf, out, err, script, status, bytes, line) in RUNS {
+        let written = COUNTED.get(..bytes).unwrap_or(COUNTED);
+        let mut shelf = run_shelf(alloc, script, shelf)?;
+        let words = words_in(alloc, RUN)?;
+        assert!(rt;
+            ends(
+                alloc,
+                Ok(words),
+                &mut shelf,
+                [out, err],
+                (status, written, line)
+            )?,
+            "{status} {line}"
+        );
+    }
+    Ok(())
+}

@@ -3,7 +3,7 @@ use Rattle.std.proofs.Common.{◌≡◌, ℕ, ◌+◌, ◌<◌, ◌≤◌, List,
 use Rattle.outer_io.specs.Outer.{Texts, HasText, Tells, RoseBy, Grows, GrowsInPart, piece_bytes}
 use Rattle.tla_token.specs.declared.rule.Refusal.{Refusal}
 use Rattle.tla_token.specs.Limits.{most_bytes}
-use Rattle.command_words.specs.Commands.{Command}
+use Rattle.command_words.specs.Commands.{Command, translates, checks, rewrites, maps, runs, traces, makes}
 use Rattle.pcal_cli.specs.declared.status.Answer.{Answer}
 use Rattle.pcal_cli.specs.declared.status.Answer.TheVariants as answer
 use Rattle.pcal_cli.specs.declared.status.Status.{Status}
@@ -14,7 +14,9 @@ use Rattle.pcal_cli.specs.Asked.{Refuses, HasOffence, Accepts, Makes}
 use Rattle.pcal_cli.specs.Causes.{OfInput, OfBoth, OfFile, IsAnswer, IsUnasked, IsUnread, IsUnwritten, IsDone, IsRefusal, IsCause}
 use Rattle.pcal_cli.specs.Put.{IsPut, Put}
 use Rattle.pcal_cli.specs.Answered.{AnsweredFrom, Answered}
-use Rattle.pcal_cli.proofs.Told.{told, of_all, not_lacking, no_refusal}
+use Rattle.pcal_cli.proofs.Told.{told, not_lacking, no_refusal}
+use Rattle.pcal_cli.proofs.TextsTold.{of_all}
+use Rattle.pcal_cli.proofs.Runs.{three_memory}
 
 -- an answer to a text is one of a command, and of no file
 put_answer : (s : Status) → IsPut s → IsAnswer s
@@ -48,14 +50,14 @@ put_unasked TooLong h = absurd h
 module _ {K : Type 0} (wrote : K → Option (List ℕ)) (faults : K → ℕ) (c : Command) (x : List ℕ) (out after : K) where
   -- b went out whole, as w
   pub put_fine : (b w : List ℕ) → w ≡ b → Grows (wrote out) (wrote after) w → Makes c x b → Accepts c x → faults after ≡ faults out → Put wrote faults c x Fine out after
-  put_fine b w e grows makes accepts same = record {
+  put_fine b w e grows written accepts same = record {
     answer = tt;
     write_fault = λ h. absurd cc;
     refused = λ h. absurd cc;
     offends = λ (r, h). absurd (no_refusal c x r accepts h);
     complete = λ a h. tt;
     unused = λ h. absurd h;
-    fine = λ h. (b, subst (Grows (wrote out) (wrote after)) e grows, makes);
+    fine = λ h. (b, subst (Grows (wrote out) (wrote after)) e grows, written);
     in_part = λ h. absurd cc;
     write_faults_grow = omega (arith, same);
     write_counted = inr same;
@@ -65,7 +67,7 @@ module _ {K : Type 0} (wrote : K → Option (List ℕ)) (faults : K → ℕ) (c 
   -- the first bytes of it did
   pub put_fault : (b w : List ℕ) → w ≡ b → GrowsInPart (wrote out) (wrote after) w → Makes c x b → Accepts c x → RoseBy 1 (faults out) (faults after) → faults out ≤ faults after → faults after ≤ faults out + 1
       → Put wrote faults c x WriteFault out after
-  put_fault b w e grows makes accepts rose more once = record {
+  put_fault b w e grows written accepts rose more once = record {
     answer = tt;
     write_fault = λ h. rose;
     refused = λ h. absurd cc;
@@ -73,7 +75,7 @@ module _ {K : Type 0} (wrote : K → Option (List ℕ)) (faults : K → ℕ) (c 
     complete = λ a h. absurd (h rose);
     unused = λ h. absurd h;
     fine = λ h. absurd cc;
-    in_part = λ h. (b, subst (GrowsInPart (wrote out) (wrote after)) e grows, makes);
+    in_part = λ h. (b, subst (GrowsInPart (wrote out) (wrote after)) e grows, written);
     write_faults_grow = more;
     write_counted = inl refl;
     one_write_fault = once;
@@ -227,9 +229,9 @@ of_file ts (Some c) P p = of_named (input_of c)
     of_named (this_text x) = tt
 
 -- where there is no memory, nothing was called
-pub answered_memory : {H K : Type 0} (texts : H → Option Texts) (given faults : H → ℕ) (wrote : K → Option (List ℕ)) (write_faults : K → ℕ) (o : Option Command) (s : Status) (shelf : H) (out : K) → s ≡ Memory
-    → Answered texts given faults wrote write_faults o s shelf shelf out out
-answered_memory texts given faults wrote write_faults o s shelf out e = rw e (record {
+text_memory : {H K : Type 0} (texts : H → Option Texts) (given faults : H → ℕ) (wrote : K → Option (List ℕ)) (write_faults : K → ℕ) (o : Option Command) (s : Status) (shelf : H) (out : K) → s ≡ Memory
+    → AnsweredFrom texts given faults wrote write_faults (option_map input_of o) o s shelf shelf out out
+text_memory texts given faults wrote write_faults o s shelf out e = rw e (record {
   answer = inl tt;
   usage = λ h. absurd cc;
   no_command = λ h. tt;
@@ -260,6 +262,17 @@ answered_memory texts given faults wrote write_faults o s shelf out e = rw e (re
   write_counted = inr refl;
   one_write_fault = omega arith;
 })
+
+pub answered_memory : {H K : Type 0} (texts : H → Option Texts) (given faults : H → ℕ) (wrote : K → Option (List ℕ)) (write_faults : K → ℕ) (o : Option Command) (s : Status) (shelf : H) (out : K) → s ≡ Memory
+    → Answered texts given faults wrote write_faults o s shelf shelf out out
+answered_memory texts given faults wrote write_faults None s shelf out e = text_memory texts given faults wrote write_faults None s shelf out e
+answered_memory texts given faults wrote write_faults (Some (translates file options)) s shelf out e = text_memory texts given faults wrote write_faults (Some (translates file options)) s shelf out e
+answered_memory texts given faults wrote write_faults (Some (checks file forced)) s shelf out e = text_memory texts given faults wrote write_faults (Some (checks file forced)) s shelf out e
+answered_memory texts given faults wrote write_faults (Some (rewrites file to)) s shelf out e = text_memory texts given faults wrote write_faults (Some (rewrites file to)) s shelf out e
+answered_memory texts given faults wrote write_faults (Some (maps file forced)) s shelf out e = text_memory texts given faults wrote write_faults (Some (maps file forced)) s shelf out e
+answered_memory texts given faults wrote write_faults (Some (runs file config script options)) s shelf out e = three_memory texts given faults wrote write_faults (record { source = file; config = config; script = script }) options.forced s shelf out e
+answered_memory texts given faults wrote write_faults (Some (traces file config trace options)) s shelf out e = text_memory texts given faults wrote write_faults (Some (traces file config trace options)) s shelf out e
+answered_memory texts given faults wrote write_faults (Some (makes seed count)) s shelf out e = text_memory texts given faults wrote write_faults (Some (makes seed count)) s shelf out e
 
 -- a refusal of the text that was read is one of the text that is told
 pub cause_read : (ts : Option Texts) (f v : List ℕ) (R : List ℕ → Refusal → Type 0) (a : Answer) → HasText ts f v → IsRefusal (R v) a → IsCause ts (from_file f) R a

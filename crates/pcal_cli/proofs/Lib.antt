@@ -1,6 +1,9 @@
 pub mod ErrorLine
 pub mod Numbers
+pub mod TextsTold
+pub mod Runs
 pub mod Told
+pub mod Tasks
 pub mod FromPut
 pub mod MadeSmall
 pub mod RowsAnswers

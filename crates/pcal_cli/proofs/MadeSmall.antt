@@ -12,8 +12,9 @@ use Rattle.pcal_tree.specs.Grammar.{Syntax}
 use Rattle.command_words.specs.Commands.{Command, translates, checks, rewrites, maps, runs, traces, makes, Options, ◌>>=◌, given, is_set, options_in, syntax_in, between, number_in, of_file, of_three, translation_in, rewriting_in, making_in, meaning_in, meaning}
 use Rattle.command_words.specs.Table.{table, commands}
 use Rattle.pcal_cli.specs.Words.{is_run, if_run, words_of}
-use Rattle.pcal_cli.specs.Tasks.{as_command, IsSmall}
-use Rattle.pcal_cli.specs.declared.task.Task.{Task}
+use Rattle.pcal_cli.specs.Tasks.{as_job, IsSmallJob}
+use Rattle.pcal_cli.specs.declared.job.Job.{Job}
+use Rattle.pcal_cli.specs.declared.job.Job.TheVariants as job
 use Rattle.pcal_cli.specs.declared.task.Task.TheVariants as task
 
 -- of a command that makes a module: it has few steps
@@ -110,14 +111,15 @@ run_fits None h = tt
 run_fits (Some c) h = if_fits (is_run c) (Some c) None h tt
 
 -- so it is of the task that stands for the command
-task_small : (t : Option Task) → Fits (option_map as_command t) → IfSome t IsSmall
-task_small None h = tt
-task_small (Some (task.Translate f o)) h = tt
-task_small (Some (task.Check f b)) h = tt
-task_small (Some (task.Rewrite f s)) h = tt
-task_small (Some (task.Map f b)) h = tt
-task_small (Some (task.Make s n)) h = h
+job_small : (j : Option Job) → Fits (option_map as_job j) → IfSome j IsSmallJob
+job_small None h = tt
+job_small (Some (job.Text (task.Translate f o))) h = tt
+job_small (Some (job.Text (task.Check f b))) h = tt
+job_small (Some (job.Text (task.Rewrite f s))) h = tt
+job_small (Some (job.Text (task.Map f b))) h = tt
+job_small (Some (job.Text (task.Make s n))) h = h
+job_small (Some (job.Run names options)) h = tt
 
--- the words mean o, and t stands for it where it is run
-pub task_few : (t : Option Task) (o : Option Command) (ws : List (String Global)) → o ≡ meaning commands (words_of ws) → option_map as_command t ≡ if_run o → IfSome t IsSmall
-task_few t o ws e k = task_small t (subst Fits (sym k) (run_fits o (subst Fits (sym e) (meaning_fits commands (words_of ws)))))
+-- the words mean o, and j stands for it where it is run
+pub job_few : (j : Option Job) (o : Option Command) (ws : List (String Global)) → o ≡ meaning commands (words_of ws) → option_map as_job j ≡ if_run o → IfSome j IsSmallJob
+job_few j o ws e k = job_small j (subst Fits (sym k) (run_fits o (subst Fits (sym e) (meaning_fits commands (words_of ws)))))

@@ -1,5 +1,6 @@
 -- Worked examples of the lines of answers, and of statuses that no answer of `translate` has, by computation.
 use Rattle.std.specs.Prelude.{ℕ, List, [], ◌∷◌, ◌++◌, Option, codes}
+use Rattle.std.specs.Fmt.{digits}
 use Rattle.std.proofs.Common.{◌≡◌, refl}
 use Rattle.outer_io.specs.Outer.{Texts}
 use Rattle.tla_token.specs.declared.rule.Refusal.{Refusal}
@@ -7,9 +8,17 @@ use Rattle.tla_token.specs.Rules.{refusal_text}
 use Rattle.command_words.specs.Commands.{Command}
 use Rattle.pcal_cli.specs.declared.status.Answer.{Answer}
 use Rattle.pcal_cli.specs.declared.status.Answer.TheVariants as answer
-use Rattle.pcal_cli.specs.declared.status.Status.TheVariants.{ScriptStep}
+use Rattle.run_text.specs.declared.stops.Why.TheVariants as why
+use Rattle.run_text.specs.declared.stops.Trouble.TheVariants as trouble
+use Rattle.followed_runs.specs.declared.cause.Cause.TheVariants as cause
+use Rattle.running.specs.declared.files.Which.TheVariants as which
+use Rattle.run_command.specs.declared.answer.RunAnswer.{RunAnswer}
+use Rattle.run_command.specs.declared.answer.RunAnswer.TheVariants as run
+use Rattle.run_command.specs.Names.{Names}
+use Rattle.pcal_cli.specs.declared.status.Status.TheVariants.{ScriptStep, Limit}
 use Rattle.pcal_cli.specs.Answers.{status_of, line_of}
-use Rattle.pcal_cli.specs.Causes.{Explains}
+use Rattle.pcal_cli.specs.Causes.{ExplainsText}
+use Rattle.pcal_cli.specs.Runs.{status_of_run, run_line}
 use Rattle.pcal_cli.specs.Checked.{checked_text}
 
 refused : (r : Refusal) → line_of (answer.Refused r) (codes "M.tla") ≡ codes "pcal: M.tla:" ++ (refusal_text r ++ codes "\n")
@@ -25,8 +34,43 @@ fine = refl
 ok : checked_text ≡ 111 ∷ 107 ∷ 10 ∷ []
 ok = refl
 
--- what only other commands end with is explained by nothing
-no_script_step : (texts : Option Texts) (command : Option Command) (old new : Option (List ℕ)) (before after : ℕ) → Explains texts command ScriptStep old new before after → ⊥
+-- ---- runs
+
+abbrev names : Names
+names = record { source = codes "M.tla"; config = codes "M.values"; script = codes "M.steps" }
+
+-- each file by its name
+refused_values : (r : Refusal) → run_line names (run.Refused which.Config r) ≡ codes "pcal: M.values:" ++ (refusal_text r ++ codes "\n")
+refused_values r = refl
+
+script_too_long : run_line names (run.TooLong which.Script) ≡ codes "pcal: M.steps is too long\n"
+script_too_long = refl
+
+-- a script stops at a step, or at a place of the module
+abbrev at_no_label : RunAnswer
+at_no_label = run.Stopped (record { step = 3; cause = cause.Step why.NoLabel })
+
+stops_at_a_step : run_line names at_no_label ≡ codes "pcal: script step 3: no label\n"
+unfolding digits
+stops_at_a_step = refl
+
+status_of_a_step : status_of_run at_no_label ≡ ScriptStep
+status_of_a_step = refl
+
+abbrev past_limits : RunAnswer
+past_limits = run.Stopped (record { step = 3; cause = cause.Trouble (trouble.Limit (record { line = 12; col = 3 })) })
+
+stops_at_a_place : run_line names past_limits ≡ codes "pcal: M.tla:12:3: limit\n"
+unfolding digits
+stops_at_a_place = refl
+
+status_of_a_place : status_of_run past_limits ≡ Limit
+status_of_a_place = refl
+
+-- ---- one text
+
+-- what only a run or a trace ends with is explained by nothing where the command has one text
+no_script_step : (texts : Option Texts) (command : Option Command) (old new : Option (List ℕ)) (before after : ℕ) → ExplainsText texts command ScriptStep old new before after → ⊥
 no_script_step texts command old new before after e = by e.answer e.is
   where
     by : (a : Answer) → status_of a ≡ ScriptStep → ⊥

@@ -1,5 +1,5 @@
 -- Worked examples of what commands ask and promise, by computation.
-use Rattle.std.specs.Prelude.{ℕ, List, Bool, true, false, Option, None}
+use Rattle.std.specs.Prelude.{ℕ, List, Bool, true, false, Option, Some, None}
 use Rattle.std.proofs.Common.{◌≡◌, refl}
 use Rattle.outer_io.specs.Outer.{Texts}
 use Rattle.tla_tree.specs.Tree.{Word}
@@ -8,8 +8,10 @@ use Rattle.command_words.specs.Commands.{Options, Command, translates, checks, r
 use Rattle.promise.specs.Options.{no_options}
 use Rattle.make_module.specs.Big.{big}
 use Rattle.pcal_cli.specs.Words.{is_run, input_of, this_text}
-use Rattle.pcal_cli.specs.Asked.{Accepts, Makes, Promises, promised}
-use Rattle.pcal_cli.specs.Causes.{OfText}
+use Rattle.pcal_cli.specs.Asked.{Makes, Promises, promised}
+use Rattle.run_command.specs.Names.{OfTexts}
+use Rattle.run_command.specs.Answered.{KeepsPromise}
+use Rattle.pcal_cli.specs.Causes.{OfText, Promised}
 
 without_options : promised (record { forced = false; terminating = true }) ≡ no_options
 without_options = refl
@@ -49,12 +51,17 @@ made = refl
 make_is_run : (seed count : ℕ) → is_run (makes seed count) ≡ true
 make_is_run seed count = refl
 
--- so far nothing holds of these
-run_is_not_run : (file config script : Word) (options : Options) → is_run (runs file config script options) ≡ false
-run_is_not_run file config script options = refl
+-- a run is of three files, with any options; of these labels are added everywhere or not
+run_is_run : (file config script : Word) (options : Options) → is_run (runs file config script options) ≡ true
+run_is_run file config script options = refl
 
-runs_nothing : (file config script : Word) (options : Options) (x : List ℕ) → Accepts (runs file config script options) x → ⊥
-runs_nothing file config script options x h = h
+promise_of_a_run : (texts : Option Texts) (file config script : Word) (options : Options) (old new : Option (List ℕ)) → Promised texts (Some (runs file config script options)) old new
+    → OfTexts texts (record { source = file; config = config; script = script }) (KeepsPromise old new options.forced)
+promise_of_a_run texts file config script options old new h = h
+
+-- so far nothing holds of this
+trace_is_not_run : (file config trace : Word) (options : Options) → is_run (traces file config trace options) ≡ false
+trace_is_not_run file config trace options = refl
 
 traces_nothing : (file config trace : Word) (options : Options) (x w : List ℕ) → Promises (traces file config trace options) x w → ⊥
 traces_nothing file config trace options x w h = h

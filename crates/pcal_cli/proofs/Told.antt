@@ -1,5 +1,5 @@
 -- What was read is what is told, and what is written for it went out.
-use Rattle.std.specs.Prelude.{IfSome, IfOk, Result}
+use Rattle.std.specs.Prelude.{IfOk, Result}
 use Rattle.std.proofs.Common.{◌≡◌, ◌⊎◌, ℕ, List, [], false, Option, Some, None, Ok, Err, ◌∙◌, refl, sym, inl, inr}
 use Rattle.std.proofs.lemmas.Option.{none-some}
 use Rattle.outer_io.specs.Outer.{Texts, HasText, Tells, HasNoText}
@@ -13,20 +13,14 @@ use Rattle.pcal_cli.specs.declared.status.Answer.TheVariants as answer
 use Rattle.pcal_cli.specs.declared.status.Status.{Status}
 use Rattle.pcal_cli.specs.declared.status.Status.TheVariants.{Memory, Usage}
 use Rattle.pcal_cli.specs.Answers.{line_of}
-use Rattle.pcal_cli.specs.Causes.{OfCommand, IsCause, Told, Explains}
+use Rattle.pcal_cli.specs.Told.{Told}
+use Rattle.pcal_cli.specs.Causes.{OfCommand, IsCause, ExplainsText, Explains}
+use Rattle.pcal_cli.proofs.Runs.{memory_explains}
 
 -- a fact of the text that was read is one of the text that is told
 pub told : (ts : Option Texts) (file v : List ℕ) (P : List ℕ → Type 0) → HasText ts file v → P v → Tells ts file P
 told None file v P h p = tt
 told (Some ts) file v P h p = rw h p
-
--- what holds of each text holds of the one that is told
-pub of_all : (ts : Option Texts) (file : List ℕ) (P : List ℕ → Type 0) → ((x : List ℕ) → P x) → Tells ts file P
-of_all ts file P h = of_found _ P h
-  where
-    of_found : (o : Option (List ℕ)) (P : List ℕ → Type 0) → ((x : List ℕ) → P x) → IfSome o P
-    of_found None P h = tt
-    of_found (Some x) P h = h x
 
 -- a text that was read is there
 pub not_lacking : (ts : Option Texts) (file v : List ℕ) → HasText ts file v → HasNoText ts file → ⊥
@@ -60,16 +54,25 @@ of_any_command : (o : Option Command) (Q : Command → Type 0) → ((c : Command
 of_any_command None Q q = tt
 of_any_command (Some c) Q q = q c
 
--- no memory is no refusal, and no command is none
+-- no memory is no refusal
 memory_cause : (ts : Option Texts) (o : Option Command) → OfCommand o (λ c. IsCause ts (input_of c) (Refuses c) answer.Memory)
 memory_cause ts o = of_any_command o (λ c. IsCause ts (input_of c) (Refuses c) answer.Memory) (λ c. tt)
 
-usage_cause : (ts : Option Texts) (o : Option Command) → OfCommand o (λ c. IsCause ts (input_of c) (Refuses c) answer.Usage)
-usage_cause ts o = of_any_command o (λ c. IsCause ts (input_of c) (Refuses c) answer.Usage) (λ c. tt)
+text_memory : (ts : Option Texts) (o : Option Command) (s : Status) (old new : Option (List ℕ)) (before after : ℕ) → s ≡ Memory → Told old new before after (line_of answer.Memory []) → ExplainsText ts o s old new before after
+text_memory ts o s old new before after e t = rw e (record { answer = answer.Memory; is = refl; cause = memory_cause ts o; told = t })
 
 -- the lines that name no file
-pub memory_told : (ts : Option Texts) (o : Option Command) (s : Status) (old new : Option (List ℕ)) (before after : ℕ) → s ≡ Memory → Told old new before after (line_of answer.Memory []) → Explains ts o s old new before after
-memory_told ts o s old new before after e t = rw e (record { answer = answer.Memory; is = refl; cause = memory_cause ts o; told = t })
+pub memory_told : (ts : Option Texts) (failed failed_after : ℕ) (o : Option Command) (s : Status) (old new : Option (List ℕ)) (before after : ℕ) → s ≡ Memory → Told old new before after (line_of answer.Memory []) → Explains ts failed failed_after o s old new before after
+memory_told ts failed failed_after None s old new before after e t = text_memory ts None s old new before after e t
+memory_told ts failed failed_after (Some (translates file options)) s old new before after e t = text_memory ts (Some (translates file options)) s old new before after e t
+memory_told ts failed failed_after (Some (checks file forced)) s old new before after e t = text_memory ts (Some (checks file forced)) s old new before after e t
+memory_told ts failed failed_after (Some (rewrites file to)) s old new before after e t = text_memory ts (Some (rewrites file to)) s old new before after e t
+memory_told ts failed failed_after (Some (maps file forced)) s old new before after e t = text_memory ts (Some (maps file forced)) s old new before after e t
+memory_told ts failed failed_after (Some (runs file config script options)) s old new before after e t = memory_explains ts failed failed_after (record { source = file; config = config; script = script }) options.forced s old new before after e t
+memory_told ts failed failed_after (Some (traces file config trace options)) s old new before after e t = text_memory ts (Some (traces file config trace options)) s old new before after e t
+memory_told ts failed failed_after (Some (makes seed count)) s old new before after e t = text_memory ts (Some (makes seed count)) s old new before after e t
 
-pub usage_told : (ts : Option Texts) (o : Option Command) (old new : Option (List ℕ)) (before after : ℕ) → Told old new before after (line_of answer.Usage []) → Explains ts o Usage old new before after
-usage_told ts o old new before after t = record { answer = answer.Usage; is = refl; cause = usage_cause ts o; told = t }
+-- where the words mean no command
+pub usage_told : (ts : Option Texts) (failed failed_after : ℕ) (o : Option Command) (old new : Option (List ℕ)) (before after : ℕ) → None ≡ o → Told old new before after (line_of answer.Usage []) → Explains ts failed failed_after o Usage old new before after
+usage_told ts failed failed_after None old new before after e t = record { answer = answer.Usage; is = refl; cause = tt; told = t }
+usage_told ts failed failed_after (Some c) old new before after e t = absurd cc

@@ -1,10 +1,12 @@
 -- Why an answer comes, and what becomes of the two outputs.
-use Rattle.std.specs.Prelude.{◌≡◌, ◌⊎◌, ℕ, List, Option, Some, None, option_map}
+use Rattle.std.specs.Prelude.{◌≡◌, ℕ, List, Option, Some, None, option_map}
 use Rattle.std.specs.Process.{exit_status}
 use Rattle.std.specs.declared.process.ExitCode.{ExitCode}
-use Rattle.outer_io.specs.Outer.{Texts, Tells, HasNoText, RoseBy, Grows, GrowsInPart}
+use Rattle.outer_io.specs.Outer.{Texts, Tells, HasNoText, Grows, GrowsInPart}
 use Rattle.tla_token.specs.declared.rule.Refusal.{Refusal}
-use Rattle.command_words.specs.Commands.{Command}
+use Rattle.command_words.specs.Commands.{Command, runs}
+use Rattle.run_command.specs.Names.{OfTexts}
+use Rattle.run_command.specs.Answered as run
 use Rattle.pcal_cli.specs.declared.status.Answer.{Answer}
 use Rattle.pcal_cli.specs.declared.status.Answer.TheVariants as answer
 use Rattle.pcal_cli.specs.declared.status.Status.{Status}
@@ -12,6 +14,8 @@ use Rattle.pcal_cli.specs.declared.status.Status.TheVariants.{Fine, Memory, Usag
 use Rattle.pcal_cli.specs.Answers.{status_number, status_of, line_of}
 use Rattle.pcal_cli.specs.Words.{Input, from_file, this_text, input_of, file_meant}
 use Rattle.pcal_cli.specs.Asked.{Refuses, Makes, Promises}
+use Rattle.pcal_cli.specs.Told.{Told}
+use Rattle.pcal_cli.specs.Runs.{ExplainsRun}
 
 -- what holds of a command; where there is none nothing is said
 abbrev pub OfCommand : Option Command → (Command → Type 0) → Type 0
@@ -139,13 +143,23 @@ WritesInPart old new c x = (w : List ℕ) × GrowsInPart old new w × Makes c x 
 abbrev pub KeepsPromise : Option (List ℕ) → Option (List ℕ) → Command → List ℕ → Type 0
 KeepsPromise old new c x = (w : List ℕ) × Grows old new w × Promises c x w
 
--- a sink went on by these bytes and counted no fault, or by the first of them alone and counted one
-abbrev pub Told : Option (List ℕ) → Option (List ℕ) → ℕ → ℕ → List ℕ → Type 0
-Told old new before after bytes = (Grows old new bytes × (after ≡ before)) ⊎ (GrowsInPart old new bytes × RoseBy 1 before after)
+-- ---- any command
 
--- so it took the line of an answer of this status to a command; where its text was refused, that of a refusal which it has by this command
-pub record Explains (texts : Option Texts) (command : Option Command) (s : Status) (old new : Option (List ℕ)) (before after : ℕ) : Type 0 where
+-- the promise of the command, by what the output was and is: a run has three files, any other has one text
+abbrev pub Promised : Option Texts → Option Command → Option (List ℕ) → Option (List ℕ) → Type 0
+Promised texts (Some (runs file config script options)) old new =
+    OfTexts texts (record { source = file; config = config; script = script }) (run.KeepsPromise old new options.forced)
+Promised texts command old new = OfText texts command (KeepsPromise old new)
+
+-- the error output took the line of an answer of this status to a command of one text; where its text was refused, that of a refusal which it has by this command
+pub record ExplainsText (texts : Option Texts) (command : Option Command) (s : Status) (old new : Option (List ℕ)) (before after : ℕ) : Type 0 where
   pub answer : Answer
   pub is : status_of answer ≡ s
   pub cause : OfCommand command (λ c. IsCause texts (input_of c) (Refuses c) answer)
   pub told : Told old new before after (line_of answer (file_meant command))
+
+-- of any command; failed, failed_after: how many calls of the shelf failed before the answer, and with it
+abbrev pub Explains : Option Texts → ℕ → ℕ → Option Command → Status → Option (List ℕ) → Option (List ℕ) → ℕ → ℕ → Type 0
+Explains texts failed failed_after (Some (runs file config script options)) s old new before after =
+    ExplainsRun texts failed failed_after (record { source = file; config = config; script = script }) options.forced s old new before after
+Explains texts failed failed_after command s old new before after = ExplainsText texts command s old new before after

@@ -2,7 +2,9 @@ pub mod Words
 pub mod Tasks
 pub mod Answers
 pub mod Asked
+pub mod Told
 pub mod Causes
+pub mod Runs
 pub mod Put
 pub mod Answered
 pub mod Checked

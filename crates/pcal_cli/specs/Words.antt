@@ -9,9 +9,8 @@ use Rattle.command_words.specs.Table.{commands}
 use Rattle.command_words.specs.Commands.{Command, translates, checks, rewrites, maps, runs, traces, makes, meaning}
 use Rattle.make_module.specs.Big.{big}
 
--- whether the program runs a command: so far all but `run` and `trace`
+-- whether the program runs a command: so far all but `trace`
 abbrev pub is_run : Command → Bool
-is_run (runs file config script options) = false
 is_run (traces file config trace options) = false
 is_run c = true
 

@@ -4,9 +4,9 @@
 ghost use Rattle.std.specs.Prelude.{◌≡◌, ◌+◌, ◌≤◌, ◌++◌, [], drop, length, decimal, codes, IfOk, vec_len, vec_capacity};
 ghost use Rattle.tla_token.specs.Rules.{rule_text};
 ghost use Rattle.pcal_cli.specs.Answers.{refused_line, line_of};
-ghost use Rattle.pcal_cli.specs.Causes.{Told};
+ghost use Rattle.pcal_cli.specs.Told.{Told};
 
-use crate::status::Answer;
+use crate::status::{Answer, Status};
 use outer_io::{Sink, put_all};
 use std::alloc::{AllocError, Global};
 use tla_token::rule::{name, number};
@@ -167,4 +167,15 @@ pub fn tell<E: Sink>(err: &mut E, room: Vec<u8>, answer: Answer, file: &[u8])
     let mut line = room;
     fill(&mut line, answer, file);
     say(err, &line);
+}
+
+/// Says that there is no memory.
+pub fn out_of_memory<E: Sink>(err: &mut E) -> Status
+    ensures memory { result ≡ Status.Memory }
+    ensures told { Told (E.wrote err.old) (E.wrote err.new) (E.faults err.old) (E.faults err.new) (line_of Answer.Memory []) }
+    ensures error_faults_grow { E.faults err.old ≤ E.faults err.new }
+    ensures one_error_fault { E.faults err.new ≤ E.faults err.old + 1 }
+{
+    say(err, b"pcal: out of memory\n");
+    Status::Memory
 }

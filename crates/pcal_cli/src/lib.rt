@@ -3,9 +3,11 @@
 
 mod counts;
 mod error_line;
+mod job;
 mod program;
 mod status;
 mod task;
+mod three;
 mod top;
 
 pub use made_module::make_module;

@@ -2,11 +2,12 @@
 
 ghost use Rattle.std.specs.Prelude.{◌≡◌, ◌+◌, ◌≤◌, IfOk};
 ghost use Rattle.pcal_cli.specs.Words.{words_given, command_in};
-ghost use Rattle.pcal_cli.specs.Causes.{OfText, KeepsPromise, Explains, Ended, EndedIn};
+ghost use Rattle.pcal_cli.specs.Causes.{Promised, Explains, Ended, EndedIn};
 ghost use Rattle.pcal_cli.specs.Answered.{Answered};
 
+use crate::error_line::out_of_memory;
 use crate::status::{Status, number};
-use crate::top::{out_of_memory, pcal};
+use crate::top::pcal;
 use outer_io::{Shelf, Sink};
 use std::alloc::{AllocError, Global};
 use std::env::Args;
@@ -38,8 +39,8 @@ pub fn run<H: Shelf, K: Sink, E: Sink>(
     err: &mut E,
 ) -> ExitCode
     ensures answered { EndedIn result (λ s. Answered H.texts H.given H.faults K.wrote K.faults (command_in (words_given given)) s shelf.old shelf.new out.old out.new) }
-    ensures headline { Ended result Status.Fine → OfText (H.texts shelf.old) (command_in (words_given given)) (KeepsPromise (K.wrote out.old) (K.wrote out.new)) }
-    ensures told { EndedIn result (λ s. Explains (H.texts shelf.old) (command_in (words_given given)) s (E.wrote err.old) (E.wrote err.new) (E.faults err.old) (E.faults err.new)) }
+    ensures headline { Ended result Status.Fine → Promised (H.texts shelf.old) (command_in (words_given given)) (K.wrote out.old) (K.wrote out.new) }
+    ensures told { EndedIn result (λ s. Explains (H.texts shelf.old) (H.faults shelf.old) (H.faults shelf.new) (command_in (words_given given)) s (E.wrote err.old) (E.wrote err.new) (E.faults err.old) (E.faults err.new)) }
     ensures error_faults_grow { E.faults err.old ≤ E.faults err.new }
     ensures one_error_fault { E.faults err.new ≤ E.faults err.old + 1 }
 {

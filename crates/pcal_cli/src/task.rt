@@ -1,9 +1,8 @@
-//! The commands that the program runs, and what is written for the text of a command.
+//! The commands of one text, and what is written for the text of a command.
 
-ghost use Rattle.std.specs.Prelude.{◌≡◌, ◌<◌, ◌≤◌, ◌^◌, length, option_map, Some, IfOk, IfErr, IfSome};
-ghost use Rattle.command_words.specs.Meant.{meant};
+ghost use Rattle.std.specs.Prelude.{◌≡◌, ◌<◌, ◌≤◌, ◌^◌, length, IfOk, IfErr};
 ghost use Rattle.file_answer.specs.Refusals.{IsStop};
-ghost use Rattle.pcal_cli.specs.Words.{if_run, command_in, file_of, input_of};
+ghost use Rattle.pcal_cli.specs.Words.{file_of, input_of};
 ghost use Rattle.pcal_cli.specs.Tasks.{as_command, as_input, IsSmall, IsFew};
 ghost use Rattle.pcal_cli.specs.Asked.{Refuses, Accepts, Makes, Promises, promised};
 ghost use Rattle.translating.specs.Translated as translated;
@@ -11,14 +10,13 @@ ghost use Rattle.command_words.specs.Meant as meant;
 
 use crate::counts::counted;
 use checking::{check_text, map_text};
-use command_words::{Command, command_of};
 use pcal_tree::Syntax;
 use rewriting::rewrite_text;
-use std::alloc::{AllocError, Global};
+use std::alloc::Global;
 use tla_token::Stop;
 use translating::translate_text;
 
-/// A command that the program runs, with the name of its file.
+/// A command of one text, with the name of its file.
 #[derive(Clone, Copy)]
 pub enum Task<'a> {
     /// A translation, with its options.
@@ -66,36 +64,6 @@ pub fn source_of<'a>(task: Task<'a>) -> Source<'a>
         Task::Rewrite(file, _) => Source::File(file),
         Task::Map(file, _) => Source::File(file),
         Task::Make(seed, count) => Source::Made(seed, count),
-    }
-}
-
-/// A command, where the program runs it.
-fn if_run<'a>(command: Command<'a>) -> Option<Task<'a>>
-    ensures { option_map as_command result ≡ if_run (Some (meant command.entry)) }
-{
-    match command {
-        Command::Translate(file, options) => Some(Task::Translate(file, options)),
-        Command::Check(file, forced) => Some(Task::Check(file, forced)),
-        Command::Rewrite(file, to) => Some(Task::Rewrite(file, to)),
-        Command::Map(file, forced) => Some(Task::Map(file, forced)),
-        Command::Make(seed, count) => Some(Task::Make(seed, count)),
-        _ => None,
-    }
-}
-
-/// The command that the words mean, the program's name first, where the program runs it.
-///
-/// # Errors
-///
-/// Want of memory.
-#[tactic(auto, unfolding(crate::specs::Words::command_in))]
-pub fn task_of<'a>(alloc: Global, words: &'a [String]) -> Result<Option<Task<'a>>, AllocError>
-    ensures command { IfOk result (λ t. option_map as_command t ≡ command_in words.now) }
-    ensures small { IfOk result (λ t. IfSome t IsSmall) }
-{
-    match command_of(alloc, words)? {
-        Some(command) => Ok(if_run(command)),
-        None => Ok(None),
     }
 }
 

@@ -1,19 +1,21 @@
 //! The top call: from the words of a command line to an answer.
 
-ghost use Rattle.std.specs.Prelude.{◌≡◌, ◌+◌, ◌≤◌, ◌<◌, ◌^◌, [], length, Some};
+ghost use Rattle.std.specs.Prelude.{◌≡◌, ◌+◌, ◌≤◌, ◌<◌, ◌^◌, length, Some};
 ghost use Rattle.make_module.specs.Big.{big};
 ghost use Rattle.outer_io.specs.Outer.{Tells};
 ghost use Rattle.pcal_cli.specs.Words.{command_in, from_file, this_text, input_of};
 ghost use Rattle.pcal_cli.specs.Tasks.{as_command, IsSmall};
-ghost use Rattle.pcal_cli.specs.Answers.{status_of, line_of};
+ghost use Rattle.pcal_cli.specs.Answers.{status_of};
 ghost use Rattle.pcal_cli.specs.Asked.{Refuses};
-ghost use Rattle.pcal_cli.specs.Causes.{OfText, OfInput, IsCause, IsRefusal, KeepsPromise, Told, Explains};
+ghost use Rattle.pcal_cli.specs.Causes.{OfInput, IsCause, IsRefusal, KeepsPromise, Promised, Explains};
 ghost use Rattle.pcal_cli.specs.Put.{Put};
 ghost use Rattle.pcal_cli.specs.Answered.{Answered, AnsweredFrom};
 
-use crate::error_line::{line_room, say, tell};
+use crate::error_line::{line_room, out_of_memory, say, tell};
+use crate::job::{Job, job_of};
 use crate::status::{Answer, Status, as_status};
-use crate::task::{Source, Task, file, source_of, task_of, written};
+use crate::task::{Source, Task, file, source_of, written};
+use crate::three::run_three;
 use made_module::make_module;
 use outer_io::{LoadFault, Shelf, Sink, load, put_all};
 use std::alloc::{AllocError, Global};
@@ -76,7 +78,7 @@ fn made_out<K: Sink>(alloc: Global, seed: u32, count: u32, task: Task<'_>, out: 
 /// Writes what is to be written for the text of a task.
 fn carry_out<H: Shelf, K: Sink>(alloc: Global, task: Task<'_>, shelf: &mut H, out: &mut K) -> Answer
     requires { IsSmall task }
-    ensures answered { Answered H.texts H.given H.faults K.wrote K.faults (Some (as_command task.entry)) (status_of result) shelf.old shelf.new out.old out.new }
+    ensures answered { AnsweredFrom H.texts H.given H.faults K.wrote K.faults (Some (input_of (as_command task.entry))) (Some (as_command task.entry)) (status_of result) shelf.old shelf.new out.old out.new }
     ensures refused { IsCause (H.texts shelf.old) (input_of (as_command task.entry)) (Refuses (as_command task.entry)) result }
     ensures headline { status_of result ≡ Status.Fine → OfInput (H.texts shelf.old) (input_of (as_command task.entry)) (KeepsPromise (K.wrote out.old) (K.wrote out.new) (as_command task.entry)) }
 {
@@ -86,15 +88,30 @@ fn carry_out<H: Shelf, K: Sink>(alloc: Global, task: Task<'_>, shelf: &mut H, ou
     }
 }
 
-/// Says that there is no memory.
-pub fn out_of_memory<E: Sink>(err: &mut E) -> Status
-    ensures memory { result ≡ Status.Memory }
-    ensures told { Told (E.wrote err.old) (E.wrote err.new) (E.faults err.old) (E.faults err.new) (line_of Answer.Memory []) }
+/// Does a task, and says how it ended. The memory for the line is taken before its file is read.
+#[tactic(auto, using(crate::proofs::Tasks::promised_task))]
+fn do_task<H: Shelf, K: Sink, E: Sink>(
+    alloc: Global,
+    task: Task<'_>,
+    shelf: &mut H,
+    out: &mut K,
+    err: &mut E,
+) -> Status
+    requires { IsSmall task }
+    ensures answered { Answered H.texts H.given H.faults K.wrote K.faults (Some (as_command task.entry)) result shelf.old shelf.new out.old out.new }
+    ensures headline { result ≡ Status.Fine → Promised (H.texts shelf.old) (Some (as_command task.entry)) (K.wrote out.old) (K.wrote out.new) }
+    ensures told { Explains (H.texts shelf.old) (H.faults shelf.old) (H.faults shelf.new) (Some (as_command task.entry)) result (E.wrote err.old) (E.wrote err.new) (E.faults err.old) (E.faults err.new) }
     ensures error_faults_grow { E.faults err.old ≤ E.faults err.new }
     ensures one_error_fault { E.faults err.new ≤ E.faults err.old + 1 }
 {
-    say(err, b"pcal: out of memory\n");
-    Status::Memory
+    match line_room(alloc, file(task)) {
+        Ok(room) => {
+            let answer = carry_out(alloc, task, shelf, out);
+            tell(err, room, answer, file(task).as_bytes());
+            as_status(answer)
+        }
+        Err(AllocError) => out_of_memory(err),
+    }
 }
 
 /// Does what the words of a command line mean, the first of them being the program's name.
@@ -108,22 +125,18 @@ pub fn pcal<H: Shelf, K: Sink, E: Sink>(
     ensures answered { Answered H.texts H.given H.faults K.wrote K.faults (command_in words.now) result shelf.old shelf.new out.old out.new }
 
     // The promise is a part of what is written on Fine; it is said once more by itself.
-    ensures headline { result ≡ Status.Fine → OfText (H.texts shelf.old) (command_in words.now) (KeepsPromise (K.wrote out.old) (K.wrote out.new)) }
+    ensures headline { result ≡ Status.Fine → Promised (H.texts shelf.old) (command_in words.now) (K.wrote out.old) (K.wrote out.new) }
 
     // What goes to the error output.
-    ensures told { Explains (H.texts shelf.old) (command_in words.now) result (E.wrote err.old) (E.wrote err.new) (E.faults err.old) (E.faults err.new) }
+    ensures told { Explains (H.texts shelf.old) (H.faults shelf.old) (H.faults shelf.new) (command_in words.now) result (E.wrote err.old) (E.wrote err.new) (E.faults err.old) (E.faults err.new) }
     ensures error_faults_grow { E.faults err.old ≤ E.faults err.new }
     ensures one_error_fault { E.faults err.new ≤ E.faults err.old + 1 }
 {
-    match task_of(alloc, words) {
-        Ok(Some(task)) => match line_room(alloc, file(task)) {
-            Ok(room) => {
-                let answer = carry_out(alloc, task, shelf, out);
-                tell(err, room, answer, file(task).as_bytes());
-                as_status(answer)
-            }
-            Err(AllocError) => out_of_memory(err),
-        },
+    match job_of(alloc, words) {
+        Ok(Some(Job::Text(task))) => do_task(alloc, task, shelf, out, err),
+        Ok(Some(Job::Run(names, options))) => {
+            run_three(alloc, &names, options.forced, shelf, out, err)
+        }
         Ok(None) => {
             say(err, b"pcal: usage\n");
             Status::Usage

@@ -11,8 +11,8 @@ pub returns-clause-told : goal.returns-clause-told
 returns-clause-told g c =
     let e = c.from.ensures ∙ c.number.ensures in
     elim c.match-words_of.branch [
-      | in-Ok w ↦ (w.pcal-status.result, e ∙ ap status_number w.status-is, rw (← w.in-Ok.ensures, ← w.deref.ensures.value, w.err-is) w.pcal-status.ensures.told)
-      | in-Err w ↦ (w.out_of_memory-status.result, e ∙ ap status_number w.status-is, rw w.err-is (memory_told _ _ _ _ _ _ _ w.out_of_memory-status.ensures.memory w.out_of_memory-status.ensures.told))
+      | in-Ok w ↦ (w.pcal-status.result, e ∙ ap status_number w.status-is, rw (← w.in-Ok.ensures, ← w.deref.ensures.value, w.shelf-is, w.err-is) w.pcal-status.ensures.told)
+      | in-Err w ↦ (w.out_of_memory-status.result, e ∙ ap status_number w.status-is, rw (w.shelf-is, w.err-is) (memory_told _ _ _ _ _ _ _ _ _ w.out_of_memory-status.ensures.memory w.out_of_memory-status.ensures.told))
     ]
 
 pub returns-clause-answered : goal.returns-clause-answered
