@@ -1,0 +1,5 @@
+-- Lemmas of this crate.
+pub mod SearchLaws
+pub mod RestLaws
+pub mod WrittenLaws
+pub mod Rows
