@@ -239,9 +239,13 @@ fn membership<'x, N: Names>(
     Ok(Got::own(Value::truth(sense == is_in)))
 }
 
-// Whether a value is a member of an expression's set, asked at a place. Some sets are not listed for that.
+/// Whether a value is a member of an expression's set, asked at a place. Some sets are not listed for that.
+///
+/// # Errors
+///
+/// For want of memory, and exactly where the set has no value, or is none, or a value is past the limits.
 #[cycle(eval)]
-fn member<'x, N: Names>(
+pub fn member<'x, N: Names>(
     alloc: Global,
     cx: &'x Context<'x, N>,
     place: Place,
@@ -595,11 +599,16 @@ pub fn eval_where<'x, N: Names>(
         next: None,
         defs,
     };
-    bound_outermost(alloc, &cx, e, bound, values)
+    eval_bound(alloc, &cx, e, bound, values)
 }
 
-// The value of an expression in which these names are bound, and all definitions are seen.
-fn bound_outermost<'x, N: Names>(
+/// The value of an expression where these names are bound to values, and what is outside is given; all definitions are
+/// seen. Of two names that are alike the later one counts.
+///
+/// # Errors
+///
+/// As those of `eval`.
+pub fn eval_bound<'x, N: Names>(
     alloc: Global,
     cx: &'x Context<'x, N>,
     e: NodeId,

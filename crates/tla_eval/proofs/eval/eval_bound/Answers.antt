@@ -1,4 +1,4 @@
--- Proves what is asked of `bound_outermost`.
+-- Proves what is asked of `eval_bound`.
 use Rattle.std.proofs.Common.{◌∙◌, sym, ap, subst, length, Ok}
 use Rattle.value_forms.specs.Gives.{Stops}
 use Rattle.value_forms.proofs.StopLaws.{tells_err}
@@ -6,7 +6,7 @@ use Rattle.tla_eval.specs.Parts.{value_at}
 use Rattle.eval_scopes.specs.Contexts.{outside, seen_env}
 use Rattle.eval_scopes.specs.Scopes.{with_words}
 use Rattle.eval_scopes.proofs.ContextLemmas.{seen_all}
-use Rattle.tla_eval.proofs.eval.bound_outermost.Goals as goal
+use Rattle.tla_eval.proofs.eval.eval_bound.Goals as goal
 
 pub returns-in_err-v : goal.returns-in_err-v
 returns-in_err-v g c =
