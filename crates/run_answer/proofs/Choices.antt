@@ -26,7 +26,7 @@ use Rattle.step_runner.proofs.FilesOnce.{config_once, config_or_offence, config_
 use Rattle.step_runner.proofs.FilesTold.{config_told, script_told}
 use Rattle.translation.specs.laws.AcceptedAlgorithm.{IsAcceptedInFile}
 use Rattle.translation.proofs.KeptAccepted.{checked_is_fine, stands_in_file}
-use Rattle.run_answer.specs.Chosen.{Files, Which, of_module, of_config, of_script, Right, algorithm_in, has_identifiers, Refuses, Chosen, program_of, followed_of, IsRun}
+use Rattle.run_answer.specs.Chosen.{Files, Which, of_module, of_config, of_third, Right, algorithm_in, has_identifiers, Refuses, Chosen, program_of, followed_of, IsRun}
 
 -- ---- the module
 
@@ -64,13 +64,13 @@ abbrev Answer : Bool → Files → Type 0
 Answer forced f = ((w : Which) × (r : Refusal) × Refuses forced f w r) ⊎ Chosen forced f
 
 by_script : (forced : Bool) (f : Files) (m : Right forced f.source) (es : Entries) → SpellsConfig m.outside f.config es
-    → ((s : Script) × SpellsScript (has_identifiers m) f.script s) ⊎ ((r : Refusal) × ScriptOffends (has_identifiers m) f.script r) → Answer forced f
+    → ((s : Script) × SpellsScript (has_identifiers m) f.third s) ⊎ ((r : Refusal) × ScriptOffends (has_identifiers m) f.third r) → Answer forced f
 by_script forced f m es h (inl s) = inr (record { right = m; constants = es; spells_constants = h; script = s.0; spells_script = s.1 })
-by_script forced f m es h (inr o) = inl (of_script, o.0, (m, es, h, o.1))
+by_script forced f m es h (inr o) = inl (of_third, o.0, (m, es, h, o.1))
 
 by_config : (forced : Bool) (f : Files) (m : Right forced f.source)
     → ((es : Entries) × SpellsConfig m.outside f.config es) ⊎ ((r : Refusal) × ConfigOffends m.outside f.config r) → Answer forced f
-by_config forced f m (inl s) = by_script forced f m s.0 s.1 (script_told (has_identifiers m) f.script)
+by_config forced f m (inl s) = by_script forced f m s.0 s.1 (script_told (has_identifiers m) f.third)
 by_config forced f m (inr o) = inl (of_config, o.0, (m, o.1))
 
 by_module : (forced : Bool) (f : Files) (r : Option Refusal) → AnswersChecking forced f.source r → Answer forced f
@@ -88,16 +88,16 @@ config_moved forced f m n es h = subst (λ (o : Outside). SpellsConfig o f.confi
 offence_moved : (forced : Bool) (f : Files) (m n : Right forced f.source) (r : Refusal) → ConfigOffends m.outside f.config r → ConfigOffends n.outside f.config r
 offence_moved forced f m n r h = subst (λ (o : Outside). ConfigOffends o f.config r) (one_outside forced f.source m n) h
 
-script_moved : (forced : Bool) (f : Files) (m n : Right forced f.source) (s : Script) → SpellsScript (has_identifiers m) f.script s → SpellsScript (has_identifiers n) f.script s
-script_moved forced f m n s h = subst (λ (b : Bool). SpellsScript b f.script s) (identified_once forced f.source m n) h
+script_moved : (forced : Bool) (f : Files) (m n : Right forced f.source) (s : Script) → SpellsScript (has_identifiers m) f.third s → SpellsScript (has_identifiers n) f.third s
+script_moved forced f m n s h = subst (λ (b : Bool). SpellsScript b f.third s) (identified_once forced f.source m n) h
 
-stray_moved : (forced : Bool) (f : Files) (m n : Right forced f.source) (r : Refusal) → ScriptOffends (has_identifiers m) f.script r → ScriptOffends (has_identifiers n) f.script r
-stray_moved forced f m n r h = subst (λ (b : Bool). ScriptOffends b f.script r) (identified_once forced f.source m n) h
+stray_moved : (forced : Bool) (f : Files) (m n : Right forced f.source) (r : Refusal) → ScriptOffends (has_identifiers m) f.third r → ScriptOffends (has_identifiers n) f.third r
+stray_moved forced f m n r h = subst (λ (b : Bool). ScriptOffends b f.third r) (identified_once forced f.source m n) h
 
 pub not_both : (forced : Bool) (f : Files) (w : Which) (r : Refusal) → Refuses forced f w r → Chosen forced f → ⊥
 not_both forced f of_module r h c = not_refused forced f.source r c.right.clean h
 not_both forced f of_config r (m, o) c = config_or_offence c.right.outside f.config c.constants r c.spells_constants (offence_moved forced f m c.right r o)
-not_both forced f of_script r (m, es, h, o) c = script_or_offence (has_identifiers c.right) f.script c.script r c.spells_script (stray_moved forced f m c.right r o)
+not_both forced f of_third r (m, es, h, o) c = script_or_offence (has_identifiers c.right) f.third c.script r c.spells_script (stray_moved forced f m c.right r o)
 
 -- ---- once
 
@@ -107,14 +107,14 @@ given x y e = cc
 pub refused_once : (forced : Bool) (f : Files) (w v : Which) (r q : Refusal) → Refuses forced f w r → Refuses forced f v q → (w ≡ v) × (r ≡ q)
 refused_once forced f of_module of_module r q h k = (refl, given r q (one_check forced f.source (Some r) (Some q) h k))
 refused_once forced f of_module of_config r q h (n, p) = absurd (not_refused forced f.source r n.clean h)
-refused_once forced f of_module of_script r q h (n, fs, k, p) = absurd (not_refused forced f.source r n.clean h)
+refused_once forced f of_module of_third r q h (n, fs, k, p) = absurd (not_refused forced f.source r n.clean h)
 refused_once forced f of_config of_module r q (m, o) k = absurd (not_refused forced f.source q m.clean k)
 refused_once forced f of_config of_config r q (m, o) (n, p) = (refl, config_refused_once n.outside f.config r q (offence_moved forced f m n r o) p)
-refused_once forced f of_config of_script r q (m, o) (n, fs, k, p) = absurd (config_or_offence n.outside f.config fs r k (offence_moved forced f m n r o))
-refused_once forced f of_script of_module r q (m, es, h, o) k = absurd (not_refused forced f.source q m.clean k)
-refused_once forced f of_script of_config r q (m, es, h, o) (n, p) = absurd (config_or_offence n.outside f.config es q (config_moved forced f m n es h) p)
-refused_once forced f of_script of_script r q (m, es, h, o) (n, fs, k, p) =
-    (refl, script_refused_once (has_identifiers n) f.script r q (stray_moved forced f m n r o) p)
+refused_once forced f of_config of_third r q (m, o) (n, fs, k, p) = absurd (config_or_offence n.outside f.config fs r k (offence_moved forced f m n r o))
+refused_once forced f of_third of_module r q (m, es, h, o) k = absurd (not_refused forced f.source q m.clean k)
+refused_once forced f of_third of_config r q (m, es, h, o) (n, p) = absurd (config_or_offence n.outside f.config es q (config_moved forced f m n es h) p)
+refused_once forced f of_third of_third r q (m, es, h, o) (n, fs, k, p) =
+    (refl, script_refused_once (has_identifiers n) f.third r q (stray_moved forced f m n r o) p)
 
 -- ---- one run
 
@@ -132,7 +132,7 @@ module _ (forced : Bool) (f : Files) (c d : Chosen forced f) where
   same_constants = config_once d.right.outside f.config c.constants d.constants (config_moved forced f c.right d.right c.constants c.spells_constants) d.spells_constants
 
   pub same_script : c.script ≡ d.script
-  same_script = script_once (has_identifiers d.right) f.script c.script d.script (script_moved forced f c.right d.right c.script c.spells_script) d.spells_script
+  same_script = script_once (has_identifiers d.right) f.third c.script d.script (script_moved forced f c.right d.right c.script c.spells_script) d.spells_script
 
   pub same_program : program_of c ≡ program_of d
   same_program = λ i. program_in bounded (same_outside i) (labelled forced (same_typed i)) (constants_of (same_constants i))

@@ -28,7 +28,7 @@ use Rattle.step_runner.specs.Items.{SpellsValues, OffendsAt}
 use Rattle.step_runner.proofs.Spelled.{value_here}
 use Rattle.translation.specs.WorkedFiles.{counting_file}
 use Rattle.translation.proofs.RowsCounting.{counting_meets}
-use Rattle.run_answer.specs.Chosen.{Files, of_module, of_config, of_script, Right, Refuses, Chosen}
+use Rattle.run_answer.specs.Chosen.{Files, of_module, of_config, of_third, Right, Refuses, Chosen}
 use Rattle.run_answer.specs.Stops.{reply_line, stop_line}
 use Rattle.run_answer.proofs.Choices.{some_right}
 
@@ -79,7 +79,7 @@ taken n = refl
 -- ---- which file is refused
 
 abbrev files : Text → Text → Text → Files
-files x y z = record { source = x; config = y; script = z }
+files x y z = record { source = x; config = y; third = z }
 
 -- without a module nothing else is looked at
 no_module : (forced : Bool) (config script : Text) → Refuses forced (files [] config script) of_module (refusal NoModule 1 1)
@@ -120,7 +120,7 @@ spelled : (o : Outside) → words o.constants ≡ its_constants → SpellsConfig
 spelled o e = subst (λ (xs : List Word). SpellsValues false xs config constants) (sym e) (8, (8, (7, refl, one), refl), refl, refl, refl)
 
 -- then the script, which begins with `init`
-no_init : (forced : Bool) → Refuses forced (files counting_file config (codes "go")) of_script (refusal BadLine 1 1)
+no_init : (forced : Bool) → Refuses forced (files counting_file config (codes "go")) of_third (refusal BadLine 1 1)
 no_init forced = (right forced, constants, spelled (right forced).outside (most_outside forced), (0, refl, refl))
 
 -- nothing is refused

@@ -120,7 +120,7 @@ spells_constants : SpellsConfig with_n config constants
 spells_constants = (5, (5, (4, refl, two), refl), refl, refl, refl)
 
 abbrev files : Text → Files
-files z = record { source = source; config = config; script = z }
+files z = record { source = source; config = config; third = z }
 
 abbrev chosen : (z : Text) (s : Script) → SpellsScript (has_identifiers right) z s → Chosen false (files z)
 chosen z s h = record { right = right; constants = constants; spells_constants = spells_constants; script = s; spells_script = h }

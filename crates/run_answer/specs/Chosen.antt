@@ -26,13 +26,13 @@ use Rattle.step_runner.specs.Shown.{run_text}
 pub record Files : Type 0 where
   pub source : Text  -- of the module
   pub config : Text
-  pub script : Text
+  pub third : Text  -- the script of a run, or a trace
 
 -- one of them
 pub data Which : Type 0 where
   of_module : Which
   of_config : Which
-  of_script : Which
+  of_third : Which
 
 -- ---- the module
 
@@ -57,8 +57,8 @@ has_identifiers m = is_multiprocess (algorithm_in m).main
 abbrev pub Refuses : Bool → Files → Which → Refusal → Type 0
 Refuses forced f of_module r = AnswersChecking forced f.source (Some r)
 Refuses forced f of_config r = (m : Right forced f.source) × ConfigOffends m.outside f.config r
-Refuses forced f of_script r =
-    (m : Right forced f.source) × (es : Entries) × SpellsConfig m.outside f.config es × ScriptOffends (has_identifiers m) f.script r
+Refuses forced f of_third r =
+    (m : Right forced f.source) × (es : Entries) × SpellsConfig m.outside f.config es × ScriptOffends (has_identifiers m) f.third r
 
 -- ---- runs
 
@@ -68,7 +68,7 @@ pub record Chosen (forced : Bool) (f : Files) : Type 0 where
   pub constants : Entries
   pub spells_constants : SpellsConfig right.outside f.config constants
   pub script : Script
-  pub spells_script : SpellsScript (has_identifiers right) f.script script
+  pub spells_script : SpellsScript (has_identifiers right) f.third script
 
 -- what runs, within the limits of a run
 abbrev pub program_of : {forced : Bool} {f : Files} → Chosen forced f → Program

@@ -5,7 +5,7 @@ use Rattle.outer_io.specs.Outer.{Texts, HasNoText, RoseBy}
 use Rattle.tla_token.specs.declared.rule.Refusal.{Refusal}
 use Rattle.tla_token.specs.Limits.{most_bytes}
 use Rattle.step_runner.specs.Followed as runner
-use Rattle.run_answer.specs.Chosen.{Files, Which, of_module, of_config, of_script, Refuses, IsRun}
+use Rattle.run_answer.specs.Chosen.{Files, Which, of_module, of_config, of_third, Refuses, IsRun}
 use Rattle.followed_runs.specs.Stopping.{stop_of}
 use Rattle.running.specs.InMemory.{which_of}
 use Rattle.running.specs.declared.files.Which as code
@@ -60,7 +60,7 @@ no_unread a b u never e = absurd (never (subst IsUnread e u))
 short_file : (f : Files) → AreShort f → (w : Which) → length (text_of f w) ≤ most_bytes
 short_file f s of_module = s.source
 short_file f s of_config = s.config
-short_file f s of_script = s.script
+short_file f s of_third = s.third
 
 not_long : {X : Type 0} (a n : ℕ) → a ≤ n → n < a → X
 not_long a n h k = absurd (omega (arith, h, k))
@@ -152,7 +152,7 @@ module _ {H K : Type 0} (texts : H → Option Texts) (given faults : H → ℕ) 
   answered_read f out out_after r p =
       let one = r.short of_module in
       let two = r.short of_config in
-      let three = r.short of_script in
+      let three = r.short of_third in
       let more = r.rose.no_more in
       let same = r.kept in
       record {

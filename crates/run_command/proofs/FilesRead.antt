@@ -4,7 +4,7 @@ use Rattle.std.proofs.Common.{◌≡◌, ◌⊎◌, ℕ, ◌+◌, ◌<◌, ◌�
 use Rattle.outer_io.specs.Outer.{Texts, Tells, HasText, HasNoText, RoseBy, RoseAbove}
 use Rattle.tla_token.specs.Limits.{most_bytes}
 use Rattle.tla_tree.specs.Tree.{Word}
-use Rattle.run_answer.specs.Chosen.{Files, Which, of_module, of_config, of_script}
+use Rattle.run_answer.specs.Chosen.{Files, Which, of_module, of_config, of_third}
 use Rattle.running.specs.InMemory.{which_of}
 use Rattle.running.specs.declared.files.Which as code
 use Rattle.run_command.specs.Names.{Names, name_of, IsBefore, IsThere, size_of}
@@ -35,43 +35,43 @@ rose_above n a b c h r = omega (arith, h, r)
 before_module : (P : Which → Type 0) (v : Which) → IsBefore v of_module → P v
 before_module P of_module h = absurd h
 before_module P of_config h = absurd h
-before_module P of_script h = absurd h
+before_module P of_third h = absurd h
 
 before_config : (P : Which → Type 0) → P of_module → (v : Which) → IsBefore v of_config → P v
 before_config P p of_module h = p
 before_config P p of_config h = absurd h
-before_config P p of_script h = absurd h
+before_config P p of_third h = absurd h
 
-before_script : (P : Which → Type 0) → P of_module → P of_config → (v : Which) → IsBefore v of_script → P v
-before_script P p q of_module h = p
-before_script P p q of_config h = q
-before_script P p q of_script h = absurd h
+before_third : (P : Which → Type 0) → P of_module → P of_config → (v : Which) → IsBefore v of_third → P v
+before_third P p q of_module h = p
+before_third P p q of_config h = q
+before_third P p q of_third h = absurd h
 
-each_file : (P : Which → Type 0) → P of_module → P of_config → P of_script → (v : Which) → P v
+each_file : (P : Which → Type 0) → P of_module → P of_config → P of_third → (v : Which) → P v
 each_file P p q r of_module = p
 each_file P p q r of_config = q
-each_file P p q r of_script = r
+each_file P p q r of_third = r
 
 -- how long the files before one are
 abbrev pub size_before : Files → Which → ℕ
 size_before f of_module = 0
 size_before f of_config = length f.source
-size_before f of_script = length f.source + length f.config
+size_before f of_third = length f.source + length f.config
 
 size_within : (f : Files) (w : Which) → size_before f w + length (text_of f w) ≤ size_of f
 size_within f of_module = omega arith
 size_within f of_config = omega arith
-size_within f of_script = omega arith
+size_within f of_third = omega arith
 
 size_short : (f : Files) (w : Which) → ((v : Which) → IsBefore v w → length (text_of f v) ≤ most_bytes) → size_before f w ≤ 2 * most_bytes
 size_short f of_module h = omega arith
 size_short f of_config h = (let p = h of_module tt in omega (arith, p))
-size_short f of_script h = (let p = h of_module tt in let q = h of_config tt in omega (arith, p, q))
+size_short f of_third h = (let p = h of_module tt in let q = h of_config tt in omega (arith, p, q))
 
 size_same : (f g : Files) (w : Which) → ((v : Which) → IsBefore v w → text_of f v ≡ text_of g v) → size_before f w ≡ size_before g w
 size_same f g of_module h = refl
 size_same f g of_config h = ap length (h of_module tt)
-size_same f g of_script h = (let p = ap length (h of_module tt) in let q = ap length (h of_config tt) in omega (arith, p, q))
+size_same f g of_third h = (let p = ap length (h of_module tt) in let q = ap length (h of_config tt) in omega (arith, p, q))
 
 -- ---- where a file isn't read
 
@@ -129,28 +129,28 @@ module _ {H : Type 0} (texts : H → Option Texts) (given faults : H → ℕ) (n
     kept = r.kept;
   }
 
-  pub config_read : (mid after : H) → Before of_config mid → WasRead texts given faults n.config f.config mid after → Before of_script after
+  pub config_read : (mid after : H) → Before of_config mid → WasRead texts given faults n.config f.config mid after → Before of_third after
   config_read mid after b r =
       let p = b.grows in
       let q = r.grows in
       record {
-        text = before_script (λ v. HasText (texts shelf) (name_of n v) (text_of f v)) (b.text of_module tt) (was_told mid n.config f.config b.same r.text);
-        short = before_script (λ v. length (text_of f v) ≤ most_bytes) (b.short of_module tt) r.short;
+        text = before_third (λ v. HasText (texts shelf) (name_of n v) (text_of f v)) (b.text of_module tt) (was_told mid n.config f.config b.same r.text);
+        short = before_third (λ v. length (text_of f v) ≤ most_bytes) (b.short of_module tt) r.short;
         rose = rose_both (length f.source) (length f.config) (given shelf) (given mid) (given after) b.rose r.rose;
         grows = omega (arith, p, q);
         same = r.same ∙ b.same;
         kept = r.kept ∙ b.kept;
       }
 
-  pub script_read : (mid after : H) → Before of_script mid → WasRead texts given faults n.script f.script mid after → AllRead texts given faults n f shelf after
-  script_read mid after b r =
+  pub third_read : (mid after : H) → Before of_third mid → WasRead texts given faults n.third f.third mid after → AllRead texts given faults n f shelf after
+  third_read mid after b r =
       let p = b.grows in
       let q = r.grows in
-      let rose = rose_both (length f.source + length f.config) (length f.script) (given shelf) (given mid) (given after) b.rose r.rose in
+      let rose = rose_both (length f.source + length f.config) (length f.third) (given shelf) (given mid) (given after) b.rose r.rose in
       let less = rose.no_less in
       let more = rose.no_more in
       record {
-        text = each_file (λ v. HasText (texts shelf) (name_of n v) (text_of f v)) (b.text of_module tt) (b.text of_config tt) (was_told mid n.script f.script b.same r.text);
+        text = each_file (λ v. HasText (texts shelf) (name_of n v) (text_of f v)) (b.text of_module tt) (b.text of_config tt) (was_told mid n.third f.third b.same r.text);
         short = each_file (λ v. length (text_of f v) ≤ most_bytes) (b.short of_module tt) (b.short of_config tt) r.short;
         rose = record { no_less = omega (arith, less); no_more = omega (arith, more) };
         grows = omega (arith, p, q);

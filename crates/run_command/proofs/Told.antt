@@ -3,7 +3,7 @@ use Rattle.std.specs.Prelude.{IfSome}
 use Rattle.std.proofs.Common.{◌≡◌, ℕ, List, Option, Some, None, ◌∙◌, refl, sym, subst}
 use Rattle.std.proofs.lemmas.Option.{same_Some}
 use Rattle.outer_io.specs.Outer.{Texts, HasText, HasNoText, Tells, told_at}
-use Rattle.run_answer.specs.Chosen.{Files, Which, of_module, of_config, of_script}
+use Rattle.run_answer.specs.Chosen.{Files, Which, of_module, of_config, of_third}
 use Rattle.run_command.specs.Names.{Names, name_of, OfTexts}
 use Rattle.run_command.specs.Reading.{text_of}
 
@@ -47,16 +47,16 @@ told_there (Some ts) name x e k = (let h : Some x ≡ None = sym e ∙ k in absu
 abbrev pub AreTold : Option Texts → Names → Files → Type 0
 AreTold ts n f = (w : Which) → told_at ts (name_of n w) ≡ Some (text_of f w)
 
-of_three : (ts : Option Texts) (n : Names) (x y z : List ℕ) → told_at ts n.source ≡ Some x → told_at ts n.config ≡ Some y → told_at ts n.script ≡ Some z
-    → AreTold ts n (record { source = x; config = y; script = z })
+of_three : (ts : Option Texts) (n : Names) (x y z : List ℕ) → told_at ts n.source ≡ Some x → told_at ts n.config ≡ Some y → told_at ts n.third ≡ Some z
+    → AreTold ts n (record { source = x; config = y; third = z })
 of_three ts n x y z p q r of_module = p
 of_three ts n x y z p q r of_config = q
-of_three ts n x y z p q r of_script = r
+of_three ts n x y z p q r of_third = r
 
 pub of_told : (ts : Option Texts) (n : Names) (P : Files → Type 0) → ((f : Files) → AreTold ts n f → P f) → OfTexts ts n P
 of_told ts n P h =
-    found ts n.source _ (λ x p. found ts n.config _ (λ y q. found ts n.script _ (λ z r. h (record { source = x; config = y; script = z }) (of_three ts n x y z p q r))))
+    found ts n.source _ (λ x p. found ts n.config _ (λ y q. found ts n.third _ (λ z r. h (record { source = x; config = y; third = z }) (of_three ts n x y z p q r))))
 
 -- a fact of the texts that were read is one of the texts that are told
 pub of_read : (ts : Option Texts) (n : Names) (f : Files) (P : Files → Type 0) → ((w : Which) → HasText ts (name_of n w) (text_of f w)) → P f → OfTexts ts n P
-of_read ts n f P h p = told ts n.source f.source _ (h of_module) (told ts n.config f.config _ (h of_config) (told ts n.script f.script _ (h of_script) p))
+of_read ts n f P h p = told ts n.source f.source _ (h of_module) (told ts n.config f.config _ (h of_config) (told ts n.third f.third _ (h of_third) p))

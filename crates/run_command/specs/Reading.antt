@@ -3,7 +3,7 @@ use Rattle.std.specs.Prelude.{◌≡◌, ◌⊎◌, ℕ, ◌+◌, ◌*◌, ◌<�
 use Rattle.outer_io.specs.Outer.{Texts, Tells, HasText, HasNoText, RoseBy, RoseAbove, piece_bytes}
 use Rattle.tla_token.specs.Limits.{most_bytes}
 use Rattle.tla_tree.specs.Tree.{Word}
-use Rattle.run_answer.specs.Chosen.{Files, Which, of_module, of_config, of_script}
+use Rattle.run_answer.specs.Chosen.{Files, Which, of_module, of_config, of_third}
 use Rattle.running.specs.InMemory.{which_of}
 use Rattle.running.specs.declared.files.Which as code
 use Rattle.run_command.specs.Names.{Names, name_of, IsBefore, OfTexts, IsThere, size_of}
@@ -13,12 +13,12 @@ use Rattle.run_command.specs.declared.answer.RunAnswer.TheVariants as answer
 use Rattle.run_command.specs.declared.reading.Loaded.{Loaded}
 
 abbrev pub files_in : Loaded → Files
-files_in t = record { source = t.source.items; config = t.config.items; script = t.script.items }
+files_in t = record { source = t.source.items; config = t.config.items; third = t.third.items }
 
 abbrev pub text_of : Files → Which → Word
 text_of f of_module = f.source
 text_of f of_config = f.config
-text_of f of_script = f.script
+text_of f of_third = f.third
 
 -- the answer where this file isn't read
 abbrev pub IsAt : code.Which → RunAnswer → Type 0

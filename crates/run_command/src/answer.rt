@@ -11,8 +11,8 @@ pub struct Names<'a> {
     pub source: &'a str,
     /// Of the values of its constants.
     pub config: &'a str,
-    /// Of the script.
-    pub script: &'a str,
+    /// Of the script, or of the trace.
+    pub third: &'a str,
 }
 
 /// How a run ended.

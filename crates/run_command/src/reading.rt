@@ -20,8 +20,8 @@ pub struct Loaded {
     pub source: Vec<u8>,
     /// Of the values of its constants.
     pub config: Vec<u8>,
-    /// Of the script.
-    pub script: Vec<u8>,
+    /// Of the script of a run, or of a trace.
+    pub third: Vec<u8>,
 }
 
 /// The text of one file.
@@ -61,11 +61,11 @@ pub fn load_three<H: Shelf>(
 {
     let source = load_one(alloc, Which::Module, names.source, shelf)?;
     let config = load_one(alloc, Which::Config, names.config, shelf)?;
-    let script = load_one(alloc, Which::Script, names.script, shelf)?;
+    let third = load_one(alloc, Which::Third, names.third, shelf)?;
     Ok(Loaded {
         source,
         config,
-        script,
+        third,
     })
 }
 
@@ -76,6 +76,6 @@ pub fn in_memory(loaded: &Loaded) -> Files<'_>
     Files {
         source: &loaded.source,
         config: &loaded.config,
-        script: &loaded.script,
+        third: &loaded.third,
     }
 }

@@ -82,7 +82,7 @@ pub fn put_run<K: Sink>(
 ) -> Ended
     requires source { length files.now.source.now < 2 ^ 29 }
     requires config { length files.now.config.now < 2 ^ 29 }
-    requires script { length files.now.script.now < 2 ^ 29 }
+    requires script { length files.now.third.now < 2 ^ 29 }
     ensures put { Put K.wrote K.faults forced (files_of files.now) result.answer out.old out.new }
     ensures headline { result.answer ≡ RunAnswer.Fine → KeepsPromise (K.wrote out.old) (K.wrote out.new) forced (files_of files.now) }
     ensures line { (s : code.Stop) (t : runner.Stop) → result.answer ≡ RunAnswer.Stopped s → stop_of (Some s) ≡ Some t → result.line.items ≡ stop_line file.now t }

@@ -21,6 +21,6 @@ module _ (ts : List Tree) (c : Checked) (f : Files) where
   config_refused (stop.Refused r) h = h r refl
 
   pub script_refused : (es : Entries) → SpellsConfig (outside_at ts c.outside) f.config.now es
-      → (s : Stop) → ((r : Refusal) → s ≡ stop.Refused r → ScriptOffends (is_multiprocess (algorithm_at ts c.algorithm).main) f.script.now r) → IsRefusedBeside ts c f (no_run_of which.Script s)
+      → (s : Stop) → ((r : Refusal) → s ≡ stop.Refused r → ScriptOffends (is_multiprocess (algorithm_at ts c.algorithm).main) f.third.now r) → IsRefusedBeside ts c f (no_run_of which.Third s)
   script_refused es spells stop.Memory h = tt
   script_refused es spells (stop.Refused r) h = (es, spells, h r refl)

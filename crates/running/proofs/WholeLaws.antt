@@ -51,7 +51,7 @@ module _ (forced : Bool) (f : Files) (ts : List Tree) (c : Checked) (h : IsLabel
   none_chosen norun.Memory k = tt
   none_chosen (norun.Refused which.Module r) k = absurd k
   none_chosen (norun.Refused which.Config r) k = (right, subst (λ (o : Outside). ConfigOffends o f.config.now r) h.is_outside k)
-  none_chosen (norun.Refused which.Script r) (es, k, m) = (right, es, spells es k, subst (λ (a : Algorithm). ScriptOffends (is_multiprocess a.main) f.script.now r) h.algorithm m)
+  none_chosen (norun.Refused which.Third r) (es, k, m) = (right, es, spells es k, subst (λ (a : Algorithm). ScriptOffends (is_multiprocess a.main) f.third.now r) h.algorithm m)
 
   same : (es : Entries) → program_read ts c es ≡ program_in bounded h.outside (labelled forced h.tree) (constants_of es)
   same es = λ i. program_in bounded (h.is_outside i) (h.algorithm i) (constants_of es)
@@ -63,7 +63,7 @@ module _ (forced : Bool) (f : Files) (ts : List Tree) (c : Checked) (h : IsLabel
       constants = m.constants;
       spells_constants = spells m.constants m.spells_constants;
       script = m.script;
-      spells_script = subst (λ (a : Algorithm). SpellsScript (is_multiprocess a.main) f.script.now m.script) h.algorithm m.spells_script;
+      spells_script = subst (λ (a : Algorithm). SpellsScript (is_multiprocess a.main) f.third.now m.script) h.algorithm m.spells_script;
     };
     text = m.is.text ∙ (λ i. run_text (same m.constants i) m.script.turns (followed (same m.constants i) m.script).states);
     stopped = m.is.stop ∙ (λ i. (followed (same m.constants i) m.script).stop);

@@ -28,7 +28,7 @@ pub record IsRunBeside (ts : List Tree) (c : Checked) (f : Files) (k : Followed)
   pub constants : Entries
   pub spells_constants : SpellsConfig (outside_at ts c.outside) f.config.now constants
   pub script : Script
-  pub spells_script : SpellsScript (is_multiprocess (algorithm_at ts c.algorithm).main) f.script.now script
+  pub spells_script : SpellsScript (is_multiprocess (algorithm_at ts c.algorithm).main) f.third.now script
   pub is : IsFollowed (program_read ts c constants) script k
 
 -- why there is none: the constants are refused so, or, where they aren't, the script is; the module isn't read here
@@ -36,5 +36,5 @@ abbrev pub IsRefusedBeside : List Tree → Checked → Files → NoRun → Type 
 IsRefusedBeside ts c f norun.Memory = Unit {0}
 IsRefusedBeside ts c f (norun.Refused which.Module r) = ⊥
 IsRefusedBeside ts c f (norun.Refused which.Config r) = ConfigOffends (outside_at ts c.outside) f.config.now r
-IsRefusedBeside ts c f (norun.Refused which.Script r) =
-    (es : Entries) × SpellsConfig (outside_at ts c.outside) f.config.now es × ScriptOffends (is_multiprocess (algorithm_at ts c.algorithm).main) f.script.now r
+IsRefusedBeside ts c f (norun.Refused which.Third r) =
+    (es : Entries) × SpellsConfig (outside_at ts c.outside) f.config.now es × ScriptOffends (is_multiprocess (algorithm_at ts c.algorithm).main) f.third.now r

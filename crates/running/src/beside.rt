@@ -49,7 +49,7 @@ pub fn run_beside(
     checked: &Checked,
 ) -> Result<Followed, NoRun>
     requires config { length files.now.config.now < 2 ^ 29 }
-    requires script { length files.now.script.now < 2 ^ 29 }
+    requires script { length files.now.third.now < 2 ^ 29 }
     requires can { CanRun pool.old checked.now }
     ensures run { IfOk result (IsRunBeside pool.old checked.now files.now) }
     ensures refused { IfErr result (IsRefusedBeside pool.old checked.now files.now) }
@@ -59,9 +59,9 @@ pub fn run_beside(
         Err(stop) => return Err(no_run(Which::Config, stop)),
     };
     let named = has_identifiers(&checked.algorithm);
-    let script = match read_script(alloc, files.script, named) {
+    let script = match read_script(alloc, files.third, named) {
         Ok(script) => script,
-        Err(stop) => return Err(no_run(Which::Script, stop)),
+        Err(stop) => return Err(no_run(Which::Third, stop)),
     };
     match followed_of(alloc, pool, checked, constants, &script) {
         Ok(followed) => Ok(followed),

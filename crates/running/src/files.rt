@@ -9,8 +9,8 @@ pub struct Files<'a> {
     pub source: &'a [u8],
     /// The values of its constants.
     pub config: &'a [u8],
-    /// The script.
-    pub script: &'a [u8],
+    /// The script of a run, or a trace.
+    pub third: &'a [u8],
 }
 
 /// One of the files of a run.
@@ -20,8 +20,8 @@ pub enum Which {
     Module,
     /// The values of its constants.
     Config,
-    /// The script.
-    Script,
+    /// The third file.
+    Third,
 }
 
 /// Why there is no run.

@@ -23,7 +23,7 @@ use tla_pool::Pool;
 pub fn run_of_files(alloc: Global, files: &Files<'_>, forced: bool) -> Result<Followed, NoRun>
     requires source { length files.now.source.now < 2 ^ 29 }
     requires config { length files.now.config.now < 2 ^ 29 }
-    requires script { length files.now.script.now < 2 ^ 29 }
+    requires script { length files.now.third.now < 2 ^ 29 }
     ensures run { IfOk result (λ f. IsRun forced (files_of files.now) f.text.items (stop_of f.stop)) }
     ensures promise { IfOk result (λ f. f.stop ≡ None → KeepsRun forced (files_of files.now) f.text.items) }
     ensures refused { IfErr result (IsRefused forced (files_of files.now)) }

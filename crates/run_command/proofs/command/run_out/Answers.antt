@@ -1,6 +1,6 @@
 -- Proves that what is answered to the texts that were read is answered to the files, and what is answered where one wasn't read.
 use Rattle.std.proofs.Common.{length, ap, sym, subst, arith}
-use Rattle.run_answer.specs.Chosen.{Files, of_module, of_config, of_script}
+use Rattle.run_answer.specs.Chosen.{Files, of_module, of_config, of_third}
 use Rattle.run_command.specs.Names.{names_of}
 use Rattle.run_command.specs.Answered.{AnsweredRun, KeepsPromise}
 use Rattle.run_command.specs.Put.{Put}
@@ -24,8 +24,8 @@ put_run-requires-clause-config g c =
 
 pub put_run-requires-clause-script : goal.put_run-requires-clause-script
 put_run-requires-clause-script g c =
-    let same = ap (λ (f : Files). length f.script) c.in_memory.ensures in
-    let short = c.in-Ok.ensures.read.short of_script in
+    let same = ap (λ (f : Files). length f.third) c.in_memory.ensures in
+    let short = c.in-Ok.ensures.read.short of_third in
     omega (arith, same, short)
 
 pub returns-in-Ok-clause-answered : goal.returns-in-Ok-clause-answered

@@ -25,7 +25,7 @@ returns-in-Err-read_script-clause-refused c =
     let named = c.has_identifiers-named.ensures ts in
     subst (λ (e : NoRun). IsRefusedBeside ts k f e) (sym c.no_run-in-Err-read_script.ensures)
     (script_refused ts k f c.in-Ok.constants (c.in-Ok.ensures.read (outside_at ts k.outside) (sym c.as_slice.ensures.value)) c.in-Err-read_script.stop
-    (λ r e. subst (λ b. ScriptOffends b f.script.now r) named (c.in-Err-read_script.ensures.refused r (ap (λ (s : Stop). Err s) e))))
+    (λ r e. subst (λ b. ScriptOffends b f.third.now r) named (c.in-Err-read_script.ensures.refused r (ap (λ (s : Stop). Err s) e))))
 
 pub returns-in-Ok-followed_of-clause-run : goal.returns-in-Ok-followed_of-clause-run
 returns-in-Ok-followed_of-clause-run c =
@@ -35,6 +35,6 @@ returns-in-Ok-followed_of-clause-run c =
       constants = c.in-Ok.constants;
       spells_constants = c.in-Ok.ensures.read (outside_at ts k.outside) (sym c.as_slice.ensures.value);
       script = script_of c.in-Ok-read_script.script;
-      spells_script = subst (λ b. SpellsScript b c.args.files.now.script.now (script_of c.in-Ok-read_script.script)) (c.has_identifiers-named.ensures ts) c.in-Ok-read_script.ensures.read;
+      spells_script = subst (λ b. SpellsScript b c.args.files.now.third.now (script_of c.in-Ok-read_script.script)) (c.has_identifiers-named.ensures ts) c.in-Ok-read_script.ensures.read;
       is = c.in-Ok-followed_of.ensures;
     }
