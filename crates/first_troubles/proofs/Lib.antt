@@ -1,0 +1,4 @@
+-- Lemmas of this crate.
+pub mod CopyLaws
+pub mod TryLaws
+pub mod SearchLaws

@@ -1,0 +1,12 @@
+-- What the loop keeps: the first trouble of the processes that are left is that of all.
+use Rattle.std.proofs.Common.{◌≡◌, drop, map}
+use Rattle.actor_order.specs.InMemory.{actor_at}
+use Rattle.step_states.specs.StatesOf.{state_of}
+use Rattle.trouble_walks.specs.WrittenTroubles.{written_trouble_of_all}
+use Rattle.followed_runs.specs.Parties.{program_of, actors_of}
+use Rattle.first_troubles.proofs.troubles.first_trouble.Given as goal
+
+abbrev pub invariant-loop-actor : goal.invariant-loop-actor
+invariant-loop-actor l =
+    written_trouble_of_all (program_of l.party) (state_of l.state) (map (actor_at l.party.stage.program.pool.now) (drop l.actor-index l.actors))
+    ≡ written_trouble_of_all (program_of l.party) (state_of l.state) (actors_of l.party)

@@ -1,0 +1,2 @@
+-- Words in which the contracts of this crate are said.
+pub mod Tries
