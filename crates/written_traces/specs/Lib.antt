@@ -1,0 +1,3 @@
+-- Initial states told by the written names, and traces that are explained by them.
+pub mod AskedStarts
+pub mod WrittenTraces

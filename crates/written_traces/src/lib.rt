@@ -1,0 +1,4 @@
+//! Traces explained by the written names: laws.
+#![tactic(auto)]
+
+pub mod laws;
