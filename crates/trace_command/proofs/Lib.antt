@@ -1,0 +1,4 @@
+-- Proofs of the command `trace`.
+mod Unread
+pub mod Answering
+pub mod Putting
