@@ -4,8 +4,8 @@
 Of each rule's section of docs/ERRORS.md the first block is the line, the second the text that is refused, the third the
 same text mended. The row `errors explained: N NAME` must have the second with the first for its answer, and the row
 with `, mended` the third; of rule 50 the texts are scripts. Texts that are told in short (`and so on`) are not compared.
-Of each example the module, its translation, `map.txt`, `slip.tla`, `slip.txt`, and its run with what it reads must be
-as in its rows.
+Of each example the module, its translation, `map.txt`, `slip.tla`, `slip.txt`, its run with what it reads, and its
+trace must be as in its rows.
 It writes one line for each that differs, and ends with status 1 where there is one.
 """
 import os
@@ -105,6 +105,13 @@ def examples():
         is_file(run, "run.script", read(f"{run}.script"), f"{run}.script")
         states = f"--- status 0\n--- output\n{read(f'{run}.txt')}"
         is_answer(run, "pcal run M.tla run.cfg run.script", states, f"{run}.txt")
+        trace = f"{folder}/trace"
+        is_file(trace, "M.tla", read(row), row)
+        is_file(trace, "run.cfg", read(f"{run}.cfg"), f"{run}.cfg")
+        is_file(trace, "trace.txt", read(f"{trace}.txt"), f"{trace}.txt")
+        is_file(trace, "run.txt", read(f"{run}.txt"), f"{run}.txt")
+        shown = "--- status 0\n--- output as in run.txt\n"
+        is_answer(trace, "pcal trace M.tla run.cfg trace.txt", shown, f"{trace}.txt")
 
 
 errors()

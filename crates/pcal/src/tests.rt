@@ -196,10 +196,21 @@ const COUNTED: &str =
 
 const LEFT_OVER: &str = "pcal: script step 4: too many choices at 7:3\n";
 
-/// A shelf with the files of a run; the call of this number fails, if it isn't 0.
-fn run_shelf(alloc: Global, script: &str, fails: u64) -> Result<MemShelf, AllocError> {
+const TRACE: &str = "pcal trace M.tla C S";
+
+/// Two states of that algorithm, and a third to which no step leads.
+const LEAPS: &str =
+    "State 1:\n/\\ x = 0\n/\\ pc = \"A\"\n\nState 2:\n/\\ x = 1\n/\\ pc = \"A\"\n\nState 3:\n/\\ x = 3\n/\\ pc = \"A\"\n";
+
+const UP_TO_THE_LEAP: &str =
+    "State 0: initial\n/\\ x = 0\n/\\ pc = \"A\"\nState 1: A at 7:3\n/\\ x = 1\n/\\ pc = \"A\"\n";
+
+const NO_STEP: &str = "pcal: state 2 is no step\n";
+
+/// A shelf with the files of a run or a trace; the call of this number fails, if it isn't 0.
+fn run_shelf(alloc: Global, third: &str, fails: u64) -> Result<MemShelf, AllocError> {
     let mut texts = Vec::new(alloc);
-    for (name, text) in [("M.tla", COUNTS), ("C", "\n"), ("S", script)] {
+    for (name, text) in [("M.tla", COUNTS), ("C", "\n"), ("S", third)] {
         texts.push((
             String::from_str(alloc, name)?,
             text.as_bytes().to_vec(alloc)?,
@@ -229,23 +240,55 @@ const RUNS: [(u64, u64, u64, &str, u8, usize, &str); 15] = [
     (1, 0, 1, FOUR, 3, 0, ""),
 ];
 
+/// The same of a trace, of which the text of the states of a run is one.
+const TRACES: [(u64, u64, u64, &str, u8, usize, &str); 15] = [
+    (1, 0, 0, COUNTED, 3, 0, "pcal: cannot read M.tla\n"),
+    (2, 0, 0, COUNTED, 3, 0, "pcal: cannot read M.tla\n"),
+    (3, 0, 0, COUNTED, 3, 0, "pcal: cannot read C\n"),
+    (4, 0, 0, COUNTED, 3, 0, "pcal: cannot read C\n"),
+    (5, 0, 0, COUNTED, 3, 0, "pcal: cannot read S\n"),
+    (6, 0, 0, LEAPS, 3, 0, "pcal: cannot read S\n"),
+    (7, 0, 0, COUNTED, 0, usize::MAX, ""),
+    (0, 1, 0, COUNTED, 4, 0, "pcal: cannot write\n"),
+    (0, 2, 0, COUNTED, 4, 100, "pcal: cannot write\n"),
+    (0, 3, 0, COUNTED, 0, usize::MAX, ""),
+    (0, 1, 0, LEAPS, 4, 0, "pcal: cannot write\n"),
+    (0, 2, 0, LEAPS, 7, usize::MAX, NO_STEP),
+    (7, 3, 2, LEAPS, 7, usize::MAX, NO_STEP),
+    (0, 0, 1, LEAPS, 7, usize::MAX, ""),
+    (1, 0, 1, LEAPS, 3, 0, ""),
+];
+
+/// Whether a command with these files, where these calls fail, ends with this status, and these bytes on both outputs.
+fn follows_so(
+    alloc: Global,
+    command: &str,
+    third: &str,
+    (shelf, out, err): (u64, u64, u64),
+    expected: (u8, &str, &str),
+) -> Result<bool, AllocError> {
+    let mut shelf = run_shelf(alloc, third, shelf)?;
+    let words = words_in(alloc, command)?;
+    ends(alloc, Ok(words), &mut shelf, [out, err], expected)
+}
+
 #[test]
-fn each_call_of_a_run_may_fail(rt: HostRuntime) -> Result<(), Fail> {
+fn each_call_of_a_run_or_a_trace_may_fail(rt: HostRuntime) -> Result<(), Fail> {
     let alloc = rt.alloc();
-    for (shelf, out, err, script, status, bytes, line) in RUNS {
-        let written = COUNTED.get(..bytes).unwrap_or(COUNTED);
-        let mut shelf = run_shelf(alloc, script, shelf)?;
-        let words = words_in(alloc, RUN)?;
-        assert!(rt;
-            ends(
-                alloc,
-                Ok(words),
-                &mut shelf,
-                [out, err],
-                (status, written, line)
-            )?,
-            "{status} {line}"
-        );
+    for (rows, command) in [(RUNS, RUN), (TRACES, TRACE)] {
+        for (shelf, out, err, third, status, bytes, line) in rows {
+            let whole = if third == LEAPS {
+                UP_TO_THE_LEAP
+            } else {
+                COUNTED
+            };
+            let written = whole.get(..bytes).unwrap_or(whole);
+            let calls = (shelf, out, err);
+            assert!(rt;
+                follows_so(alloc, command, third, calls, (status, written, line))?,
+                "{command} {status} {line}"
+            );
+        }
     }
     Ok(())
 }

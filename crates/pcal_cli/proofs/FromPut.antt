@@ -10,13 +10,14 @@ use Rattle.pcal_cli.specs.declared.status.Status.{Status}
 use Rattle.pcal_cli.specs.declared.status.Status.TheVariants.{Fine, Memory, Usage, ReadFault, WriteFault, Refused, ScriptStep, NotAStep, Faulted, Limit, TooLong}
 use Rattle.std.specs.Prelude.{option_map}
 use Rattle.pcal_cli.specs.Words.{Input, from_file, this_text, input_of}
-use Rattle.pcal_cli.specs.Asked.{Refuses, HasOffence, Accepts, Makes}
+use Rattle.pcal_cli.specs.Asked.{Refuses, HasOffence, Accepts, Makes, promised}
 use Rattle.pcal_cli.specs.Causes.{OfInput, OfBoth, OfFile, IsAnswer, IsUnasked, IsUnread, IsUnwritten, IsDone, IsRefusal, IsCause}
 use Rattle.pcal_cli.specs.Put.{IsPut, Put}
 use Rattle.pcal_cli.specs.Answered.{AnsweredFrom, Answered}
 use Rattle.pcal_cli.proofs.Told.{told, not_lacking, no_refusal}
 use Rattle.pcal_cli.proofs.TextsTold.{of_all}
 use Rattle.pcal_cli.proofs.Runs.{three_memory}
+use Rattle.pcal_cli.proofs.Traces.{traced_memory}
 
 -- an answer to a text is one of a command, and of no file
 put_answer : (s : Status) → IsPut s → IsAnswer s
@@ -270,8 +271,8 @@ answered_memory texts given faults wrote write_faults (Some (translates file opt
 answered_memory texts given faults wrote write_faults (Some (checks file forced)) s shelf out e = text_memory texts given faults wrote write_faults (Some (checks file forced)) s shelf out e
 answered_memory texts given faults wrote write_faults (Some (rewrites file to)) s shelf out e = text_memory texts given faults wrote write_faults (Some (rewrites file to)) s shelf out e
 answered_memory texts given faults wrote write_faults (Some (maps file forced)) s shelf out e = text_memory texts given faults wrote write_faults (Some (maps file forced)) s shelf out e
-answered_memory texts given faults wrote write_faults (Some (runs file config script options)) s shelf out e = three_memory texts given faults wrote write_faults (record { source = file; config = config; script = script }) options.forced s shelf out e
-answered_memory texts given faults wrote write_faults (Some (traces file config trace options)) s shelf out e = text_memory texts given faults wrote write_faults (Some (traces file config trace options)) s shelf out e
+answered_memory texts given faults wrote write_faults (Some (runs file config script options)) s shelf out e = three_memory texts given faults wrote write_faults (record { source = file; config = config; third = script }) options.forced s shelf out e
+answered_memory texts given faults wrote write_faults (Some (traces file config trace options)) s shelf out e = traced_memory texts given faults wrote write_faults (record { source = file; config = config; third = trace }) (promised options) s shelf out e
 answered_memory texts given faults wrote write_faults (Some (makes seed count)) s shelf out e = text_memory texts given faults wrote write_faults (Some (makes seed count)) s shelf out e
 
 -- a refusal of the text that was read is one of the text that is told

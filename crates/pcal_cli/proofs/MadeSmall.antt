@@ -1,5 +1,5 @@
 -- Words that ask for a module of some steps ask for few.
-use Rattle.std.specs.Prelude.{nat_le, ◌&&◌, if◌then◌else◌, option_and_then, option_map, codes, bytes_eq, IfSome, String}
+use Rattle.std.specs.Prelude.{nat_le, ◌&&◌, if◌then◌else◌, option_and_then, codes, bytes_eq, String}
 use Rattle.std.proofs.Common.{◌≡◌, ℕ, ◌≤◌, Bool, true, false, List, Option, Some, None, refl, sym, subst}
 use Rattle.std.proofs.lemmas.Bool.{and_parts, leb-true}
 use Rattle.std.proofs.lemmas.Option.{same_Some}
@@ -11,7 +11,7 @@ use Rattle.tla_tree.specs.Tree.{Word}
 use Rattle.pcal_tree.specs.Grammar.{Syntax}
 use Rattle.command_words.specs.Commands.{Command, translates, checks, rewrites, maps, runs, traces, makes, Options, ◌>>=◌, given, is_set, options_in, syntax_in, between, number_in, of_file, of_three, translation_in, rewriting_in, making_in, meaning_in, meaning}
 use Rattle.command_words.specs.Table.{table, commands}
-use Rattle.pcal_cli.specs.Words.{is_run, if_run, words_of}
+use Rattle.pcal_cli.specs.Words.{words_of}
 use Rattle.pcal_cli.specs.Tasks.{as_job, IsSmallJob}
 use Rattle.pcal_cli.specs.declared.job.Job.{Job}
 use Rattle.pcal_cli.specs.declared.job.Job.TheVariants as job
@@ -106,20 +106,16 @@ some_fits (Some p) = named_fits p
 meaning_fits : (cs : List Shape) (ws : List Word) → Fits (meaning cs ws)
 meaning_fits cs ws = if_fits (is_empty (fault_of (table cs) ws)) (option_and_then meaning_in (subcommand_of (table cs) ws)) None (some_fits (subcommand_of (table cs) ws)) tt
 
-run_fits : (o : Option Command) → Fits o → Fits (if_run o)
-run_fits None h = tt
-run_fits (Some c) h = if_fits (is_run c) (Some c) None h tt
+-- so it is of the job that stands for the command
+job_small : (j : Job) → Fits (Some (as_job j)) → IsSmallJob j
+job_small (job.Text (task.Translate f o)) h = tt
+job_small (job.Text (task.Check f b)) h = tt
+job_small (job.Text (task.Rewrite f s)) h = tt
+job_small (job.Text (task.Map f b)) h = tt
+job_small (job.Text (task.Make s n)) h = h
+job_small (job.Run names options) h = tt
+job_small (job.Trace names options) h = tt
 
--- so it is of the task that stands for the command
-job_small : (j : Option Job) → Fits (option_map as_job j) → IfSome j IsSmallJob
-job_small None h = tt
-job_small (Some (job.Text (task.Translate f o))) h = tt
-job_small (Some (job.Text (task.Check f b))) h = tt
-job_small (Some (job.Text (task.Rewrite f s))) h = tt
-job_small (Some (job.Text (task.Map f b))) h = tt
-job_small (Some (job.Text (task.Make s n))) h = h
-job_small (Some (job.Run names options)) h = tt
-
--- the words mean o, and j stands for it where it is run
-pub job_few : (j : Option Job) (o : Option Command) (ws : List (String Global)) → o ≡ meaning commands (words_of ws) → option_map as_job j ≡ if_run o → IfSome j IsSmallJob
-job_few j o ws e k = job_small j (subst Fits (sym k) (run_fits o (subst Fits (sym e) (meaning_fits commands (words_of ws)))))
+-- the words mean what j stands for
+pub job_few : (j : Job) (ws : List (String Global)) → Some (as_job j) ≡ meaning commands (words_of ws) → IsSmallJob j
+job_few j ws e = job_small j (subst Fits (sym e) (meaning_fits commands (words_of ws)))

@@ -1,11 +1,10 @@
 -- What is answered to a run where there is no memory, why each of its answers comes, and when the answer is Fine.
-use Rattle.std.specs.Prelude.{IfSome}
 use Rattle.std.proofs.Common.{◌≡◌, ℕ, ◌+◌, ◌<◌, ◌≤◌, List, [], length, Bool, Option, Some, None, refl, inr, arith}
-use Rattle.outer_io.specs.Outer.{Texts, Tells, told_at, RoseBy}
+use Rattle.outer_io.specs.Outer.{Texts, RoseBy}
 use Rattle.tla_token.specs.Limits.{most_bytes}
 use Rattle.tla_token.specs.declared.rule.Refusal.{Refusal}
 use Rattle.step_runner.specs.Followed as runner
-use Rattle.run_answer.specs.Chosen.{Files, Which, Refuses, IsRun}
+use Rattle.run_answer.specs.Chosen.{Which, Refuses, IsRun}
 use Rattle.run_text.specs.declared.stops.Trouble.TheVariants as trouble
 use Rattle.followed_runs.specs.declared.cause.Cause.{Cause}
 use Rattle.followed_runs.specs.declared.cause.Cause.TheVariants as cause
@@ -13,7 +12,7 @@ use Rattle.followed_runs.specs.Stopping.{stop_of}
 use Rattle.running.specs.InMemory.{which_of}
 use Rattle.run_command.specs.declared.answer.RunAnswer.{RunAnswer}
 use Rattle.run_command.specs.declared.answer.RunAnswer.TheVariants as run
-use Rattle.run_command.specs.Names.{Names, name_of, OfTexts, size_of, AreShort}
+use Rattle.run_command.specs.Names.{Names, name_of, size_of, AreShort}
 use Rattle.run_command.specs.Answers.{IsUnread, IsUnwritten, IsEnd}
 use Rattle.run_command.specs.Answers as answers
 use Rattle.run_command.specs.Answered.{Writes, AnsweredRun}
@@ -24,37 +23,7 @@ use Rattle.pcal_cli.specs.declared.status.Answer.TheVariants as answer
 use Rattle.pcal_cli.specs.Told.{Told}
 use Rattle.pcal_cli.specs.Runs.{status_by, status_of_run, HasRun, IsRunCause, AnsweredThree, ExplainsRun}
 use Rattle.pcal_cli.proofs.TextsTold.{of_all}
-
--- ---- three texts
-
--- what is said of the others, where some are told
-abbrev WithTwo : (Files → Type 0) → List ℕ → List ℕ → List ℕ → Type 0
-WithTwo P x y z = P (record { source = x; config = y; script = z })
-
-abbrev WithOne : Option Texts → Names → (Files → Type 0) → List ℕ → List ℕ → Type 0
-WithOne ts n P x y = Tells ts n.script (WithTwo P x y)
-
-abbrev WithNone : Option Texts → Names → (Files → Type 0) → List ℕ → Type 0
-WithNone ts n P x = Tells ts n.config (WithOne ts n P x)
-
--- what holds of all texts holds of those that are told
-of_texts : (ts : Option Texts) (n : Names) (P : Files → Type 0) → ((f : Files) → P f) → OfTexts ts n P
-of_texts ts n P p =
-    of_all ts n.source (WithNone ts n P) (λ x. of_all ts n.config (WithOne ts n P x) (λ y. of_all ts n.script (WithTwo P x y) (λ z. p (record { source = x; config = y; script = z }))))
-
-if_told : (o : Option (List ℕ)) (P Q : List ℕ → Type 0) → ((x : List ℕ) → P x → Q x) → IfSome o P → IfSome o Q
-if_told None P Q f h = tt
-if_told (Some x) P Q f h = f x h
-
--- and so does what follows from it
-map_texts : (ts : Option Texts) (n : Names) (P Q : Files → Type 0) → ((f : Files) → P f → Q f) → OfTexts ts n P → OfTexts ts n Q
-map_texts ts n P Q f h =
-    if_told (told_at ts n.source) (WithNone ts n P) (WithNone ts n Q)
-    (λ x. if_told (told_at ts n.config) (WithOne ts n P x) (WithOne ts n Q x)
-    (λ y. if_told (told_at ts n.script) (WithTwo P x y) (WithTwo Q x y) (λ z. f (record { source = x; config = y; script = z }))))
-    h
-
--- ---- answers
+use Rattle.pcal_cli.proofs.ThreeTold.{of_texts, map_texts}
 
 end_memory : (s : Option runner.Stop) → IsEnd s run.Memory
 end_memory None = tt

@@ -1,4 +1,4 @@
--- A task is no run: what holds of the answer to a command of one text holds of the answer to its command.
+-- A task is no run and no trace: what holds of the answer to a command of one text holds of the answer to its command.
 use Rattle.std.proofs.Common.{ℕ, List, Option, Some}
 use Rattle.outer_io.specs.Outer.{Texts}
 use Rattle.pcal_cli.specs.declared.status.Status.{Status}

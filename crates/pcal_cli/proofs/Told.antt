@@ -8,7 +8,7 @@ use Rattle.command_words.specs.Commands.{Command, translates, checks, rewrites, 
 use Rattle.file_answer.proofs.CheckAnswers.{one_check}
 use Rattle.file_answer.proofs.OneAnswer as rewritings
 use Rattle.pcal_cli.specs.Words.{input_of}
-use Rattle.pcal_cli.specs.Asked.{Refuses, Accepts}
+use Rattle.pcal_cli.specs.Asked.{Refuses, Accepts, promised}
 use Rattle.pcal_cli.specs.declared.status.Answer.TheVariants as answer
 use Rattle.pcal_cli.specs.declared.status.Status.{Status}
 use Rattle.pcal_cli.specs.declared.status.Status.TheVariants.{Memory, Usage}
@@ -16,6 +16,7 @@ use Rattle.pcal_cli.specs.Answers.{line_of}
 use Rattle.pcal_cli.specs.Told.{Told}
 use Rattle.pcal_cli.specs.Causes.{OfCommand, IsCause, ExplainsText, Explains}
 use Rattle.pcal_cli.proofs.Runs.{memory_explains}
+use Rattle.pcal_cli.proofs.Traces.{trace_memory_explains}
 
 -- a fact of the text that was read is one of the text that is told
 pub told : (ts : Option Texts) (file v : List ℕ) (P : List ℕ → Type 0) → HasText ts file v → P v → Tells ts file P
@@ -68,8 +69,8 @@ memory_told ts failed failed_after (Some (translates file options)) s old new be
 memory_told ts failed failed_after (Some (checks file forced)) s old new before after e t = text_memory ts (Some (checks file forced)) s old new before after e t
 memory_told ts failed failed_after (Some (rewrites file to)) s old new before after e t = text_memory ts (Some (rewrites file to)) s old new before after e t
 memory_told ts failed failed_after (Some (maps file forced)) s old new before after e t = text_memory ts (Some (maps file forced)) s old new before after e t
-memory_told ts failed failed_after (Some (runs file config script options)) s old new before after e t = memory_explains ts failed failed_after (record { source = file; config = config; script = script }) options.forced s old new before after e t
-memory_told ts failed failed_after (Some (traces file config trace options)) s old new before after e t = text_memory ts (Some (traces file config trace options)) s old new before after e t
+memory_told ts failed failed_after (Some (runs file config script options)) s old new before after e t = memory_explains ts failed failed_after (record { source = file; config = config; third = script }) options.forced s old new before after e t
+memory_told ts failed failed_after (Some (traces file config trace options)) s old new before after e t = trace_memory_explains ts failed failed_after (record { source = file; config = config; third = trace }) (promised options) s old new before after e t
 memory_told ts failed failed_after (Some (makes seed count)) s old new before after e t = text_memory ts (Some (makes seed count)) s old new before after e t
 
 -- where the words mean no command

@@ -2,13 +2,14 @@
 use Rattle.std.specs.Prelude.{◌≡◌, ◌⊎◌, ℕ, ◌+◌, ◌<◌, ◌≤◌, List, length, Option, Some, None, option_map}
 use Rattle.outer_io.specs.Outer.{Texts, RoseBy, RoseAbove, piece_bytes}
 use Rattle.tla_token.specs.Limits.{most_bytes}
-use Rattle.command_words.specs.Commands.{Command, runs}
+use Rattle.command_words.specs.Commands.{Command, runs, traces}
 use Rattle.pcal_cli.specs.declared.status.Status.{Status}
 use Rattle.pcal_cli.specs.declared.status.Status.TheVariants.{Usage, ReadFault, WriteFault, Refused, TooLong, Fine}
 use Rattle.pcal_cli.specs.Words.{Input, input_of}
-use Rattle.pcal_cli.specs.Asked.{HasOffence, Accepts}
+use Rattle.pcal_cli.specs.Asked.{HasOffence, Accepts, promised}
 use Rattle.pcal_cli.specs.Causes.{OfBoth, OfFile, Lacks, IsFree, IsAnswer, IsUnasked, IsNoCommand, IsUnread, IsUnwritten, IsDone, IsRead, LeavesOut, Writes, WritesInPart}
 use Rattle.pcal_cli.specs.Runs.{AnsweredThree}
+use Rattle.pcal_cli.specs.Traces.{AnsweredTraced}
 
 -- the answer of status s to a command of one text, which comes from the input, or to words that mean none; the shelf and the output are seen before the call and after it
 -- texts, given, faults: what the shelf tells and counts; wrote, write_faults: what the output does
@@ -69,9 +70,11 @@ pub record AnsweredFrom {H K : Type 0} (texts : H → Option Texts) (given fault
   pub write_counted : (s ≡ WriteFault) ⊎ (write_faults out_after ≡ write_faults out)
   pub one_write_fault : write_faults out_after ≤ write_faults out + 1
 
--- of any command: a run has three files; any other has one text, which comes from where it says
+-- of any command: a run and a trace have three files; any other has one text, which comes from where it says
 abbrev pub Answered : {H K : Type 0} → (H → Option Texts) → (H → ℕ) → (H → ℕ) → (K → Option (List ℕ)) → (K → ℕ) → Option Command → Status → H → H → K → K → Type 0
 Answered texts given faults wrote write_faults (Some (runs file config script options)) s shelf shelf_after out out_after =
-    AnsweredThree texts given faults wrote write_faults (record { source = file; config = config; script = script }) options.forced s shelf shelf_after out out_after
+    AnsweredThree texts given faults wrote write_faults (record { source = file; config = config; third = script }) options.forced s shelf shelf_after out out_after
+Answered texts given faults wrote write_faults (Some (traces file config trace options)) s shelf shelf_after out out_after =
+    AnsweredTraced texts given faults wrote write_faults (record { source = file; config = config; third = trace }) (promised options) s shelf shelf_after out out_after
 Answered texts given faults wrote write_faults command s shelf shelf_after out out_after =
     AnsweredFrom texts given faults wrote write_faults (option_map input_of command) command s shelf shelf_after out out_after

@@ -4,18 +4,20 @@ use Rattle.std.specs.Process.{exit_status}
 use Rattle.std.specs.declared.process.ExitCode.{ExitCode}
 use Rattle.outer_io.specs.Outer.{Texts, Tells, HasNoText, Grows, GrowsInPart}
 use Rattle.tla_token.specs.declared.rule.Refusal.{Refusal}
-use Rattle.command_words.specs.Commands.{Command, runs}
+use Rattle.command_words.specs.Commands.{Command, runs, traces}
 use Rattle.run_command.specs.Names.{OfTexts}
 use Rattle.run_command.specs.Answered as run
+use Rattle.trace_command.specs.Answered as traced
 use Rattle.pcal_cli.specs.declared.status.Answer.{Answer}
 use Rattle.pcal_cli.specs.declared.status.Answer.TheVariants as answer
 use Rattle.pcal_cli.specs.declared.status.Status.{Status}
 use Rattle.pcal_cli.specs.declared.status.Status.TheVariants.{Fine, Memory, Usage, ReadFault, WriteFault, Refused, TooLong}
 use Rattle.pcal_cli.specs.Answers.{status_number, status_of, line_of}
 use Rattle.pcal_cli.specs.Words.{Input, from_file, this_text, input_of, file_meant}
-use Rattle.pcal_cli.specs.Asked.{Refuses, Makes, Promises}
+use Rattle.pcal_cli.specs.Asked.{Refuses, Makes, Promises, promised}
 use Rattle.pcal_cli.specs.Told.{Told}
 use Rattle.pcal_cli.specs.Runs.{ExplainsRun}
+use Rattle.pcal_cli.specs.Traces.{ExplainsTrace}
 
 -- what holds of a command; where there is none nothing is said
 abbrev pub OfCommand : Option Command → (Command → Type 0) → Type 0
@@ -145,10 +147,12 @@ KeepsPromise old new c x = (w : List ℕ) × Grows old new w × Promises c x w
 
 -- ---- any command
 
--- the promise of the command, by what the output was and is: a run has three files, any other has one text
+-- the promise of the command, by what the output was and is: a run and a trace have three files, any other has one text
 abbrev pub Promised : Option Texts → Option Command → Option (List ℕ) → Option (List ℕ) → Type 0
 Promised texts (Some (runs file config script options)) old new =
-    OfTexts texts (record { source = file; config = config; script = script }) (run.KeepsPromise old new options.forced)
+    OfTexts texts (record { source = file; config = config; third = script }) (run.KeepsPromise old new options.forced)
+Promised texts (Some (traces file config trace options)) old new =
+    OfTexts texts (record { source = file; config = config; third = trace }) (traced.KeepsPromise old new (promised options))
 Promised texts command old new = OfText texts command (KeepsPromise old new)
 
 -- the error output took the line of an answer of this status to a command of one text; where its text was refused, that of a refusal which it has by this command
@@ -161,5 +165,7 @@ pub record ExplainsText (texts : Option Texts) (command : Option Command) (s : S
 -- of any command; failed, failed_after: how many calls of the shelf failed before the answer, and with it
 abbrev pub Explains : Option Texts → ℕ → ℕ → Option Command → Status → Option (List ℕ) → Option (List ℕ) → ℕ → ℕ → Type 0
 Explains texts failed failed_after (Some (runs file config script options)) s old new before after =
-    ExplainsRun texts failed failed_after (record { source = file; config = config; script = script }) options.forced s old new before after
+    ExplainsRun texts failed failed_after (record { source = file; config = config; third = script }) options.forced s old new before after
+Explains texts failed failed_after (Some (traces file config trace options)) s old new before after =
+    ExplainsTrace texts failed failed_after (record { source = file; config = config; third = trace }) (promised options) s old new before after
 Explains texts failed failed_after command s old new before after = ExplainsText texts command s old new before after

@@ -3,8 +3,10 @@ pub mod Tasks
 pub mod Answers
 pub mod Asked
 pub mod Told
+pub mod Room
 pub mod Causes
 pub mod Runs
+pub mod Traces
 pub mod Put
 pub mod Answered
 pub mod Checked

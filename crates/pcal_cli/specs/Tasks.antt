@@ -1,7 +1,7 @@
 -- The commands that the program runs, in memory.
 use Rattle.std.specs.Prelude.{◌≤◌}
 use Rattle.pcal_tree.specs.Syntaxes.{syntax_of}
-use Rattle.command_words.specs.Commands.{Command, translates, checks, rewrites, maps, runs, makes}
+use Rattle.command_words.specs.Commands.{Command, translates, checks, rewrites, maps, runs, traces, makes}
 use Rattle.command_words.specs.Meant.{options_of}
 use Rattle.make_module.specs.Big.{big}
 use Rattle.pcal_cli.specs.Words.{Input, from_file, this_text}
@@ -21,7 +21,8 @@ as_command (task.Make seed count) = makes seed count
 
 abbrev pub as_job : Job → Command
 as_job (job.Text t) = as_command t
-as_job (job.Run names options) = runs names.source.now names.config.now names.script.now (options_of options)
+as_job (job.Run names options) = runs names.source.now names.config.now names.third.now (options_of options)
+as_job (job.Trace names options) = traces names.source.now names.config.now names.third.now (options_of options)
 
 -- where a text comes from
 abbrev pub as_input : Source → Input

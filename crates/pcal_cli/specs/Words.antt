@@ -1,5 +1,5 @@
 -- The commands of the program as a function of the words of a command line, and which module each is of.
-use Rattle.std.specs.Prelude.{List, [], Bool, true, false, Option, Some, None, Result, Ok, Err, if◌then◌else◌, String, string_bytes, map}
+use Rattle.std.specs.Prelude.{List, [], Option, Some, None, Result, Ok, Err, String, string_bytes, map}
 use Rattle.std.specs.declared.alloc.Global.{Global}
 use Rattle.std.specs.Vec.Iter.{into_iter_items}
 use Rattle.std.specs.declared.vec.IntoIter.{IntoIter}
@@ -8,15 +8,6 @@ use Rattle.tla_tree.specs.Tree.{Word}
 use Rattle.command_words.specs.Table.{commands}
 use Rattle.command_words.specs.Commands.{Command, translates, checks, rewrites, maps, runs, traces, makes, meaning}
 use Rattle.make_module.specs.Big.{big}
-
--- whether the program runs a command: so far all but `trace`
-abbrev pub is_run : Command → Bool
-is_run (traces file config trace options) = false
-is_run c = true
-
-abbrev pub if_run : Option Command → Option Command
-if_run None = None
-if_run (Some c) = if is_run c then Some c else None
 
 -- the name of the module that a command reads; one that reads none has no name for it
 abbrev pub file_of : Command → Word
@@ -44,9 +35,9 @@ input_of c = from_file (file_of c)
 abbrev pub words_of : List (String Global) → List Word
 words_of ws = map string_bytes ws
 
--- the command of the words of a command line, where the program runs it
+-- the command of the words of a command line
 unfoldable pub command_in : List (String Global) → Option Command
-command_in ws = if_run (meaning commands (words_of ws))
+command_in ws = meaning commands (words_of ws)
 
 -- the words as the system hands them over; none, where one isn't UTF-8
 abbrev pub words_given : Result (IntoIter (String Global) Global) Error → List (String Global)

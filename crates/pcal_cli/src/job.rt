@@ -1,8 +1,8 @@
-//! The commands that the program runs: those of one text, and runs of three files.
+//! The commands that the program runs: those of one text, and runs and traces of three files.
 
-ghost use Rattle.std.specs.Prelude.{◌≡◌, option_map, Some, IfOk, IfSome};
+ghost use Rattle.std.specs.Prelude.{◌≡◌, option_map, IfOk, IfSome};
 ghost use Rattle.command_words.specs.Meant.{meant};
-ghost use Rattle.pcal_cli.specs.Words.{if_run, command_in};
+ghost use Rattle.pcal_cli.specs.Words.{command_in};
 ghost use Rattle.pcal_cli.specs.Tasks.{as_job, IsSmallJob};
 
 use crate::task::Task;
@@ -17,31 +17,40 @@ pub enum Job<'a> {
     Text(Task<'a>),
     /// A run of the files with these names, with its options.
     Run(Names<'a>, Options),
+    /// A trace to be explained, of the files with these names, with its options.
+    Trace(Names<'a>, Options),
 }
 
-/// A command, where the program runs it.
-fn if_run<'a>(command: Command<'a>) -> Option<Job<'a>>
-    ensures { option_map as_job result ≡ if_run (Some (meant command.entry)) }
+/// A command, as the program runs it.
+fn job_for<'a>(command: Command<'a>) -> Job<'a>
+    ensures { as_job result ≡ meant command.entry }
 {
     match command {
-        Command::Translate(file, options) => Some(Job::Text(Task::Translate(file, options))),
-        Command::Check(file, forced) => Some(Job::Text(Task::Check(file, forced))),
-        Command::Rewrite(file, to) => Some(Job::Text(Task::Rewrite(file, to))),
-        Command::Map(file, forced) => Some(Job::Text(Task::Map(file, forced))),
-        Command::Run(source, config, script, options) => {
+        Command::Translate(file, options) => Job::Text(Task::Translate(file, options)),
+        Command::Check(file, forced) => Job::Text(Task::Check(file, forced)),
+        Command::Rewrite(file, to) => Job::Text(Task::Rewrite(file, to)),
+        Command::Map(file, forced) => Job::Text(Task::Map(file, forced)),
+        Command::Run(source, config, third, options) => {
             let names = Names {
                 source,
                 config,
-                script,
+                third,
             };
-            Some(Job::Run(names, options))
+            Job::Run(names, options)
         }
-        Command::Trace(_, _, _, _) => None,
-        Command::Make(seed, count) => Some(Job::Text(Task::Make(seed, count))),
+        Command::Trace(source, config, third, options) => {
+            let names = Names {
+                source,
+                config,
+                third,
+            };
+            Job::Trace(names, options)
+        }
+        Command::Make(seed, count) => Job::Text(Task::Make(seed, count)),
     }
 }
 
-/// The command that the words mean, the program's name first, where the program runs it.
+/// The command that the words mean, the program's name first.
 ///
 /// # Errors
 ///
@@ -52,7 +61,7 @@ pub fn job_of<'a>(alloc: Global, words: &'a [String]) -> Result<Option<Job<'a>>,
     ensures small { IfOk result (λ j. IfSome j IsSmallJob) }
 {
     match command_of(alloc, words)? {
-        Some(command) => Ok(if_run(command)),
+        Some(command) => Ok(Some(job_for(command))),
         None => Ok(None),
     }
 }

@@ -4,11 +4,13 @@
 mod counts;
 mod error_line;
 mod job;
+mod named;
 mod program;
 mod status;
 mod task;
 mod three;
 mod top;
+mod traced;
 
 pub use made_module::make_module;
 pub use program::run;

@@ -1,23 +1,23 @@
 //! A run, from the names of its three files to an answer.
 
-ghost use Rattle.std.specs.Prelude.{◌≡◌, ◌+◌, ◌≤◌, [], length, Some, vec_capacity};
+ghost use Rattle.std.specs.Prelude.{◌≡◌, ◌+◌, ◌≤◌, Some};
 ghost use Rattle.step_runner.specs.Followed as runner;
 ghost use Rattle.run_answer.specs.Stops.{stop_line};
 ghost use Rattle.followed_runs.specs.declared.cause.Stop as code;
 ghost use Rattle.followed_runs.specs.Stopping.{stop_of};
-ghost use Rattle.running.specs.InMemory.{which_of};
-ghost use Rattle.run_command.specs.Names.{names_of, name_of, OfTexts};
+ghost use Rattle.run_command.specs.Names.{names_of, OfTexts};
 ghost use Rattle.run_command.specs.Answered.{KeepsPromise};
+ghost use Rattle.pcal_cli.specs.Room.{HasRoom};
 ghost use Rattle.pcal_cli.specs.Told.{Told};
 ghost use Rattle.pcal_cli.specs.Runs.{status_by, status_of_run, run_line, AnsweredThree, ExplainsRun};
 
 use crate::error_line::{line_room, out_of_memory, say, tell};
+use crate::named::{longest, tell_of};
 use crate::status::{Answer, Status};
 use followed_runs::Cause;
 use outer_io::{Shelf, Sink};
 use run_command::{Ended, Names, RunAnswer, run_out};
 use run_text::Trouble;
-use running::Which;
 use std::alloc::{AllocError, Global};
 
 /// What the process's exit status says of the cause of a stop.
@@ -46,40 +46,9 @@ fn run_status(answer: RunAnswer) -> Status
     }
 }
 
-/// The one of two names that is no shorter than the other.
-fn longer<'a>(one: &'a str, other: &'a str) -> &'a str
-    ensures one { length one.now ≤ length result.now }
-    ensures other { length other.now ≤ length result.now }
-{
-    if one.len() < other.len() { other } else { one }
-}
-
-/// A name of a file of a run, as long as each.
-fn longest<'a>(names: &Names<'a>) -> &'a str
-    ensures source { length names.now.source.now ≤ length result.now }
-    ensures config { length names.now.config.now ≤ length result.now }
-    ensures script { length names.now.script.now ≤ length result.now }
-{
-    longer(names.source, longer(names.config, names.script))
-}
-
-/// The name of a file of a run.
-fn name_of<'a>(names: &Names<'a>, which: Which) -> &'a str
-    ensures { result.now ≡ name_of (names_of names.now) (which_of which) }
-{
-    match which {
-        Which::Module => names.source,
-        Which::Config => names.config,
-        Which::Script => names.script,
-    }
-}
-
 /// Writes the line of how a run ended, of which room is the memory but for the line of a stop.
 fn tell_run<E: Sink>(err: &mut E, room: Vec<u8>, names: &Names<'_>, ended: &Ended)
-    requires empty { room.items ≡ [] }
-    requires source { length names.now.source.now + 80 ≤ vec_capacity room }
-    requires config { length names.now.config.now + 80 ≤ vec_capacity room }
-    requires script { length names.now.script.now + 80 ≤ vec_capacity room }
+    requires room { HasRoom (names_of names.now) room }
     requires line { (s : code.Stop) (t : runner.Stop) → ended.now.answer ≡ RunAnswer.Stopped s → stop_of (Some s) ≡ Some t → ended.now.line.items ≡ stop_line names.now.source.now t }
     ensures told { Told (E.wrote err.old) (E.wrote err.new) (E.faults err.old) (E.faults err.new) (run_line (names_of names.now) ended.now.answer) }
     ensures faults_grow { E.faults err.old ≤ E.faults err.new }
@@ -88,19 +57,12 @@ fn tell_run<E: Sink>(err: &mut E, room: Vec<u8>, names: &Names<'_>, ended: &Ende
     match ended.answer {
         RunAnswer::Fine => tell(err, room, Answer::Fine, b""),
         RunAnswer::Memory => tell(err, room, Answer::Memory, b""),
-        RunAnswer::ReadFault(which) => {
-            let file = name_of(names, which);
-            tell(err, room, Answer::ReadFault, file.as_bytes());
-        }
+        RunAnswer::ReadFault(which) => tell_of(err, room, names, which, Answer::ReadFault),
         RunAnswer::WriteFault => tell(err, room, Answer::WriteFault, b""),
         RunAnswer::Refused(which, refusal) => {
-            let file = name_of(names, which);
-            tell(err, room, Answer::Refused(refusal), file.as_bytes());
+            tell_of(err, room, names, which, Answer::Refused(refusal))
         }
-        RunAnswer::TooLong(which) => {
-            let file = name_of(names, which);
-            tell(err, room, Answer::TooLong, file.as_bytes());
-        }
+        RunAnswer::TooLong(which) => tell_of(err, room, names, which, Answer::TooLong),
         RunAnswer::Stopped(_) => say(err, &ended.line),
     }
 }

@@ -16,6 +16,7 @@ use crate::job::{Job, job_of};
 use crate::status::{Answer, Status, as_status};
 use crate::task::{Source, Task, file, source_of, written};
 use crate::three::run_three;
+use crate::traced::trace_three;
 use made_module::make_module;
 use outer_io::{LoadFault, Shelf, Sink, load, put_all};
 use std::alloc::{AllocError, Global};
@@ -136,6 +137,9 @@ pub fn pcal<H: Shelf, K: Sink, E: Sink>(
         Ok(Some(Job::Text(task))) => do_task(alloc, task, shelf, out, err),
         Ok(Some(Job::Run(names, options))) => {
             run_three(alloc, &names, options.forced, shelf, out, err)
+        }
+        Ok(Some(Job::Trace(names, options))) => {
+            trace_three(alloc, &names, options, shelf, out, err)
         }
         Ok(None) => {
             say(err, b"pcal: usage\n");
