@@ -3,7 +3,7 @@ _pcal() {
     local current=${COMP_WORDS[COMP_CWORD]} before=${COMP_WORDS[COMP_CWORD-1]}
     COMPREPLY=()
     if [ "$COMP_CWORD" -eq 1 ]; then
-        COMPREPLY=($(compgen -W "translate check map rewrite run make" -- "$current"))
+        COMPREPLY=($(compgen -W "translate check map rewrite run trace make" -- "$current"))
         return
     fi
     if [ "$before" = --to ]; then
@@ -13,14 +13,14 @@ _pcal() {
     case $current in
     -*)
         case ${COMP_WORDS[1]} in
-        translate | run) COMPREPLY=($(compgen -W "--label --no-terminating" -- "$current")) ;;
+        translate | run | trace) COMPREPLY=($(compgen -W "--label --no-terminating" -- "$current")) ;;
         check | map) COMPREPLY=($(compgen -W "--label" -- "$current")) ;;
         rewrite) COMPREPLY=($(compgen -W "--to" -- "$current")) ;;
         esac
         ;;
     *)
         case ${COMP_WORDS[1]} in
-        run)
+        run | trace)
             compopt -o filenames 2>/dev/null
             COMPREPLY=($(compgen -f -- "$current"))
             ;;
