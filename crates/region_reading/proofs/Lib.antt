@@ -1,0 +1,10 @@
+-- That reading a translation is exact.
+pub mod NamesRead
+pub mod BulletsRead
+pub mod ItemsRead
+pub mod CallsRead
+pub mod UnitsRead
+pub mod RegionsRead
+pub mod ModulesRead
+pub mod EnoughSteps
+mod Rows

@@ -1,0 +1,6 @@
+pub mod NameReader
+pub mod ItemReader
+pub mod CallReader
+pub mod UnitReader
+pub mod RegionReader
+pub mod ModuleReader

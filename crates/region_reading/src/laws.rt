@@ -1,0 +1,50 @@
+//! Laws of reading a translation, stated as what functions without a body ensure.
+
+ghost use Rattle.std.specs.Prelude.{◌≡◌, ℕ, List, [], Some};
+ghost use Rattle.tla_tree.specs.declared.op.Op.TheVariants as op;
+ghost use Rattle.tla_tree.specs.Lexical.{Token};
+ghost use Rattle.module_tree.specs.Module.{RegionUnit, Region, units_of, Module};
+ghost use Rattle.module_tree.specs.TextFront.{Text};
+ghost use Rattle.module_tree.specs.Units.{UnitForm, spell_unit, GoodUnit, IsUnit};
+ghost use Rattle.module_tree.specs.Reading.{Reads};
+ghost use Rattle.tla_tree.specs.Reader.{read};
+ghost use Rattle.region_reading.specs.NameReader.{names_step, names_in, bulleted_step, bulleted_from};
+ghost use Rattle.region_reading.specs.ItemReader.{item_step, whole_items};
+ghost use Rattle.region_reading.specs.CallReader.{way_in, spec_in};
+ghost use Rattle.region_reading.specs.UnitReader.{form_in, unit_in};
+ghost use Rattle.region_reading.specs.RegionReader.{region_in};
+ghost use Rattle.region_reading.specs.ModuleReader.{module_in};
+
+/// The unit that is read of tokens is one that may be spelled, and spelled just so; and each unit that may be spelled is read of its tokens.
+/// So what is read of tokens is the unit of a translation that they are, and where none is read they are no unit.
+pub fn units_are_read_exactly()
+    ensures sound { (ts : List Token) (f : UnitForm) → form_in ts ≡ Some f → GoodUnit f × (ts ≡ spell_unit f []) }
+    ensures complete { (f : UnitForm) → GoodUnit f → form_in (spell_unit f []) ≡ Some f }
+    ensures unit { (ts : List Token) (u : RegionUnit) → unit_in ts ≡ Some u → IsUnit ts u }
+    ensures every { (ts : List Token) (u : RegionUnit) → IsUnit ts u → unit_in ts ≡ Some u }
+{}
+
+/// The translation that is read of a list of units has just these units, and each translation is read of its units.
+pub fn regions_are_read_exactly()
+    ensures sound { (us : List RegionUnit) (r : Region) → region_in us ≡ Some r → units_of r ≡ us }
+    ensures complete { (r : Region) → region_in (units_of r) ≡ Some r }
+{}
+
+/// The module that is read of a text is the module that it is, and where none is read it is no module.
+pub fn modules_are_read_exactly()
+    ensures sound { (w : Text) (m : Module) → module_in w ≡ Some m → Reads w m }
+    ensures complete { (w : Text) (m : Module) → Reads w m → module_in w ≡ Some m }
+{}
+
+/// The readers of lists have as many steps as they need, so each of them is one step over itself, however many tokens there are: names with commas, the forms behind
+/// the bullets of Init, Next and Spec, and items, lists of them and branches.
+pub fn enough_steps_are_enough()
+    ensures names { (edge : ℕ) (ts : List Token) → names_in edge ts ≡ names_step edge (names_in edge) ts }
+    ensures init { (c : ℕ) (ts : List Token) → bulleted_from op.And read c ts ≡ bulleted_step op.And read c (bulleted_from op.And read c) ts }
+    ensures next { (c : ℕ) (ts : List Token) → bulleted_from op.Or way_in c ts ≡ bulleted_step op.Or way_in c (bulleted_from op.Or way_in c) ts }
+    ensures spec { (c : ℕ) (ts : List Token) → bulleted_from op.And spec_in c ts ≡ bulleted_step op.And spec_in c (bulleted_from op.And spec_in c) ts }
+    ensures item { (ts : List Token) (edge : ℕ) → whole_items.item edge ts ≡ (item_step whole_items).item edge ts }
+    ensures list { (ts : List Token) (edge : ℕ) → whole_items.list edge ts ≡ (item_step whole_items).list edge ts }
+    ensures items { (ts : List Token) (edge c : ℕ) → whole_items.items edge c ts ≡ (item_step whole_items).items edge c ts }
+    ensures branches { (ts : List Token) (edge c : ℕ) → whole_items.branches edge c ts ≡ (item_step whole_items).branches edge c ts }
+{}
