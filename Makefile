@@ -4,9 +4,10 @@
 #                 and isn't there, and for mistakes in the man page
 #
 # The first build proves all that the program stands on, which takes about an hour on four cores, and up to two where
-# these are slow. The gate is `rt ci`, not make.
+# these are slow. Where the gate, `rt ci`, has passed in this checkout, the program that it built is taken.
 
 PREFIX = $(HOME)/.local
+PROGRAM = crates/pcal/out/pcal
 DESTDIR =
 
 BIN = $(DESTDIR)$(PREFIX)/bin
@@ -17,13 +18,18 @@ FISH = $(DESTDIR)$(PREFIX)/share/fish/vendor_completions.d
 
 .PHONY: build install uninstall links
 
+# what a proof or the build of the program reads
+SOURCES = crates.txt $(shell find crates -name out -prune -o -name '*.rt' -print -o -name '*.antt' -print)
+
+build: $(PROGRAM)
+
 # rt proves and builds what has changed, and runs it once: it writes ok
-build:
+$(PROGRAM): $(SOURCES)
 	cd crates/pcal && rt run -- check data/M.tla
 
 install: build
 	install -d "$(BIN)" "$(MAN)" "$(BASH)" "$(ZSH)" "$(FISH)"
-	install -m 755 crates/pcal/out/pcal "$(BIN)/pcal"
+	install -m 755 $(PROGRAM) "$(BIN)/pcal"
 	install -m 644 man/pcal.1 "$(MAN)/pcal.1"
 	install -m 644 completions/pcal.bash "$(BASH)/pcal"
 	install -m 644 completions/_pcal "$(ZSH)/_pcal"
