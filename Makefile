@@ -4,7 +4,8 @@
 #                 and isn't there, and for mistakes in the man page
 #
 # The first build proves all that the program stands on, which by the minutes of the gate takes about an hour on four
-# cores, and up to two where these are slow. Where the gate, `rt ci`, has passed in this checkout, the program that it built is taken.
+# cores, and up to two where these are slow. Where the gate, `rt ci`, has passed in this checkout, the program that it
+# built is taken.
 
 PREFIX = $(HOME)/.local
 PROGRAM = crates/pcal/out/pcal
