@@ -60,7 +60,7 @@ all_begin (last a) ts = begins a ts
 all_begin (more a p xs) ts = begins a _
 
 subscripts_spelled : (n : ℕ) (ts us : List Token) (xs : Phrases) → (readers n (Some 199)).phrases 0 ts ≡ Ok (xs, us) → spell_all xs us ≡ ts
-subscripts_spelled n ts us xs e = ((sound n).phrases 0 ts xs us (told_ok ((limited 199 n 0 199 (omega arith)).phrases 0 (λ u. u) held ts) e).0).1
+subscripts_spelled n ts us xs e = ((sound n).phrases 0 ts xs us (told_ok ((limited true 199 n 0 199 (omega arith)).phrases 0 (λ u. u) held ts) e).0).1
 
 pub subscripts_begin : (v : Tokens) (i : ℕ) (us : List Token) (xs : Phrases) → (parts_in v).subscripts (ahead v i) ≡ Ok (xs, us) → start (first_of xs) ≡ (first (ahead v i)).place
 subscripts_begin v i us xs e = sym (all_begin xs us) ∙ ap (λ (ts : List Token). (first ts).place) (subscripts_spelled (4 * length v.items.items) (ahead v i) us xs e)

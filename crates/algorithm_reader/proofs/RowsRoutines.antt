@@ -7,7 +7,7 @@ use Rattle.tla_tree.specs.Tree.{Word}
 use Rattle.tla_tree.specs.Lexical.{Token, token}
 use Rattle.tla_tree.specs.Lexical as tk
 use Rattle.tla_tree.specs.Spelling as spelled
-use Rattle.tla_tree.specs.Reader.{◌>>=◌, gives, refuses, readers}
+use Rattle.tla_tree.specs.Reader.{◌>>=◌, gives, refuses, readers, readers_in}
 use Rattle.pcal_tree.specs.declared.mark.Fairness.TheVariants as fairness
 use Rattle.pcal_tree.specs.GrammarParts as part
 use Rattle.pcal_tree.specs.GrammarP.{simple, last_statement}
@@ -91,5 +91,5 @@ whole : read_whole parts ways frames 9 (word 1 (codes "--algorithm") ∷ word 13
       },
       [],
     )
-unfolding readers
+unfolding readers_in
 whole = refl

@@ -8,7 +8,7 @@ use Rattle.tla_tree.specs.Lexical.{Mark, Token, token}
 use Rattle.tla_tree.specs.Lexical as tk
 use Rattle.tla_tree.specs.Spelling.{Phrase}
 use Rattle.tla_tree.specs.Spelling as spelled
-use Rattle.tla_tree.specs.Reader.{Out, readers}
+use Rattle.tla_tree.specs.Reader.{Out, readers, readers_in}
 use Rattle.pcal_tree.specs.GrammarParts.{Labels, no_labels}
 use Rattle.pcal_tree.specs.GrammarParts as part
 use Rattle.pcal_tree.specs.GrammarC.{Statement, Labelled, labelled, Sequence, sequence, simple, branch, either, with, while, compound, no_else, else_then, last_branch, more_branches, last_statement, more_statements}
@@ -58,18 +58,18 @@ two = more_statements
     (last_statement (skips 36) None)
 
 two_read : IsRead two
-unfolding readers
+unfolding readers_in
 two_read = refl
 
 -- if (a) if (b) skip else return: the `else` belongs to the inner `if`
 inner : IsRead (last_statement (plain (branch (at 1) (at 4) (var 5 (codes "a")) (at 6) (plain (branch (at 8) (at 11) (var 12 (codes "b")) (at 13) (skips 15) (else_then None (at 20) (returns 25)))) no_else)) None)
-unfolding readers
+unfolding readers_in
 inner = refl
 
 -- if (a) if (b) skip; else return; else skip: the second one belongs to the outer `if`
 outer : IsRead (last_statement
     (plain (branch (at 1) (at 4) (var 5 (codes "a")) (at 6) (plain (branch (at 8) (at 11) (var 12 (codes "b")) (at 13) (skips 15) (else_then (Some (at 19)) (at 20) (returns 25)))) (else_then (Some (at 31)) (at 33) (skips 38)))) None)
-unfolding readers
+unfolding readers_in
 outer = refl
 
 -- A:+ B: m(); C:- while (a) with (u \in y, v = y;) goto L; D: { skip; }; x[1].f := y || z := y;
@@ -84,26 +84,26 @@ nested = more_statements (labelled (part.label (spelled.named (at 1) (codes "A")
     (at 79) (var 82 (codes "y")) (at 84) (part.last_assignment (var 87 (codes "z")) (at 89) (var 92 (codes "y"))))))) (Some (at 93)))))
 
 nested_read : IsRead nested
-unfolding readers
+unfolding readers_in
 nested_read = refl
 
 -- either skip; or { return } or while (a) skip;: a `;` may stand before an `or`, and at the end
 either_read : IsRead (last_statement
     (plain (either (at 1) (skips 8) (more_branches (Some (at 12)) (at 14) (plain (compound (at 17) (last_statement (returns 19) None) (at 26))) (last_branch None (at 28) (plain (while (at 31) (at 37) (var 38 (codes "a")) (at 39) (skips 41)))))))
     (Some (at 45)))
-unfolding readers
+unfolding readers_in
 either_read = refl
 
 -- after a `}` the `;` may be left out, also where it ends an `if`: if (a) { skip } { skip } skip
 undivided : IsRead (more_statements (plain (branch (at 1) (at 4) (var 5 (codes "a")) (at 6) (plain (compound (at 8) (last_statement (skips 10) None) (at 15))) no_else)) None
     (more_statements (plain (compound (at 17) (last_statement (skips 19) None) (at 24))) None (last_statement (skips 26) None)))
-unfolding readers
+unfolding readers_in
 undivided = refl
 
 -- either if (a) either skip or skip else skip or skip: the inner one ends at the `else`, so the last `or` belongs to the outer one
 passed_on : IsRead (last_statement
     (plain (either (at 1) (plain (branch (at 8) (at 11) (var 12 (codes "a")) (at 13) (plain (either (at 15) (skips 22) (last_branch None (at 27) (skips 30)))) (else_then None (at 35) (skips 40)))) (last_branch None (at 45) (skips 48)))) None)
-unfolding readers
+unfolding readers_in
 passed_on = refl
 
 -- ---- refused at the first of the others, or at the end where there are none
@@ -119,12 +119,12 @@ either_either = refl
 
 -- either A: while (a) either: also after labels and `while`
 either_in_while : IsRefusedAfter (key 1 (codes "either") ∷ word 8 (codes "A") ∷ mark 9 tk.colon ∷ key 11 (codes "while") ∷ mark 12 tk.open_bracket ∷ word 13 (codes "a") ∷ mark 14 tk.close_bracket ∷ []) (key 16 (codes "either") ∷ [])
-unfolding readers
+unfolding readers_in
 either_in_while = refl
 
 -- either if (a) either skip or skip }: an `else` has to come
 else_owed : IsRefusedAfter (key 1 (codes "either") ∷ (test 1 ++ key 8 (codes "either") ∷ key 9 (codes "skip") ∷ key 10 (codes "or") ∷ key 11 (codes "skip") ∷ [])) (mark 20 tk.close_brace ∷ [])
-unfolding readers
+unfolding readers_in
 else_owed = refl
 
 -- either skip }, either skip; skip: a branch is missing
@@ -144,7 +144,7 @@ no_semicolon = refl
 
 -- if (a) { skip } else skip skip
 after_else : IsRefusedAfter (test 1 ++ mark 8 tk.open_brace ∷ key 9 (codes "skip") ∷ mark 10 tk.close_brace ∷ key 11 (codes "else") ∷ key 12 (codes "skip") ∷ []) (key 13 (codes "skip") ∷ [])
-unfolding readers
+unfolding readers_in
 after_else = refl
 
 -- an `else` and an `or` that nothing takes, also in a block: if (a) { skip else
@@ -155,7 +155,7 @@ no_either : IsRefusedAfter (key 1 (codes "skip") ∷ mark 5 tk.semicolon ∷ [])
 no_either = refl
 
 in_a_block : IsRefusedAfter (test 1 ++ mark 8 tk.open_brace ∷ key 9 (codes "skip") ∷ []) (key 14 (codes "else") ∷ [])
-unfolding readers
+unfolding readers_in
 in_a_block = refl
 
 -- nothing in a list, in braces and after a label
@@ -174,7 +174,7 @@ no_bracket = refl
 
 -- words of the other syntax
 a_then : IsRefusedAfter (test 1) (key 8 (codes "then") ∷ [])
-unfolding readers
+unfolding readers_in
 a_then = refl
 
 an_end : IsRefusedAfter (key 1 (codes "skip") ∷ mark 5 tk.semicolon ∷ []) (key 7 (codes "end") ∷ [])

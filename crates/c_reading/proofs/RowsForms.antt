@@ -8,7 +8,7 @@ use Rattle.tla_tree.specs.Lexical.{Mark, Token, token}
 use Rattle.tla_tree.specs.Lexical as tk
 use Rattle.tla_tree.specs.Spelling.{Phrase}
 use Rattle.tla_tree.specs.Spelling as spelled
-use Rattle.tla_tree.specs.Reader.{readers}
+use Rattle.tla_tree.specs.Reader.{readers, readers_in}
 use Rattle.pcal_tree.specs.GrammarParts as part
 use Rattle.pcal_tree.specs.GrammarC.{labelled, Sequence, simple, last_statement}
 use Rattle.pcal_tree.specs.Grammar.{Text, spell}
@@ -60,7 +60,7 @@ large = record {
 }
 
 large_read : read_algorithm (spell large []) ≡ Ok (large, [])
-unfolding readers
+unfolding readers_in
 large_read = refl
 
 -- one body
@@ -77,7 +77,7 @@ small = record {
 }
 
 small_read : read_algorithm (spell small []) ≡ Ok (small, [])
-unfolding readers
+unfolding readers_in
 small_read = refl
 
 -- ---- refused at the first of the others, or at the end where there are none
@@ -95,7 +95,7 @@ IsRefusedAfter passed others = read_algorithm (passed ++ others) ≡ Err (Syntax
 
 -- a token after it
 after_it : IsRefusedAfter (spell small []) (mark tk.semicolon ∷ [])
-unfolding readers
+unfolding readers_in
 after_it = refl
 
 no_algorithm : IsRefusedAfter [] []
@@ -116,7 +116,7 @@ a_begin = refl
 
 -- the parts have their order
 late_macro : IsRefusedAfter (inside ++ key (codes "procedure") ∷ word (codes "P") ∷ mark tk.open_bracket ∷ mark tk.close_bracket ∷ mark tk.open_brace ∷ key (codes "return") ∷ mark tk.close_brace ∷ []) (key (codes "macro") ∷ [])
-unfolding readers
+unfolding readers_in
 late_macro = refl
 
 -- define has braces
@@ -131,16 +131,16 @@ no_body : IsRefusedAfter inside (mark tk.close_brace ∷ [])
 no_body = refl
 
 empty_body : IsRefusedAfter (inside ++ mark tk.open_brace ∷ []) (mark tk.close_brace ∷ [])
-unfolding readers
+unfolding readers_in
 empty_body = refl
 
 -- after its body comes the last brace: no other body, and no end
 two_bodies : IsRefusedAfter (inside ++ mark tk.open_brace ∷ key (codes "skip") ∷ mark tk.close_brace ∷ []) (mark tk.open_brace ∷ [])
-unfolding readers
+unfolding readers_in
 two_bodies = refl
 
 not_closed : IsRefusedAfter (inside ++ mark tk.open_brace ∷ key (codes "skip") ∷ mark tk.close_brace ∷ mark tk.semicolon ∷ []) []
-unfolding readers
+unfolding readers_in
 not_closed = refl
 
 -- braces are around the parts

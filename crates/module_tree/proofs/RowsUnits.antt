@@ -7,7 +7,7 @@ use Rattle.tla_tree.specs.declared.op.Op.TheVariants.{Plus, Greater}
 use Rattle.tla_tree.specs.Tree.{Word, Name, number, name, strict, operator, if_then_else, Tree, node, no_trees, tree}
 use Rattle.tla_tree.specs.Lexical.{Token}
 use Rattle.tla_tree.specs.TokenViews.{views}
-use Rattle.tla_tree.specs.Reader.{readers}
+use Rattle.tla_tree.specs.Reader.{readers, readers_in}
 use Rattle.tla_value.specs.Outside.{Opaque, ReadDefinition, Outside}
 use Rattle.module_tree.specs.Module.{constants, defines, opaque, outside_of}
 use Rattle.module_tree.specs.TextFront.{Text}
@@ -36,17 +36,17 @@ abbrev one : ReadDefinition
 one = record { definition = record { title = codes "N"; params = codes "a" ∷ []; body = node (number 1) (at 1 9) no_trees; outside = true }; place = at 1 1 }
 
 defined : unit_read true around (seen (codes "N(a) == 1\n")) ≡ defines one
-unfolding readers
+unfolding readers_in
 defined = refl
 
 -- not after the translation
 late : unit_read false around (seen (codes "N(a) == 1\n")) ≡ opaque (passed (codes "N") 1)
-unfolding readers
+unfolding readers_in
 late = refl
 
 -- no value is told of C
 unknown : unit_read true around (seen (codes "N(a) == C\n")) ≡ opaque (passed (codes "N") 1)
-unfolding readers
+unfolding readers_in
 unknown = refl
 
 -- a comma without a name
@@ -75,7 +75,7 @@ is_outside = record {
 }
 
 outside : outside_read (walk text) ≡ is_outside
-unfolding readers
+unfolding readers_in
 outside = refl
 
 has : HasOutside (walk text) is_outside
@@ -111,7 +111,7 @@ has_largest = record {
 }
 
 largest_read : outside_read (walk largest) ≡ has_largest
-unfolding readers
+unfolding readers_in
 largest_read = refl
 
 reads_largest : HasOutside (walk largest) has_largest
@@ -122,16 +122,16 @@ abbrev in_first_column : Text
 in_first_column = codes "---- MODULE M ----\nEXTENDS Integers\n, Sequences\nCONSTANT C\n,\nS\nA ==\n1\nB ==\nIF TRUE THEN 1 ELSE 2\nD ==\n{1}\nE ==\n(1)\nF ==\n<<1>>\nG ==\n- 1\nH == 1\n+ 2\nI(x\n, y\n)\n== x\n====\n"
 
 first_column_read : titles_in in_first_column ≡ codes "A" ∷ codes "B" ∷ codes "D" ∷ codes "E" ∷ codes "F" ∷ codes "G" ∷ codes "H" ∷ codes "I" ∷ []
-unfolding readers
+unfolding readers_in
 first_column_read = refl
 
 first_column_modules : (outside_read (walk in_first_column)).extended ≡ codes "Integers" ∷ codes "Sequences" ∷ []
-unfolding readers
+unfolding readers_in
 first_column_modules = refl
 
 -- a name in column 1 is a unit of its own, so the constants before it end in a comma and aren't read
 first_column_passed : map (λ o. o.names) (outside_read (walk in_first_column)).opaque ≡ (codes "C" ∷ []) ∷ (codes "S" ∷ []) ∷ []
-unfolding readers
+unfolding readers_in
 first_column_passed = refl
 
 -- ---- a definition that has a constant's name isn't read, whichever of both comes first
@@ -143,19 +143,19 @@ abbrev constant_later : Text
 constant_later = codes "---- MODULE M ----\nN(a) == a\nK == 1\nCONSTANT N\n====\n"
 
 constant_first_read : titles_in constant_first ≡ codes "K" ∷ []
-unfolding readers
+unfolding readers_in
 constant_first_read = refl
 
 constant_first_passed : (outside_read (walk constant_first)).opaque ≡ passed (codes "N") 3 ∷ []
-unfolding readers
+unfolding readers_in
 constant_first_passed = refl
 
 constant_later_read : titles_in constant_later ≡ codes "K" ∷ []
-unfolding readers
+unfolding readers_in
 constant_later_read = refl
 
 constant_later_passed : (outside_read (walk constant_later)).opaque ≡ passed (codes "N") 2 ∷ []
-unfolding readers
+unfolding readers_in
 constant_later_passed = refl
 
 -- ---- in other lines

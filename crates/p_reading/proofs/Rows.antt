@@ -8,7 +8,7 @@ use Rattle.tla_tree.specs.Lexical.{Mark, Token, token}
 use Rattle.tla_tree.specs.Lexical as tk
 use Rattle.tla_tree.specs.Spelling.{Phrase}
 use Rattle.tla_tree.specs.Spelling as spelled
-use Rattle.tla_tree.specs.Reader.{Out, readers}
+use Rattle.tla_tree.specs.Reader.{Out, readers, readers_in}
 use Rattle.pcal_tree.specs.GrammarParts as part
 use Rattle.pcal_tree.specs.GrammarP.{Sequence, sequence, simple, branch, either, with, while, else_then, else_if, last_branch, more_branches, last_statement, more_statements}
 use Rattle.pcal_tree.specs.Grammar.{Text, spell}
@@ -50,7 +50,7 @@ tests = last_statement part.no_labels
     (Some (at 53))
 
 tests_read : read (sequence tests (key 55 (codes "end") ∷ [])) ≡ Ok (tests, key 55 (codes "end") ∷ [])
-unfolding readers
+unfolding readers_in
 tests_read = refl
 
 -- either skip; or A:+ B: m(); or x[1].f := y || z := y end either; while a do with u \in y, v = y; do goto L end with end while
@@ -69,7 +69,7 @@ nested = more_statements part.no_labels
     (at 98) (last_statement part.no_labels (simple (part.goto (at 101) (spelled.named (at 106) (codes "L")))) None) (at 108) (at 112)) None) (at 117) (at 121)) None)
 
 nested_read : read (sequence nested (key 127 (codes "end") ∷ [])) ≡ Ok (nested, key 127 (codes "end") ∷ [])
-unfolding readers
+unfolding readers_in
 nested_read = refl
 
 -- ---- refused lists: `either skip end either` at `end`, `skip ; ;` at the second `;`, `while a do skip else` at `else`, `if a then skip end while` at `while`, `A: end` at `end`
@@ -80,11 +80,11 @@ twice : read (key 1 (codes "skip") ∷ mark 5 tk.semicolon ∷ mark 6 tk.semicol
 twice = refl
 
 no_if : read (key 1 (codes "while") ∷ word 7 (codes "a") ∷ key 9 (codes "do") ∷ key 12 (codes "skip") ∷ key 17 (codes "else") ∷ []) ≡ Err (Syntax, key 17 (codes "else") ∷ [])
-unfolding readers
+unfolding readers_in
 no_if = refl
 
 other_end : read (key 1 (codes "if") ∷ word 4 (codes "a") ∷ key 6 (codes "then") ∷ key 11 (codes "skip") ∷ key 16 (codes "end") ∷ key 20 (codes "while") ∷ []) ≡ Err (Syntax, key 20 (codes "while") ∷ [])
-unfolding readers
+unfolding readers_in
 other_end = refl
 
 only_label : read (word 1 (codes "A") ∷ mark 2 tk.colon ∷ key 4 (codes "end") ∷ []) ≡ Err (Syntax, key 4 (codes "end") ∷ [])
@@ -126,7 +126,7 @@ large = record {
 }
 
 large_read : read_algorithm (spell large []) ≡ Ok (large, [])
-unfolding readers
+unfolding readers_in
 large_read = refl
 
 -- one body
@@ -143,10 +143,10 @@ small = record {
 }
 
 small_read : read_algorithm (spell small []) ≡ Ok (small, [])
-unfolding readers
+unfolding readers_in
 small_read = refl
 
 -- a token after it is refused
 after_it : read_algorithm (spell small (mark 20 tk.semicolon ∷ [])) ≡ Err (Syntax, mark 20 tk.semicolon ∷ [])
-unfolding readers
+unfolding readers_in
 after_it = refl

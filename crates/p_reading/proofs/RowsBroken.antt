@@ -7,7 +7,7 @@ use Rattle.tla_tree.specs.declared.op.Op.TheVariants as op
 use Rattle.tla_tree.specs.Tree.{Word}
 use Rattle.tla_tree.specs.Lexical.{Mark, Token, token}
 use Rattle.tla_tree.specs.Lexical as tk
-use Rattle.tla_tree.specs.Reader.{readers}
+use Rattle.tla_tree.specs.Reader.{readers, readers_in}
 use Rattle.p_reading.specs.ReadAlgorithm.{read_algorithm}
 
 abbrev at : Place
@@ -60,7 +60,7 @@ no_variable = refl
 
 -- variables x = begin
 no_value : IsRefusedAfter (head ++ key (codes "variables") ∷ word (codes "x") ∷ sign op.Equal ∷ []) (key (codes "begin") ∷ [])
-unfolding readers
+unfolding readers_in
 no_value = refl
 
 -- define end
@@ -69,7 +69,7 @@ no_definition = refl
 
 -- define T == x ;
 ends_definition : IsRefusedAfter (head ++ key (codes "define") ∷ word (codes "T") ∷ mark tk.defines ∷ word (codes "x") ∷ []) (mark tk.semicolon ∷ key (codes "end") ∷ [])
-unfolding readers
+unfolding readers_in
 ends_definition = refl
 
 -- macro M begin
@@ -98,7 +98,7 @@ no_identity = refl
 
 -- a procedure after a process
 late_procedure : IsRefusedAfter (head ++ key (codes "process") ∷ word (codes "P") ∷ sign op.Equal ∷ word (codes "x") ∷ key (codes "begin") ∷ key (codes "skip") ∷ key (codes "end") ∷ key (codes "process") ∷ mark tk.semicolon ∷ []) (key (codes "procedure") ∷ word (codes "Q") ∷ [])
-unfolding readers
+unfolding readers_in
 late_procedure = refl
 
 -- ---- in a body
@@ -115,11 +115,11 @@ two_statements : IsRefusedAfter (begun ++ key (codes "skip") ∷ []) (key (codes
 two_statements = refl
 
 no_then : IsRefusedAfter (a_test (codes "if")) (key (codes "skip") ∷ [])
-unfolding readers
+unfolding readers_in
 no_then = refl
 
 then_for_do : IsRefusedAfter (a_test (codes "while")) (key (codes "then") ∷ [])
-unfolding readers
+unfolding readers_in
 then_for_do = refl
 
 -- with x do
@@ -132,7 +132,7 @@ no_if = refl
 
 -- two times `else`
 two_elses : IsRefusedAfter (a_test (codes "if") ++ key (codes "then") ∷ key (codes "skip") ∷ key (codes "else") ∷ key (codes "skip") ∷ []) (key (codes "else") ∷ [])
-unfolding readers
+unfolding readers_in
 two_elses = refl
 
 goto_nothing : IsRefusedAfter (begun ++ key (codes "goto") ∷ []) (mark tk.semicolon ∷ [])
@@ -147,16 +147,16 @@ no_assignment = refl
 
 -- x[y := 1
 no_square : IsRefusedAfter (begun ++ word (codes "x") ∷ mark tk.open_square ∷ word (codes "y") ∷ []) (mark tk.assigns ∷ word (codes "z") ∷ [])
-unfolding readers
+unfolding readers_in
 no_square = refl
 
 -- x := y || begin
 nothing_beside : IsRefusedAfter (begun ++ word (codes "x") ∷ mark tk.assigns ∷ word (codes "y") ∷ mark tk.beside ∷ []) (key (codes "begin") ∷ [])
-unfolding readers
+unfolding readers_in
 nothing_beside = refl
 
 await_nothing : IsRefusedAfter (begun ++ key (codes "await") ∷ []) (mark tk.semicolon ∷ [])
-unfolding readers
+unfolding readers_in
 await_nothing = refl
 
 -- ---- at the end of the comment
@@ -171,5 +171,5 @@ ends_after_end : IsRefusedAfter (begun ++ key (codes "skip") ∷ key (codes "end
 ends_after_end = refl
 
 ends_in_expression : IsRefusedAfter (begun ++ key (codes "print") ∷ word (codes "x") ∷ sign op.Plus ∷ []) []
-unfolding readers
+unfolding readers_in
 ends_in_expression = refl

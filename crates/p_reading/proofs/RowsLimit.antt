@@ -8,7 +8,7 @@ use Rattle.tla_tree.specs.Tree.{Word}
 use Rattle.tla_tree.specs.Lexical.{Mark, Token, token}
 use Rattle.tla_tree.specs.Lexical as tk
 use Rattle.tla_tree.specs.Spelling as spelled
-use Rattle.tla_tree.specs.Reader.{readers}
+use Rattle.tla_tree.specs.Reader.{readers, readers_in}
 use Rattle.pcal_tree.specs.GrammarParts as part
 use Rattle.pcal_tree.specs.GrammarP.{simple, branch, no_else, last_statement}
 use Rattle.pcal_tree.specs.Grammar.{Text, spell}
@@ -47,7 +47,7 @@ small = record {
 }
 
 small_read : read_limited_algorithm (spell small []) ≡ Ok (small, [])
-unfolding readers
+unfolding readers_in
 small_read = refl
 
 -- so many times `either`
@@ -82,12 +82,12 @@ no_bind : read_limited_algorithm (begun 100 (key (codes "with") ∷ key (codes "
 no_bind = refl
 
 second_bind : read_limited_algorithm (begun 99 (key (codes "with") ∷ word (codes "x") ∷ token at (tk.sign op.Equal) ∷ word (codes "y") ∷ token at (tk.mark tk.comma) ∷ word (codes "z") ∷ [])) ≡ Err (TooDeep, word (codes "z") ∷ [])
-unfolding readers
+unfolding readers_in
 second_bind = refl
 
 -- an `elsif` is a form inside its `if`
 one_elsif_more : read_limited_algorithm (begun 99 (key (codes "if") ∷ word (codes "x") ∷ key (codes "then") ∷ key (codes "skip") ∷ key (codes "elsif") ∷ [])) ≡ Err (TooDeep, key (codes "elsif") ∷ [])
-unfolding readers
+unfolding readers_in
 one_elsif_more = refl
 
 -- if x then .. elsif x then either .. with y = x, z \in x do ..

@@ -7,7 +7,7 @@ use Rattle.tla_tree.specs.declared.op.Op.TheVariants as op
 use Rattle.tla_tree.specs.Tree.{Word}
 use Rattle.tla_tree.specs.Lexical.{Mark, Token, token}
 use Rattle.tla_tree.specs.Lexical as tk
-use Rattle.tla_tree.specs.Reader.{readers}
+use Rattle.tla_tree.specs.Reader.{readers, readers_in}
 use Rattle.tla_tree.specs.Wanted.{mark_at, number_at}
 use Rattle.tla_tree.specs.NeedsLists.{needs}
 use Rattle.pcal_tree.specs.GrammarParts as part
@@ -62,7 +62,7 @@ in_list ts = completion (head ++ key (codes "begin") ∷ ts)
 -- `if x > ( 1`: the bracket, the word after the test, a list, and the end of the `if`
 in_test : in_list (key (codes "if") ∷ word (codes "x") ∷ sign op.Greater ∷ mark tk.open_bracket ∷ token at (tk.number 1) ∷ [])
     ≡ mark_at 0 tk.close_bracket ∷ keys (codes "then" ∷ codes "skip" ∷ codes "end" ∷ codes "if" ∷ codes "end" ∷ codes "algorithm" ∷ [])
-unfolding readers needs
+unfolding readers_in needs
 in_test = refl
 
 -- `with x`
@@ -72,7 +72,7 @@ in_with = refl
 -- `while x do either skip ;`: the first branch wants another one
 in_branch : in_list (key (codes "while") ∷ word (codes "x") ∷ key (codes "do") ∷ key (codes "either") ∷ key (codes "skip") ∷ mark tk.semicolon ∷ [])
     ≡ keys (codes "or" ∷ codes "skip" ∷ codes "end" ∷ codes "either" ∷ codes "end" ∷ codes "while" ∷ codes "end" ∷ codes "algorithm" ∷ [])
-unfolding readers
+unfolding readers_in
 in_branch = refl
 
 -- `a :`: a statement
@@ -81,17 +81,17 @@ at_label = refl
 
 -- `if x then skip end`: the word of what ends
 at_end : in_list (key (codes "if") ∷ word (codes "x") ∷ key (codes "then") ∷ key (codes "skip") ∷ key (codes "end") ∷ []) ≡ keys (codes "if" ∷ codes "end" ∷ codes "algorithm" ∷ [])
-unfolding readers
+unfolding readers_in
 at_end = refl
 
 -- `skip ;`: the list may end
 at_divider : in_list (key (codes "skip") ∷ mark tk.semicolon ∷ []) ≡ keys (codes "end" ∷ codes "algorithm" ∷ [])
-unfolding readers
+unfolding readers_in
 at_divider = refl
 
 -- `x := 1 || y`: what is assigned beside
 in_assignment : in_list (word (codes "x") ∷ mark tk.assigns ∷ token at (tk.number 1) ∷ mark tk.beside ∷ word (codes "y") ∷ []) ≡ part.mark nowhere tk.assigns (number_at 0 ∷ keys (codes "end" ∷ codes "algorithm" ∷ []))
-unfolding readers needs
+unfolding readers_in needs
 in_assignment = refl
 
 -- `call P`: its brackets
@@ -101,5 +101,5 @@ in_call = refl
 -- `if x then skip elsif`: a test
 in_elsif : in_list (key (codes "if") ∷ word (codes "x") ∷ key (codes "then") ∷ key (codes "skip") ∷ key (codes "elsif") ∷ [])
     ≡ number_at 0 ∷ keys (codes "then" ∷ codes "skip" ∷ codes "end" ∷ codes "if" ∷ codes "end" ∷ codes "algorithm" ∷ [])
-unfolding readers needs
+unfolding readers_in needs
 in_elsif = refl

@@ -9,7 +9,7 @@ use Rattle.tla_tree.specs.Lexical.{Token, token}
 use Rattle.tla_tree.specs.Lexical as tk
 use Rattle.tla_tree.specs.Spelling.{Phrase, tree_of}
 use Rattle.tla_tree.specs.Spelling as spelled
-use Rattle.tla_tree.specs.Reader.{Out, readers}
+use Rattle.tla_tree.specs.Reader.{Out, readers, readers_in}
 use Rattle.pcal_tree.specs.GrammarParts.{Simple, label, no_labels, colon, colon_minus, unset, equals, among, by_semicolon, by_comma, last_variable, variable, no_section, section, last_name, more_names, no_names, some_names, last_parameter, some_parameters, no_parameters, plain, last_definition, last_bind, no_arguments, some_arguments, last_assignment}
 use Rattle.pcal_tree.specs.GrammarParts as part
 use Rattle.pcal_tree.specs.GrammarP.{Sequence, sequence, simple, branch, with, no_else, last_statement, more_statements}
@@ -52,19 +52,19 @@ abbrev positive : Phrase
 positive = spelled.infix_of (var (codes "x")) at op.Greater (num 0)
 
 await_read : IsRead (alone (part.await at positive))
-unfolding readers
+unfolding readers_in
 await_read = refl
 
 when_read : IsRead (alone (part.when at positive))
-unfolding readers
+unfolding readers_in
 when_read = refl
 
 print_read : IsRead (alone (part.print at (spelled.tuple at (spelled.more (var (codes "x")) at (spelled.last (num 1))) at)))
-unfolding readers
+unfolding readers_in
 print_read = refl
 
 assert_read : IsRead (alone (part.assert at (spelled.prefix_of at op.Not positive)))
-unfolding readers
+unfolding readers_in
 assert_read = refl
 
 skip_read : IsRead (alone (part.skip at))
@@ -80,23 +80,23 @@ call_read : IsRead (alone (part.call at (n (codes "P")) (no_arguments at at)))
 call_read = refl
 
 macro_read : IsRead (alone (part.macro (n (codes "m")) (some_arguments at (spelled.more (num 0) at (spelled.last positive)) at)))
-unfolding readers
+unfolding readers_in
 macro_read = refl
 
 assign_read : IsRead (alone (part.assign (last_assignment (var (codes "x")) at (num 1))))
-unfolding readers
+unfolding readers_in
 assign_read = refl
 
 -- ---- labels, and statements in statements
 -- A:- if x > 0 then skip end if; B: await x > 0;
 labels_read : IsRead (more_statements (label (n (codes "A")) (colon_minus at at) no_labels) (branch at positive at (alone (part.skip at)) no_else at at) at
     (last_statement (label (n (codes "B")) (colon at) no_labels) (simple (part.await at positive)) (Some at)))
-unfolding readers
+unfolding readers_in
 labels_read = refl
 
 -- with y \in S do print y end with
 with_read : IsRead (last_statement no_labels (with at (last_bind (n (codes "y")) true at (var (codes "S")) None) at (alone (part.print at (var (codes "y")))) at at) None)
-unfolding readers
+unfolding readers_in
 with_read = refl
 
 -- ---- algorithms
@@ -125,7 +125,7 @@ routines = record {
 }
 
 routines_read : read_algorithm (spell routines []) ≡ Ok (routines, [])
-unfolding readers
+unfolding readers_in
 routines_read = refl
 
 -- ---- which process it is, in memory and as it is spelled: P \in 3

@@ -7,7 +7,7 @@ use Rattle.tla_token.specs.Tokens.{Token}
 use Rattle.tla_tree.specs.declared.op.Op.TheVariants as op
 use Rattle.tla_tree.specs.Spelling.{Phrase}
 use Rattle.tla_tree.specs.Spelling as spelled
-use Rattle.tla_tree.specs.Reader.{readers}
+use Rattle.tla_tree.specs.Reader.{readers, readers_in}
 use Rattle.tla_tree.specs.FirstStop.{to_end, Begins, Passes}
 use Rattle.tla_tree.proofs.StopLaws.{passes_begins}
 use Rattle.pcal_tree.specs.AlgorithmTokens.{views}
@@ -95,7 +95,7 @@ up_to_then_passes : Passes (algorithms p_syntax) (take 18 (to_end (views no_then
 up_to_then_passes = (drop 18 (to_end (text.spell up_to_then [])), opens up_to_then, (up_to_then, search, refl, refl), refl)
 
 no_such_if : Begins (algorithms p_syntax) (take 19 (to_end (views no_then))) → ⊥
-unfolding readers
+unfolding readers_in
 no_such_if b = no_expression_begins 20 (take 19 (views no_then)) (drop 15 (take 19 (views no_then))) (λ more so. so.0) (λ m more. refl) b
 
 no_then_refused : RefusesTokens p_syntax no_then (at 10 1) (record { rule = Syntax; place = at 7 15 })
@@ -120,7 +120,7 @@ up_to_bullet_passes : Passes (algorithms p_syntax) (take 23 (to_end (views slant
 up_to_bullet_passes = (drop 23 (to_end (text.spell up_to_bullet [])), opens up_to_bullet, (up_to_bullet, search, refl, refl), refl)
 
 no_such_list : Begins (algorithms p_syntax) (take 24 (to_end (views slanted))) → ⊥
-unfolding readers
+unfolding readers_in
 no_such_list b = no_expression_begins 20 (take 24 (views slanted)) (drop 15 (take 24 (views slanted))) (λ more so. so.0) (λ m more. refl) b
 
 slanted_refused : RefusesTokens p_syntax slanted (at 10 1) (record { rule = Syntax; place = at 8 13 })

@@ -46,7 +46,7 @@ module _ {b : ℕ} where
   one_title e w = one_token e (place_if (is_title w))
 
   phrase : (e : ℕ) → IsFair b (read e) (read e)
-  phrase e = record { less = λ ts. ((fair_same (4 * length ts) None).expr e free).less ts; same = λ ts m. refl }
+  phrase e = record { less = λ ts. ((fair_same true (4 * length ts) None).expr e free).less ts; same = λ ts m. refl }
 
   operand : (e : ℕ) → IsFair b (an_operand e) (an_operand e)
   operand e = fair_bind (phrase e) (λ a. by (is_primary (head a)) a)

@@ -6,7 +6,7 @@ use Rattle.tla_token.specs.Cut.{tokens}
 use Rattle.tla_tree.specs.Tree.{Word, Tree, name, node, no_trees}
 use Rattle.tla_tree.specs.Lexical.{Token}
 use Rattle.tla_tree.specs.TokenViews.{views}
-use Rattle.tla_tree.specs.Reader.{readers}
+use Rattle.tla_tree.specs.Reader.{readers, readers_in}
 use Rattle.module_tree.specs.Module.{test, setting, unchanged, exists, local, if_then_else, either, no_items, item, no_branches, branch, call, call_with, one_way, some_way, Body, all_of, some_of, Fairness, Way, Region, Module, RegionUnit, constant_unit, variables_unit, definition_unit, vars_unit, process_set_unit, init_unit, action_unit, terminating_unit, next_unit, spec_unit, termination_unit, units_of}
 use Rattle.module_tree.specs.Grammar.{last_name, more_names}
 use Rattle.region_reading.specs.NameReader.{names_in, parameters_in}
@@ -42,7 +42,7 @@ left : unit_in (seen (codes "VARIABLES x,\ny")) ≡ None
 left = refl
 
 definition : unit_in (seen (codes "N(a, b) == a")) ≡ Some (definition_unit (record { title = codes "N"; params = codes "a" ∷ codes "b" ∷ []; body = name_at 1 12 (codes "a"); outside = false }))
-unfolding readers
+unfolding readers_in
 definition = refl
 
 -- a title of a translation's own defines nothing else
@@ -53,16 +53,16 @@ vars : unit_in (seen (codes "vars == <<x, y>>")) ≡ Some (vars_unit (codes "x" 
 vars = refl
 
 process_set : unit_in (seen (codes "ProcSet == S")) ≡ Some (process_set_unit (name_at 1 12 (codes "S")))
-unfolding readers
+unfolding readers_in
 process_set = refl
 
 init : unit_in (seen (codes "Init ==\n  /\\ x\n  /\\ y")) ≡ Some (init_unit (name_at 2 6 (codes "x") ∷ name_at 3 6 (codes "y") ∷ []))
-unfolding readers
+unfolding readers_in
 init = refl
 
 -- a bullet left of the first one is in no list
 two_columns : unit_in (seen (codes "Init ==\n   /\\ x\n  /\\ y")) ≡ None
-unfolding readers
+unfolding readers_in
 two_columns = refl
 
 abbrev step : Body → RegionUnit
@@ -70,12 +70,12 @@ step b = action_unit (record { title = codes "A"; parameter = None; body = b })
 
 setting_and_unchanged : unit_in (seen (codes "A ==\n  /\\ (x)\n  /\\ x' = (y)\n  /\\ UNCHANGED <<y, z>>"))
     ≡ Some (step (all_of (item (test (name_at 2 7 (codes "x"))) (item (setting (codes "x") (name_at 3 12 (codes "y"))) (item (unchanged (codes "y" ∷ codes "z" ∷ [])) no_items)))))
-unfolding readers item_readers
+unfolding readers_in item_readers
 setting_and_unchanged = refl
 
 -- what is set needs no brackets as an operand
 unbracketed : unit_in (seen (codes "A ==\n  /\\ x' = y + z")) ≡ None
-unfolding readers item_readers
+unfolding readers_in item_readers
 unbracketed = refl
 
 -- lists within items go by their columns
@@ -86,32 +86,32 @@ within : unit_in (seen (codes "A(self) ==\n  /\\ IF (x) THEN\n    /\\ (y)\n    E
       body = all_of (item (if_then_else (name_at 2 10 (codes "x")) (item (test (name_at 3 9 (codes "y"))) no_items) (item (test (name_at 5 9 (codes "z"))) no_items))
           (item (either (branch (item (test (name_at 7 12 (codes "x"))) no_items) (branch (item (test (name_at 8 12 (codes "y"))) no_items) no_branches))) no_items));
     }))
-unfolding readers item_readers
+unfolding readers_in item_readers
 within = refl
 
 bound : unit_in (seen (codes "A ==\n  /\\ \\E x \\in S :\n    /\\ LET y == x IN\n      /\\ (y)"))
     ≡ Some (step (all_of (item (exists (codes "x") (name_at 2 15 (codes "S")) (item (local (codes "y") (name_at 3 17 (codes "x")) (item (test (name_at 4 11 (codes "y"))) no_items)) no_items)) no_items)))
-unfolding readers item_readers
+unfolding readers_in item_readers
 bound = refl
 
 calls : unit_in (seen (codes "A ==\n  \\/ B\n  \\/ C(x)")) ≡ Some (step (some_of (one_way (call (codes "B")) ∷ one_way (call_with (codes "C") (name_at 3 8 (codes "x"))) ∷ [])))
-unfolding readers
+unfolding readers_in
 calls = refl
 
 terminating : unit_in (seen (codes "Terminating ==\n  /\\ (x)\n  /\\ UNCHANGED vars")) ≡ Some (terminating_unit (name_at 2 7 (codes "x")))
-unfolding readers
+unfolding readers_in
 terminating = refl
 
 next : unit_in (seen (codes "Next ==\n  \\/ \\E self \\in S : P(self)\n  \\/ Terminating"))
     ≡ Some (next_unit (some_way (codes "self") (name_at 2 18 (codes "S")) (call_with (codes "P") (name_at 2 24 (codes "self"))) ∷ one_way (call (codes "Terminating")) ∷ []))
-unfolding readers
+unfolding readers_in
 next = refl
 
 abbrev fair : Fairness
 fair = record { over = Some (codes "self", name_at 4 18 (codes "S")); strong = false; guard = Some (name_at 4 31 (codes "x")); action = call_with (codes "P") (name_at 4 39 (codes "self")) }
 
 spec : unit_in (seen (codes "Spec ==\n  /\\ Init\n  /\\ [][Next]_vars\n  /\\ \\A self \\in S : WF_vars((x) /\\ P(self))")) ≡ Some (spec_unit (fair ∷ []))
-unfolding readers
+unfolding readers_in
 spec = refl
 
 -- the first two conjuncts of Spec are always there
@@ -119,7 +119,7 @@ no_steps : unit_in (seen (codes "Spec ==\n  /\\ Init\n  /\\ Init")) ≡ None
 no_steps = refl
 
 termination : unit_in (seen (codes "Termination == <>(x)")) ≡ Some (termination_unit (name_at 1 19 (codes "x")))
-unfolding readers
+unfolding readers_in
 termination = refl
 
 -- ---- translations
@@ -150,7 +150,7 @@ abbrev parts : Module → Word × List Word × List Way
 parts m = (m.title, m.region.vars, m.region.next)
 
 reads : option_map parts (module_in text) ≡ Some (codes "M", codes "x" ∷ [], one_way (call (codes "A")) ∷ [])
-unfolding readers item_readers
+unfolding readers_in item_readers
 reads = refl
 
 -- no module without a translation

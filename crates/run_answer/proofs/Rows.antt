@@ -5,7 +5,7 @@ use Rattle.tla_token.specs.declared.place.Place.{Place}
 use Rattle.tla_token.specs.declared.rule.Refusal.{Refusal}
 use Rattle.tla_token.specs.declared.rule.Rule.{Rule}
 use Rattle.tla_token.specs.declared.rule.Rule.TheVariants.{NoModule, BadLine}
-use Rattle.tla_tree.specs.Reader.{readers}
+use Rattle.tla_tree.specs.Reader.{readers, readers_in}
 use Rattle.tla_tree.specs.Tree.{Word, words}
 use Rattle.tla_value.specs.declared.fault.FaultKind.TheVariants.{BadDivisor}
 use Rattle.tla_value.specs.Outside.{Outside}
@@ -93,7 +93,7 @@ abbrev its_constants : List Word
 its_constants = codes "Most" ∷ []
 
 has_most : words (outside_read (walk counting_file)).constants ≡ its_constants
-unfolding readers
+unfolding readers_in
 has_most = refl
 
 most_outside : (forced : Bool) → words (right forced).outside.constants ≡ its_constants

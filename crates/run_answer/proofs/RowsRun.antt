@@ -2,7 +2,7 @@
 use Rattle.std.proofs.Common.{◌≡◌, ◌<◌, pos, true, false, [], ◌∷◌, length, codes, Some, None, refl, subst, arith}
 use Rattle.std.specs.Fmt.{digits}
 use Rattle.tla_token.specs.Limits.{past_text}
-use Rattle.tla_tree.specs.Reader.{readers}
+use Rattle.tla_tree.specs.Reader.{readers, readers_in}
 use Rattle.tla_tree.specs.Spelling.{last, more, set_of}
 use Rattle.tla_value.specs.Outside.{Outside}
 use Rattle.tla_value.specs.States.{Entries}
@@ -83,7 +83,7 @@ is_spelled = record {
 }
 
 outside : outside_read (walk source) ≡ with_n
-unfolding readers
+unfolding readers_in
 outside = refl
 
 has : HasOutside (walk source) with_n

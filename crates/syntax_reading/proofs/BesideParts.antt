@@ -93,18 +93,18 @@ unlimited_parts e = parts_of (readers e None)
 
 pub beside_expr : (e d : ℕ) (x : List Open) → Sits d x → Beside x (λ a. x ++ expression_opens d a) (limited_parts e).expr (unlimited_parts e).expr
 beside_expr e d x s =
-    beside_counts d x s (counts 0) (counted.ahead_counts 0) (λ ts. (limited deepest_expression e 0 deepest_expression (omega arith)).expr 0 free refl (λ u. u) held ts)
+    beside_counts d x s (counts 0) (counted.ahead_counts 0) (λ ts. (limited true deepest_expression e 0 deepest_expression (omega arith)).expr 0 free refl (λ u. u) held ts)
     (λ ts a us i. (let w = (parts_sound e).expr.is ts a us i in let c = ap length w.1 in let n = count_one 0 a [] us in omega (arith, c, n)))
 
 pub beside_arguments : (e d : ℕ) (x : List Open) → Sits d x → Beside x (λ a. x ++ within d (counts_all 0 a [])) (limited_parts e).arguments (unlimited_parts e).arguments
 beside_arguments e d x s =
-    beside_counts d x s (counts_all 0) (counted.ahead_all 0) (λ ts. (limited deepest_expression e 0 deepest_expression (omega arith)).phrases 0 (λ u. u) held ts)
+    beside_counts d x s (counts_all 0) (counted.ahead_all 0) (λ ts. (limited true deepest_expression e 0 deepest_expression (omega arith)).phrases 0 (λ u. u) held ts)
     (λ ts a us i. (let w = (parts_sound e).arguments.is ts a us i in let c = ap length w.1 in let n = count_all 0 a [] us in omega (arith, c, n)))
 
 -- inside the brackets of a left side
 pub beside_subscripts : (e d : ℕ) (x : List Open) → Sits d x → Beside x (λ a. x ++ within d (counts_all 1 a [])) (limited_parts e).subscripts (unlimited_parts e).subscripts
 beside_subscripts e d x s =
-    beside_counts d x s (counts_all 1) (counted.ahead_all 1) (λ ts. (limited deepest_expression e 1 199 refl).phrases 0 (λ u. u) held ts)
+    beside_counts d x s (counts_all 1) (counted.ahead_all 1) (λ ts. (limited true deepest_expression e 1 199 refl).phrases 0 (λ u. u) held ts)
     (λ ts a us i. (let w = (parts_sound e).subscripts.is ts a us i in let c = ap length w.1 in let n = count_all 1 a [] us in omega (arith, c, n)))
 
 -- ---- `;` and `,`

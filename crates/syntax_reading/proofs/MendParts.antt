@@ -116,7 +116,7 @@ parts_mend n =
         ahead = λ a u. ahead a;
         mends = record {
           fill = phrase_fill d;
-          is = λ ts u e. (let m = (mended 0 n 0).expr 0 free refl ts u e in cut_mends d 0 counts IsGood spell ((needs n).expr 0 free ts) m.whole m.good.0 (rule_beside ((unlimited 0 n 0).expr 0 free refl (λ s. s) held ts) e) m.read m.fix m.parts m.tokens (m.given refl) (m.few 0));
+          is = λ ts u e. (let m = (mended 0 n 0).expr 0 free refl ts u e in cut_mends d 0 counts IsGood spell ((needs n).expr 0 free ts) m.whole m.good.0 (rule_beside ((unlimited true 0 n 0).expr 0 free refl (λ s. s) held ts) e) m.read m.fix m.parts m.tokens (m.given refl) (m.few 0));
         };
       };
       arguments = λ d. record { sound = s.arguments; ahead = λ a u. ahead_all a; mends = record { fill = phrases_fill d 0; is = λ ts u e. row_mends d 0 ts u e } };
@@ -124,7 +124,7 @@ parts_mend n =
     }
   where
     row_mends : (d base : ℕ) (ts : List Token) (u : Stop) → (readers n None).phrases 0 ts ≡ Err u → Mend (GoodAll 0) spell_all (λ xs. within d (counts_all base xs [])) none d 1 (completing ((needs n).phrases 0 ts)) ts u
-    row_mends d base ts u e = (let m = (mended 0 n 0).phrases 0 ts u e in cut_mends d base counts_all (GoodAll 0) spell_all ((needs n).phrases 0 ts) m.whole m.good (rule_beside ((unlimited 0 n 0).phrases 0 (λ s. s) held ts) e) m.read m.fix m.parts m.tokens (m.given refl) (m.few base))
+    row_mends d base ts u e = (let m = (mended 0 n 0).phrases 0 ts u e in cut_mends d base counts_all (GoodAll 0) spell_all ((needs n).phrases 0 ts) m.whole m.good (rule_beside ((unlimited true 0 n 0).phrases 0 (λ s. s) held ts) e) m.read m.fix m.parts m.tokens (m.given refl) (m.few base))
 
 -- ---- `;` and `,`
 by_semicolon_mends : (d : ℕ) (p : Place) (k : TokenView) → MendsAt p k here [] Any maybe_semicolon (λ s. form.plain d (maybe_semicolon s)) none d 0 (all_of []) (semicolon_by p k)

@@ -8,7 +8,7 @@ use Rattle.tla_tree.specs.Tree.{Word}
 use Rattle.tla_tree.specs.Lexical.{Mark, Token, token}
 use Rattle.tla_tree.specs.Lexical as tk
 use Rattle.tla_tree.specs.Spelling as spelled
-use Rattle.tla_tree.specs.Reader.{readers}
+use Rattle.tla_tree.specs.Reader.{readers, readers_in}
 use Rattle.pcal_tree.specs.GrammarParts.{last_variable, variable, unset, among, by_comma, last_assignment}
 use Rattle.syntax_reading.specs.TokenReaders.{Parts, parts_of}
 use Rattle.syntax_reading.specs.ReadParts.{read_variables, read_parameters}
@@ -35,12 +35,12 @@ end = token (at 30) (tk.reserved (codes "begin")) ∷ []
 -- x \in S, y
 two : read_variables true parts 9 (word 1 (codes "x") ∷ sign 3 op.In ∷ word 7 (codes "S") ∷ mark 8 tk.comma ∷ word 10 (codes "y") ∷ end)
     ≡ Ok (variable (spelled.named (at 1) (codes "x")) (among (at 3) (spelled.name (at 7) (codes "S"))) (by_comma (at 8)) (last_variable (spelled.named (at 10) (codes "y")) unset None), end)
-unfolding readers
+unfolding readers_in
 two = refl
 
 -- of a procedure, `\in` stays, and so it is refused after the list
 no_in : read_variables false parts 9 (word 1 (codes "x") ∷ sign 3 op.In ∷ word 7 (codes "S") ∷ end) ≡ Ok (last_variable (spelled.named (at 1) (codes "x")) unset None, sign 3 op.In ∷ word 7 (codes "S") ∷ end)
-unfolding readers
+unfolding readers_in
 no_in = refl
 
 -- a parameter that is no name
@@ -50,9 +50,9 @@ no_name = refl
 -- x.f := y, after the name x; and `||` before a name that is not right of the edge
 one : read_assignments parts 9 (spelled.named (at 1) (codes "x")) (mark 2 tk.dot ∷ word 3 (codes "f") ∷ mark 5 tk.assigns ∷ word 8 (codes "y") ∷ end)
     ≡ Ok (last_assignment (spelled.select (spelled.name (at 1) (codes "x")) (at 2) (record { place = at 3; is_reserved = false; text = codes "f" })) (at 5) (spelled.name (at 8) (codes "y")), end)
-unfolding readers
+unfolding readers_in
 one = refl
 
 at_edge : read_assignments parts 9 (spelled.named (at 1) (codes "x")) (mark 3 tk.assigns ∷ word 6 (codes "y") ∷ mark 8 tk.beside ∷ word 0 (codes "z") ∷ end) ≡ Err (Syntax, word 0 (codes "z") ∷ end)
-unfolding readers
+unfolding readers_in
 at_edge = refl

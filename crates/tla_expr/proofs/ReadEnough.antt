@@ -8,7 +8,7 @@ use Rattle.tla_token.specs.declared.token.Token as code_token
 use Rattle.tla_tree.specs.Tree.{Tree}
 use Rattle.tla_tree.specs.Lexical.{Token}
 use Rattle.tla_tree.specs.Spelling.{Phrase, number, string, constant, name, primed, call, brackets, no_set, set_of, filter, image, no_tuple, tuple, fields, records, function, functions, except, apply, select, list, quantified, if_then_else, cases, local, infix_of, prefix_of, Phrases, last, more, last_bullet, bullet, spell, spell_all}
-use Rattle.tla_tree.specs.Reader.{Limit, Out, Context, free, readers}
+use Rattle.tla_tree.specs.Reader.{Limit, Out, Context, free, readers, readers_in}
 use Rattle.tla_tree.specs.Whole.{whole}
 use Rattle.tla_tree.proofs.Whole.{fair_whole}
 use Rattle.tla_tree.proofs.SoundLists.{sound}
@@ -26,13 +26,13 @@ use Rattle.tla_expr.specs.ReadTrees.{ReadsTree, ReadsTrees}
 -- ---- steps
 -- four for each token are enough
 pub expr_enough : (n : ℕ) (b : Limit) (e : ℕ) (c : Context) (ts : List Token) → 4 * length ts ≤ n → (readers n b).expr e c ts ≡ (whole b).expr e c ts
-unfolding readers
+unfolding readers_in
 expr_enough zero b e c [] h = refl
 expr_enough zero b e c (t ∷ ts) h = absurd (omega (arith, h))
 expr_enough (suc n) b e c ts h = ((fair_whole n b).expr e c).same ts (omega (arith, h))
 
 pub phrases_enough : (n : ℕ) (b : Limit) (e : ℕ) (ts : List Token) → 4 * length ts ≤ n → (readers n b).phrases e ts ≡ (whole b).phrases e ts
-unfolding readers
+unfolding readers_in
 phrases_enough zero b e [] h = refl
 phrases_enough zero b e (t ∷ ts) h = absurd (omega (arith, h))
 phrases_enough (suc n) b e ts h = ((fair_whole n b).phrases e).same ts (omega (arith, h))

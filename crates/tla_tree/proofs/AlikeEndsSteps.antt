@@ -11,7 +11,7 @@ use Rattle.tla_token.specs.declared.rule.Rule.{Rule}
 use Rattle.tla_tree.specs.Lexical.{Mark, Key, TokenView, Token, token}
 use Rattle.tla_tree.specs.Lexical as tk
 use Rattle.tla_tree.specs.Spelling.{Field, Phrase, call, apply, select, infix_of, last, more, Binds, bind, last_field, field, setting, Path, path_end, index, at_field, Bullets, last_bullet, bullet, last_arm, Locals, more_locals, can_be_head, is_some_path, takes_box, Good, spell}
-use Rattle.tla_tree.specs.Reader.{Stop, any, Out, Reader, then_read, ◌>>=◌, gives, next, peek, took, is_mark, is_key, is_sign, place_if, a_mark, a_key, a_sign, word_of, field_of, a_word, a_field, bullet_of, Context, free, right_of, under, behind, bound, is_free, prefix_by, goes_on, element, Readers, ended, named, from_name, set_rest, image_rest, brace_rest, set_from, member_rest, brace_name, braces, tuples, field_rest, function_rest, square_rest, square_from, bind_rest, square_member, plain_field, square_name, squares, list_if, primary, quantifier, choice_from, keyed, under_by, signed, operand, short_signed, short_by, apply_if, select_if, postfix_by, climb_if, climb_by, phrases_by, binds_by, fields_by, settings_by, setting_if, path_by, bullets_if, arms_other, arms_if, arms_by, locals_by, one_step, readers, read}
+use Rattle.tla_tree.specs.Reader.{Stop, any, Out, Reader, then_read, ◌>>=◌, gives, next, peek, took, is_mark, is_key, is_sign, place_if, a_mark, a_key, a_sign, word_of, field_of, a_word, a_field, bullet_of, Context, free, right_of, under, behind, bound, is_free, prefix_by, goes_on, element, Readers, ended, named, from_name, set_rest, image_rest, brace_rest, set_from, member_rest, brace_name, braces, tuples, field_rest, function_rest, square_rest, square_from, bind_rest, square_member, plain_field, square_name, squares, list_if, primary, quantifier, choice_from, keyed, under_by, signed, operand, short_signed, short_by, apply_if, select_if, postfix_by, climb_if, climb_by, phrases_by, binds_by, fields_by, settings_by, setting_if, path_by, bullets_if, arms_other, arms_if, arms_by, locals_by, one_step, readers, readers_in, read}
 use Rattle.tla_tree.proofs.Alike.{Within, IsFair, fair_gives, right_then}
 use Rattle.tla_tree.proofs.AlikeSteps.{AreFair, fair_readers}
 use Rattle.tla_tree.proofs.AlikeEnds.{GoesOn, Ends, less, ends_gives, ends_refuses, ends_skip, Settles, ends_peek, ends_bind, ends_take, Shut, shut_on, shut_then, shut_first}
@@ -44,7 +44,7 @@ pub record Shuts (r : Readers) : Type 0 where
   pub arms : (e : ℕ) → Shut (r.arms e)
 
 shuts : (n : ℕ) → Shuts (readers n None)
-unfolding readers
+unfolding readers_in
 shuts zero = record { expr = λ e c x o. absurd cc; phrases = λ e x o. absurd cc; arms = λ e x o. absurd cc }
 shuts (suc n) = record {
   expr = λ e c x o. absurd cc;
@@ -481,7 +481,7 @@ no_endings r q f = record {
 }
 
 endings : (b n m : ℕ) → b ≤ n → b ≤ m → AreEnding b (readers n None) (readers m None)
-unfolding readers
+unfolding readers_in
 endings zero n m i j = no_endings (readers n None) (readers m None) (fair_readers 0 n m i j None)
 endings (suc b) zero m i j = absurd (omega (arith, i))
 endings (suc b) (suc n) zero i j = absurd (omega (arith, j))

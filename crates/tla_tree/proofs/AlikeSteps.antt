@@ -8,8 +8,9 @@ use Rattle.tla_tree.specs.Rank.{is_bullet}
 use Rattle.tla_tree.specs.Lexical.{Mark, Key, TokenView, Token}
 use Rattle.tla_tree.specs.Lexical as tk
 use Rattle.tla_tree.specs.Spelling.{Field, Phrase, Binds, Path, call, brackets, apply, select, cases, local, infix_of, prefix_of, index, can_be_head, is_some_path, takes_box}
-use Rattle.tla_tree.specs.Reader.{any, room, Room, within, read_by, opened, opened_after, if_fits, chain_of, chain_behind, so_far, less, Limit, gives, skip, peek, take, Reader, ◌>>=◌, is_mark, is_key, is_sign, place_if, a_mark, a_key, a_sign, word_of, field_of, a_word, a_field, bullet_of, Context, free, right_of, under, behind, bound, is_free, prefix_by, goes_on, element, Readers, ended, named, from_name, set_rest, image_rest, brace_rest, set_from, member_rest, brace_name, braces, tuples, field_rest, function_rest, square_rest, square_from, bind_rest, square_member, plain_field, square_name, squares, list_if, primary, quantifier, choice_from, keyed, under_by, signed, operand, short_signed, short_by, apply_if, select_if, postfix_by, climb_if, climb_by, phrases_by, binds_by, fields_by, settings_by, setting_if, path_by, bullets_if, arms_other, arms_if, arms_by, locals_by, one_step, no_steps, readers}
-use Rattle.tla_tree.specs.Nesting.{links}
+use Rattle.tla_tree.specs.Reader.{any, room, Room, within, read_by, opened, opened_if, opened_after, if_fits, chain_of, chain_behind, so_far, less, Limit, gives, skip, peek, take, Reader, ◌>>=◌, is_mark, is_key, is_sign, place_if, a_mark, a_key, a_sign, word_of, field_of, a_word, a_field, bullet_of, Context, free, right_of, under, behind, bound, is_free, prefix_by, goes_on, element, Readers, ended, named, from_name, set_rest, image_rest, brace_rest, set_from, member_rest, brace_name, braces, tuples, field_rest, function_rest, square_rest, square_from, bind_rest, square_member, plain_field, square_name, squares, list_if, primary, quantifier, choice_from, keyed, under_by, signed, operand, short_signed, short_by, apply_if, select_if, postfix_by, climb_if, climb_by, phrases_by, binds_by, fields_by, settings_by, setting_if, path_by, bullets_if, arms_other, arms_if, arms_by, locals_by, one_step, no_steps, readers, readers_in}
+use Rattle.tla_tree.specs.Nesting.{links, before}
+use Rattle.tla_tree.proofs.Opened.{in_apply, in_select}
 use Rattle.tla_tree.proofs.Alike.{Within, IsFair, weaker, fair_gives, fair_refuses, fair_too_deep, fair_skip, fair_peek, fair_bind, fair_take}
 
 -- with n steps and more
@@ -36,9 +37,10 @@ BothFair n r q = ⊥
 pub record FairRooms (n : ℕ) (m w : Room) : Type 0 where
   pub at : (j : ℕ) → BothFair n (m.at j) (w.at j)
   pub fits : (j : ℕ) (a : Phrase) → m.fits j a ≡ w.fits j a
+  pub linked : m.linked ≡ w.linked
 
 within_fair : (n : ℕ) (m w : Room) → FairRooms n m w → (j : ℕ) → FairRooms n (within j m) (within j w)
-within_fair n m w g j = record { at = λ i. g.at (suc j + i); fits = λ i. g.fits (suc j + i) }
+within_fair n m w g j = record { at = λ i. g.at (suc j + i); fits = λ i. g.fits (suc j + i); linked = g.linked }
 
 -- what f reads, of the readers outside and those inside
 fair_opened : {A : Type 0} {b : ℕ} (n : ℕ) (m w : Room) → FairRooms n m w → (j : ℕ) (r q : Readers) (f : Readers → Room → Readers → Reader A) → ((i i' : Room) (d d' : Readers) → FairRooms n i i' → AreFair n d d' → IsFair b (f r i d) (f q i' d')) → IsFair b (opened m j (f r)) (opened w j (f q))
@@ -275,11 +277,16 @@ module _ (n : ℕ) (m w : Room) (r q : Readers) (v : FairRooms n m w) (h : AreFa
 
   -- ---- loops
   fair_apply : (b : Bool) (e : ℕ) (a : Phrase) (p : Place) → IsFair (n + 3) (apply_if b m r e a p) (apply_if b w q e a p)
-  fair_apply true e a p = fair_opened n m w v (links a) r q (λ r i d. skip (d.phrases e >>= λ xs. a_mark e tk.close_square >>= λ s. r.postfix e (apply a p xs s))) (λ i i' d d' u g. fair_skip k3 (fair_bind (g.phrases e) (λ xs. fair_mark k0 e tk.close_square (λ s. postfix n m w r q v h e _))))
+  fair_apply true e a p = subst (λ (t : Bool). IsFair (n + 3) (opened m (before m.linked a) (in_apply r e a p)) (opened w (before t a) (in_apply q e a p))) v.linked
+      (fair_opened n m w v (before m.linked a) r q (λ r i d. skip (d.phrases e >>= λ xs. a_mark e tk.close_square >>= λ s. r.postfix e (apply a p xs s))) (λ i i' d d' u g. fair_skip k3 (fair_bind (g.phrases e) (λ xs. fair_mark k0 e tk.close_square (λ s. postfix n m w r q v h e _)))))
   fair_apply false e a p = fair_gives
 
   fair_select : (b : Bool) (e : ℕ) (a : Phrase) (p : Place) → IsFair (n + 3) (select_if b m r e a p) (select_if b w q e a p)
-  fair_select true e a p = fair_opened n m w v (links a) r q (λ r i d. skip (a_field e >>= λ f. r.postfix e (select a p f))) (λ i i' d d' u g. fair_skip k3 (fair_field k0 e (λ f. postfix n m w r q v h e _)))
+  fair_select true e a p = subst (λ (t : Bool). IsFair (n + 3) (opened_if m.linked m r (links a) (in_select r e a p)) (opened_if t w q (links a) (in_select q e a p))) v.linked (by m.linked)
+    where
+      by : (t : Bool) → IsFair (n + 3) (opened_if t m r (links a) (in_select r e a p)) (opened_if t w q (links a) (in_select q e a p))
+      by true = fair_opened n m w v (links a) r q (λ r i d. skip (a_field e >>= λ f. r.postfix e (select a p f))) (λ i i' d d' u g. fair_skip k3 (fair_field k0 e (λ f. postfix n m w r q v h e _)))
+      by false = fair_skip k3 (fair_field k0 e (λ f. postfix n m w r q v h e _))
   fair_select false e a p = fair_gives
 
   fair_postfix : (e : ℕ) (a : Phrase) (p : Place) (k : TokenView) → IsFair (n + 3) (postfix_by m r e a p k) (postfix_by w q e a p k)
@@ -410,11 +417,11 @@ fair_none = record {
 
 -- rooms of one limit
 fair_any : (n : ℕ) (r q : Readers) → AreFair n r q → FairRooms n (any r) (any q)
-fair_any n r q h = record { at = λ j. h; fits = λ j a. refl }
+fair_any n r q h = record { at = λ j. h; fits = λ j a. refl; linked = refl }
 
-fair_room : (k : ℕ) (f g : Limit → Readers) → ((l : Limit) → AreFair k (f l) (g l)) → (l : Limit) → FairRooms k (room f l) (room g l)
+fair_room : (k : ℕ) (f g : Limit → Readers) → ((l : Limit) → AreFair k (f l) (g l)) → (l : Limit) → FairRooms k (room true f l) (room true g l)
 fair_room k f g h None = fair_any k (f None) (g None) (h None)
-fair_room k f g h (Some b) = record { at = λ j. by (nat_le j b) j; fits = λ j a. refl }
+fair_room k f g h (Some b) = record { at = λ j. by (nat_le j b) j; fits = λ j a. refl; linked = refl }
   where
     by : (z : Bool) (j : ℕ) → BothFair k (option_map f (less z b j)) (option_map g (less z b j))
     by true j = h (Some (b - j))
@@ -422,14 +429,14 @@ fair_room k f g h (Some b) = record { at = λ j. by (nat_le j b) j; fits = λ j 
 
 -- within the tokens
 fair_same : (n : ℕ) (l : Limit) → AreFair n (readers n l) (readers n l)
-unfolding readers
+unfolding readers_in
 fair_same zero l = fair_none
-fair_same (suc n) l = fair_step n (room (readers n) l) (room (readers n) l) (readers n l) (readers n l) (fair_room n (readers n) (readers n) (fair_same n) l) (fair_same n l)
+fair_same (suc n) l = fair_step n (room true (readers n) l) (room true (readers n) l) (readers n l) (readers n l) (fair_room n (readers n) (readers n) (fair_same n) l) (fair_same n l)
 
 -- within one limit, or without
 pub fair_readers : (b n m : ℕ) → b ≤ n → b ≤ m → (l : Limit) → AreFair b (readers n l) (readers m l)
-unfolding readers
+unfolding readers_in
 fair_readers zero n m i j l = fair_nothing (readers n l) (readers m l) (fewer n (readers n l) (readers n l) (fair_same n l)) (fewer m (readers m l) (readers m l) (fair_same m l))
 fair_readers (suc b) zero m i j l = absurd (omega (arith, i))
 fair_readers (suc b) (suc n) zero i j l = absurd (omega (arith, j))
-fair_readers (suc b) (suc n) (suc m) i j l = fair_step b (room (readers n) l) (room (readers m) l) (readers n l) (readers m l) (fair_room b (readers n) (readers m) (fair_readers b n m (omega (arith, i)) (omega (arith, j))) l) (fair_readers b n m (omega (arith, i)) (omega (arith, j)) l)
+fair_readers (suc b) (suc n) (suc m) i j l = fair_step b (room true (readers n) l) (room true (readers m) l) (readers n l) (readers m l) (fair_room b (readers n) (readers m) (fair_readers b n m (omega (arith, i)) (omega (arith, j))) l) (fair_readers b n m (omega (arith, i)) (omega (arith, j)) l)

@@ -1,11 +1,12 @@
 -- Counts of open forms within a bound, and those that pass it before so many others; both by forms.
-use Rattle.std.proofs.Common.{◌≡◌, ◌⊎◌, ℕ, ◌+◌, ◌<◌, ◌≤◌, max, List, [], ◌∷◌, ◌++◌, length, inl, inr, refl, sym, subst, arith}
+use Rattle.std.proofs.Common.{◌≡◌, ◌⊎◌, Bool, true, false, ℕ, ◌+◌, ◌<◌, ◌≤◌, max, List, [], ◌∷◌, ◌++◌, length, inl, inr, refl, sym, subst, arith}
 use Rattle.std.proofs.lemmas.Bool.{cases_order}
 use Rattle.std.proofs.lemmas.List.{length-append}
 use Rattle.std.proofs.Math.Nat.{le-max_left, le-max_right, max-le}
 use Rattle.tla_tree.specs.Spelling.{Phrase, number, string, constant, name, primed, call, brackets, no_set, set_of, filter, image, no_tuple, tuple, fields, records, function, functions, except, apply, select, list, quantified, if_then_else, cases, local, infix_of, prefix_of}
 use Rattle.tla_tree.specs.Spelling.{Phrases, last, more, Binds, last_bind, bind, share, Fields, last_field, field, Settings, last_setting, setting, Path, path_end, index, at_field, Bullets, last_bullet, bullet, Arms, last_arm, other_arm, arm, Locals, last_local, more_locals}
-use Rattle.tla_tree.specs.Nesting.{greatest, chain, links, counts, counts_all, counts_binds, counts_fields, counts_settings, counts_path, counts_bullets, counts_arms, counts_locals}
+use Rattle.tla_tree.specs.Nesting.{greatest, chain, links, before, counts_in, all_in, binds_in, fields_in, settings_in, path_in, bullets_in, arms_in, locals_in, counts, counts_all, counts_binds, counts_fields, counts_settings, counts_path, counts_bullets, counts_arms, counts_locals}
+use Rattle.tla_tree.specs.Nesting.{at_field as field_at}
 use Rattle.tla_tree.proofs.SpellAhead.{Ahead, held, put_ahead, then_ahead}
 
 abbrev pub Fit : ℕ → List ℕ → Type 0
@@ -105,132 +106,174 @@ deep_behind {x} h b j xs ys m o d =
     subst (λ (r : List ℕ). Deep b r m) (sym (h.is [] ys)) (deep_raised b b 0 j (omega arith) (x [] ++ xs) (x [] ++ ys) m (raised_front j (x []) xs ys o) (subst (λ (r : List ℕ). Deep b r m) (h.is [] xs) d))
 
 mutual
-  pub ahead_counts : (n : ℕ) (a : Phrase) → Ahead (counts n a)
-  ahead_counts n (number p k) = put_ahead held
-  ahead_counts n (string p x) = put_ahead held
-  ahead_counts n (constant p c) = put_ahead held
-  ahead_counts n (name p x) = put_ahead held
-  ahead_counts n (primed p x q) = put_ahead (put_ahead held)
-  ahead_counts n (call p x q xs t) = put_ahead (put_ahead (then_ahead (ahead_all (n + 1) xs) (put_ahead held)))
-  ahead_counts n (brackets p a q) = put_ahead (then_ahead (ahead_counts (n + 1) a) (put_ahead held))
-  ahead_counts n (no_set p q) = put_ahead (put_ahead held)
-  ahead_counts n (set_of p xs q) = put_ahead (then_ahead (ahead_all (n + 1) xs) (put_ahead held))
-  ahead_counts n (filter p q x v s t a u) = put_ahead (put_ahead (put_ahead (then_ahead (ahead_counts (n + 1) s) (put_ahead (then_ahead (ahead_counts (n + 1) a) (put_ahead held))))))
-  ahead_counts n (image p a q bs t) = put_ahead (then_ahead (ahead_counts (n + 1) a) (put_ahead (then_ahead (ahead_binds (n + 1) bs) (put_ahead held))))
-  ahead_counts n (no_tuple p q) = put_ahead (put_ahead held)
-  ahead_counts n (tuple p xs q) = put_ahead (then_ahead (ahead_all (n + 1) xs) (put_ahead held))
-  ahead_counts n (fields p fs q) = put_ahead (then_ahead (ahead_fields (n + 1) fs) (put_ahead held))
-  ahead_counts n (records p fs q) = put_ahead (then_ahead (ahead_fields (n + 1) fs) (put_ahead held))
-  ahead_counts n (function p bs q a t) = put_ahead (then_ahead (ahead_binds (n + 1) bs) (put_ahead (then_ahead (ahead_counts (n + 1) a) (put_ahead held))))
-  ahead_counts n (functions p a q b t) = put_ahead (then_ahead (ahead_counts (n + 1) a) (put_ahead (then_ahead (ahead_counts (n + 1) b) (put_ahead held))))
-  ahead_counts n (except p a q ss t) = put_ahead (then_ahead (ahead_counts (n + 1) a) (put_ahead (then_ahead (ahead_settings (n + 1) ss) (put_ahead held))))
-  ahead_counts n (apply a p xs q) = then_ahead (ahead_counts n a) (put_ahead (then_ahead (ahead_all (n + links a + 1) xs) (put_ahead held)))
-  ahead_counts n (select a p f) = then_ahead (ahead_counts n a) (put_ahead (put_ahead held))
-  ahead_counts n (list o bs) = ahead_bullets n bs
-  ahead_counts n (quantified b p bs q a) = put_ahead (then_ahead (ahead_binds (n + 1) bs) (put_ahead (ahead_counts (n + 1) a)))
-  ahead_counts n (if_then_else p a q b t c) = put_ahead (then_ahead (ahead_counts (n + 1) a) (put_ahead (then_ahead (ahead_counts (n + 1) b) (put_ahead (ahead_counts (n + 1) c)))))
-  ahead_counts n (cases p xs) = put_ahead (ahead_arms (n + 1) xs)
-  ahead_counts n (local p ls q a) = put_ahead (then_ahead (ahead_locals (n + 1) ls) (put_ahead (ahead_counts (n + 1) a)))
-  ahead_counts n (infix_of a p o b) = then_ahead (ahead_counts n a) (put_ahead (ahead_counts (n + chain a + 1) b))
-  ahead_counts n (prefix_of p o a) = put_ahead (ahead_counts (n + 1) a)
+  pub ahead_in : (linked : Bool) (n : ℕ) (a : Phrase) → Ahead (counts_in linked n a)
+  ahead_in linked n (number p k) = put_ahead held
+  ahead_in linked n (string p x) = put_ahead held
+  ahead_in linked n (constant p c) = put_ahead held
+  ahead_in linked n (name p x) = put_ahead held
+  ahead_in linked n (primed p x q) = put_ahead (put_ahead held)
+  ahead_in linked n (call p x q xs t) = put_ahead (put_ahead (then_ahead (ahead_all_in linked (n + 1) xs) (put_ahead held)))
+  ahead_in linked n (brackets p a q) = put_ahead (then_ahead (ahead_in linked (n + 1) a) (put_ahead held))
+  ahead_in linked n (no_set p q) = put_ahead (put_ahead held)
+  ahead_in linked n (set_of p xs q) = put_ahead (then_ahead (ahead_all_in linked (n + 1) xs) (put_ahead held))
+  ahead_in linked n (filter p q x v s t a u) = put_ahead (put_ahead (put_ahead (then_ahead (ahead_in linked (n + 1) s) (put_ahead (then_ahead (ahead_in linked (n + 1) a) (put_ahead held))))))
+  ahead_in linked n (image p a q bs t) = put_ahead (then_ahead (ahead_in linked (n + 1) a) (put_ahead (then_ahead (ahead_binds_in linked (n + 1) bs) (put_ahead held))))
+  ahead_in linked n (no_tuple p q) = put_ahead (put_ahead held)
+  ahead_in linked n (tuple p xs q) = put_ahead (then_ahead (ahead_all_in linked (n + 1) xs) (put_ahead held))
+  ahead_in linked n (fields p fs q) = put_ahead (then_ahead (ahead_fields_in linked (n + 1) fs) (put_ahead held))
+  ahead_in linked n (records p fs q) = put_ahead (then_ahead (ahead_fields_in linked (n + 1) fs) (put_ahead held))
+  ahead_in linked n (function p bs q a t) = put_ahead (then_ahead (ahead_binds_in linked (n + 1) bs) (put_ahead (then_ahead (ahead_in linked (n + 1) a) (put_ahead held))))
+  ahead_in linked n (functions p a q b t) = put_ahead (then_ahead (ahead_in linked (n + 1) a) (put_ahead (then_ahead (ahead_in linked (n + 1) b) (put_ahead held))))
+  ahead_in linked n (except p a q ss t) = put_ahead (then_ahead (ahead_in linked (n + 1) a) (put_ahead (then_ahead (ahead_settings_in linked (n + 1) ss) (put_ahead held))))
+  ahead_in linked n (apply a p xs q) = then_ahead (ahead_in linked n a) (put_ahead (then_ahead (ahead_all_in linked (n + before linked a + 1) xs) (put_ahead held)))
+  ahead_in linked n (select a p f) = then_ahead (ahead_in linked n a) (put_ahead (put_ahead held))
+  ahead_in linked n (list o bs) = ahead_bullets_in linked n bs
+  ahead_in linked n (quantified b p bs q a) = put_ahead (then_ahead (ahead_binds_in linked (n + 1) bs) (put_ahead (ahead_in linked (n + 1) a)))
+  ahead_in linked n (if_then_else p a q b t c) = put_ahead (then_ahead (ahead_in linked (n + 1) a) (put_ahead (then_ahead (ahead_in linked (n + 1) b) (put_ahead (ahead_in linked (n + 1) c)))))
+  ahead_in linked n (cases p xs) = put_ahead (ahead_arms_in linked (n + 1) xs)
+  ahead_in linked n (local p ls q a) = put_ahead (then_ahead (ahead_locals_in linked (n + 1) ls) (put_ahead (ahead_in linked (n + 1) a)))
+  ahead_in linked n (infix_of a p o b) = then_ahead (ahead_in linked n a) (put_ahead (ahead_in linked (n + chain a + 1) b))
+  ahead_in linked n (prefix_of p o a) = put_ahead (ahead_in linked (n + 1) a)
 
-  pub ahead_all : (n : ℕ) (xs : Phrases) → Ahead (counts_all n xs)
-  ahead_all n (last a) = ahead_counts n a
-  ahead_all n (more a p xs) = then_ahead (ahead_counts n a) (put_ahead (ahead_all n xs))
+  pub ahead_all_in : (linked : Bool) (n : ℕ) (xs : Phrases) → Ahead (all_in linked n xs)
+  ahead_all_in linked n (last a) = ahead_in linked n a
+  ahead_all_in linked n (more a p xs) = then_ahead (ahead_in linked n a) (put_ahead (ahead_all_in linked n xs))
 
-  pub ahead_binds : (n : ℕ) (bs : Binds) → Ahead (counts_binds n bs)
-  ahead_binds n (last_bind p x q a) = put_ahead (put_ahead (ahead_counts n a))
-  ahead_binds n (bind p x q a t bs) = put_ahead (put_ahead (then_ahead (ahead_counts n a) (put_ahead (ahead_binds n bs))))
-  ahead_binds n (share p x q bs) = put_ahead (put_ahead (ahead_binds n bs))
+  pub ahead_binds_in : (linked : Bool) (n : ℕ) (bs : Binds) → Ahead (binds_in linked n bs)
+  ahead_binds_in linked n (last_bind p x q a) = put_ahead (put_ahead (ahead_in linked n a))
+  ahead_binds_in linked n (bind p x q a t bs) = put_ahead (put_ahead (then_ahead (ahead_in linked n a) (put_ahead (ahead_binds_in linked n bs))))
+  ahead_binds_in linked n (share p x q bs) = put_ahead (put_ahead (ahead_binds_in linked n bs))
 
-  pub ahead_fields : (n : ℕ) (fs : Fields) → Ahead (counts_fields n fs)
-  ahead_fields n (last_field f p a) = put_ahead (put_ahead (ahead_counts n a))
-  ahead_fields n (field f p a q fs) = put_ahead (put_ahead (then_ahead (ahead_counts n a) (put_ahead (ahead_fields n fs))))
+  pub ahead_fields_in : (linked : Bool) (n : ℕ) (fs : Fields) → Ahead (fields_in linked n fs)
+  ahead_fields_in linked n (last_field f p a) = put_ahead (put_ahead (ahead_in linked n a))
+  ahead_fields_in linked n (field f p a q fs) = put_ahead (put_ahead (then_ahead (ahead_in linked n a) (put_ahead (ahead_fields_in linked n fs))))
 
-  pub ahead_settings : (n : ℕ) (ss : Settings) → Ahead (counts_settings n ss)
-  ahead_settings n (last_setting p path q a) = put_ahead (then_ahead (ahead_path n path) (put_ahead (ahead_counts n a)))
-  ahead_settings n (setting p path q a t ss) = put_ahead (then_ahead (ahead_path n path) (put_ahead (then_ahead (ahead_counts n a) (put_ahead (ahead_settings n ss)))))
+  pub ahead_settings_in : (linked : Bool) (n : ℕ) (ss : Settings) → Ahead (settings_in linked n ss)
+  ahead_settings_in linked n (last_setting p path q a) = put_ahead (then_ahead (ahead_path_in linked n path) (put_ahead (ahead_in linked n a)))
+  ahead_settings_in linked n (setting p path q a t ss) = put_ahead (then_ahead (ahead_path_in linked n path) (put_ahead (then_ahead (ahead_in linked n a) (put_ahead (ahead_settings_in linked n ss)))))
 
-  pub ahead_path : (n : ℕ) (path : Path) → Ahead (counts_path n path)
-  ahead_path n path_end = held
-  ahead_path n (index p xs q path) = put_ahead (then_ahead (ahead_all (n + 1) xs) (put_ahead (ahead_path n path)))
-  ahead_path n (at_field p f path) = put_ahead (put_ahead (ahead_path n path))
+  pub ahead_path_in : (linked : Bool) (n : ℕ) (path : Path) → Ahead (path_in linked n path)
+  ahead_path_in linked n path_end = held
+  ahead_path_in linked n (index p xs q path) = put_ahead (then_ahead (ahead_all_in linked (n + 1) xs) (put_ahead (ahead_path_in linked n path)))
+  ahead_path_in linked n (at_field p f path) = put_ahead (put_ahead (ahead_path_in linked n path))
 
-  pub ahead_bullets : (n : ℕ) (bs : Bullets) → Ahead (counts_bullets n bs)
-  ahead_bullets n (last_bullet p a) = put_ahead (ahead_counts (n + 1) a)
-  ahead_bullets n (bullet p a bs) = put_ahead (then_ahead (ahead_counts (n + 1) a) (ahead_bullets (n + 1) bs))
+  pub ahead_bullets_in : (linked : Bool) (n : ℕ) (bs : Bullets) → Ahead (bullets_in linked n bs)
+  ahead_bullets_in linked n (last_bullet p a) = put_ahead (ahead_in linked (n + 1) a)
+  ahead_bullets_in linked n (bullet p a bs) = put_ahead (then_ahead (ahead_in linked (n + 1) a) (ahead_bullets_in linked (n + 1) bs))
 
-  pub ahead_arms : (n : ℕ) (xs : Arms) → Ahead (counts_arms n xs)
-  ahead_arms n (last_arm a p b) = then_ahead (ahead_counts n a) (put_ahead (ahead_counts n b))
-  ahead_arms n (other_arm a p b q s t c) = then_ahead (ahead_counts n a) (put_ahead (then_ahead (ahead_counts n b) (put_ahead (put_ahead (put_ahead (ahead_counts n c))))))
-  ahead_arms n (arm a p b q xs) = then_ahead (ahead_counts n a) (put_ahead (then_ahead (ahead_counts n b) (put_ahead (ahead_arms n xs))))
+  pub ahead_arms_in : (linked : Bool) (n : ℕ) (xs : Arms) → Ahead (arms_in linked n xs)
+  ahead_arms_in linked n (last_arm a p b) = then_ahead (ahead_in linked n a) (put_ahead (ahead_in linked n b))
+  ahead_arms_in linked n (other_arm a p b q s t c) = then_ahead (ahead_in linked n a) (put_ahead (then_ahead (ahead_in linked n b) (put_ahead (put_ahead (put_ahead (ahead_in linked n c))))))
+  ahead_arms_in linked n (arm a p b q xs) = then_ahead (ahead_in linked n a) (put_ahead (then_ahead (ahead_in linked n b) (put_ahead (ahead_arms_in linked n xs))))
 
-  pub ahead_locals : (n : ℕ) (ls : Locals) → Ahead (counts_locals n ls)
-  ahead_locals n (last_local p x q a) = put_ahead (put_ahead (ahead_counts n a))
-  ahead_locals n (more_locals p x q a ls) = put_ahead (put_ahead (then_ahead (ahead_counts n a) (ahead_locals n ls)))
+  pub ahead_locals_in : (linked : Bool) (n : ℕ) (ls : Locals) → Ahead (locals_in linked n ls)
+  ahead_locals_in linked n (last_local p x q a) = put_ahead (put_ahead (ahead_in linked n a))
+  ahead_locals_in linked n (more_locals p x q a ls) = put_ahead (put_ahead (then_ahead (ahead_in linked n a) (ahead_locals_in linked n ls)))
+
+-- where fields and closed applications count
+pub ahead_counts : (n : ℕ) (a : Phrase) → Ahead (counts n a)
+ahead_counts n a = ahead_in true n a
+
+pub ahead_all : (n : ℕ) (xs : Phrases) → Ahead (counts_all n xs)
+ahead_all n xs = ahead_all_in true n xs
+
+pub ahead_binds : (n : ℕ) (bs : Binds) → Ahead (counts_binds n bs)
+ahead_binds n bs = ahead_binds_in true n bs
+
+pub ahead_fields : (n : ℕ) (fs : Fields) → Ahead (counts_fields n fs)
+ahead_fields n fs = ahead_fields_in true n fs
+
+pub ahead_settings : (n : ℕ) (ss : Settings) → Ahead (counts_settings n ss)
+ahead_settings n ss = ahead_settings_in true n ss
+
+pub ahead_path : (n : ℕ) (path : Path) → Ahead (counts_path n path)
+ahead_path n path = ahead_path_in true n path
+
+pub ahead_bullets : (n : ℕ) (bs : Bullets) → Ahead (counts_bullets n bs)
+ahead_bullets n bs = ahead_bullets_in true n bs
+
+pub ahead_arms : (n : ℕ) (xs : Arms) → Ahead (counts_arms n xs)
+ahead_arms n xs = ahead_arms_in true n xs
+
+pub ahead_locals : (n : ℕ) (ls : Locals) → Ahead (counts_locals n ls)
+ahead_locals n ls = ahead_locals_in true n ls
 
 -- where more are open round it, each count is greater by so many
+field_least : (linked : Bool) (i n m : ℕ) → n + i ≤ m → (a : Phrase) → field_at linked n a + i ≤ field_at linked m a
+field_least true i n m h a = omega (arith, h)
+field_least false i n m h a = h
+
+field_most : (linked : Bool) (j n m : ℕ) → m ≤ n + j → (a : Phrase) → field_at linked m a ≤ field_at linked n a + j
+field_most true j n m h a = omega (arith, h)
+field_most false j n m h a = h
+
 mutual
-  pub raised_counts : (i j n m : ℕ) → n + i ≤ m → m ≤ n + j → (a : Phrase) (r w : List ℕ) → Raised i j r w → Raised i j (counts n a r) (counts m a w)
-  raised_counts i j n m h k (number p d) r w v = (omega (arith, h), omega (arith, k), v)
-  raised_counts i j n m h k (string p x) r w v = (omega (arith, h), omega (arith, k), v)
-  raised_counts i j n m h k (constant p c) r w v = (omega (arith, h), omega (arith, k), v)
-  raised_counts i j n m h k (name p x) r w v = (omega (arith, h), omega (arith, k), v)
-  raised_counts i j n m h k (primed p x q) r w v = (omega (arith, h), omega (arith, k), (omega (arith, h), omega (arith, k), v))
-  raised_counts i j n m h k (call p x q xs t) r w v = (omega (arith, h), omega (arith, k), (omega (arith, h), omega (arith, k), raised_all i j (n + 1) (m + 1) (omega (arith, h)) (omega (arith, k)) xs ((n + 1) ∷ r) ((m + 1) ∷ w) ((omega (arith, h), omega (arith, k), v))))
-  raised_counts i j n m h k (brackets p a q) r w v = (omega (arith, h), omega (arith, k), raised_counts i j (n + 1) (m + 1) (omega (arith, h)) (omega (arith, k)) a ((n + 1) ∷ r) ((m + 1) ∷ w) ((omega (arith, h), omega (arith, k), v)))
-  raised_counts i j n m h k (no_set p q) r w v = (omega (arith, h), omega (arith, k), (omega (arith, h), omega (arith, k), v))
-  raised_counts i j n m h k (set_of p xs q) r w v = (omega (arith, h), omega (arith, k), raised_all i j (n + 1) (m + 1) (omega (arith, h)) (omega (arith, k)) xs ((n + 1) ∷ r) ((m + 1) ∷ w) ((omega (arith, h), omega (arith, k), v)))
-  raised_counts i j n m h k (filter p q x y s t a u) r w v = (omega (arith, h), omega (arith, k), (omega (arith, h), omega (arith, k), (omega (arith, h), omega (arith, k), raised_counts i j (n + 1) (m + 1) (omega (arith, h)) (omega (arith, k)) s ((n + 1) ∷ (counts (n + 1) a ((n + 1) ∷ r))) ((m + 1) ∷ (counts (m + 1) a ((m + 1) ∷ w))) ((omega (arith, h), omega (arith, k), raised_counts i j (n + 1) (m + 1) (omega (arith, h)) (omega (arith, k)) a ((n + 1) ∷ r) ((m + 1) ∷ w) ((omega (arith, h), omega (arith, k), v)))))))
-  raised_counts i j n m h k (image p a q bs t) r w v = (omega (arith, h), omega (arith, k), raised_counts i j (n + 1) (m + 1) (omega (arith, h)) (omega (arith, k)) a ((n + 1) ∷ (counts_binds (n + 1) bs ((n + 1) ∷ r))) ((m + 1) ∷ (counts_binds (m + 1) bs ((m + 1) ∷ w))) ((omega (arith, h), omega (arith, k), raised_binds i j (n + 1) (m + 1) (omega (arith, h)) (omega (arith, k)) bs ((n + 1) ∷ r) ((m + 1) ∷ w) ((omega (arith, h), omega (arith, k), v)))))
-  raised_counts i j n m h k (no_tuple p q) r w v = (omega (arith, h), omega (arith, k), (omega (arith, h), omega (arith, k), v))
-  raised_counts i j n m h k (tuple p xs q) r w v = (omega (arith, h), omega (arith, k), raised_all i j (n + 1) (m + 1) (omega (arith, h)) (omega (arith, k)) xs ((n + 1) ∷ r) ((m + 1) ∷ w) ((omega (arith, h), omega (arith, k), v)))
-  raised_counts i j n m h k (fields p fs q) r w v = (omega (arith, h), omega (arith, k), raised_fields i j (n + 1) (m + 1) (omega (arith, h)) (omega (arith, k)) fs ((n + 1) ∷ r) ((m + 1) ∷ w) ((omega (arith, h), omega (arith, k), v)))
-  raised_counts i j n m h k (records p fs q) r w v = (omega (arith, h), omega (arith, k), raised_fields i j (n + 1) (m + 1) (omega (arith, h)) (omega (arith, k)) fs ((n + 1) ∷ r) ((m + 1) ∷ w) ((omega (arith, h), omega (arith, k), v)))
-  raised_counts i j n m h k (function p bs q a t) r w v = (omega (arith, h), omega (arith, k), raised_binds i j (n + 1) (m + 1) (omega (arith, h)) (omega (arith, k)) bs ((n + 1) ∷ (counts (n + 1) a ((n + 1) ∷ r))) ((m + 1) ∷ (counts (m + 1) a ((m + 1) ∷ w))) ((omega (arith, h), omega (arith, k), raised_counts i j (n + 1) (m + 1) (omega (arith, h)) (omega (arith, k)) a ((n + 1) ∷ r) ((m + 1) ∷ w) ((omega (arith, h), omega (arith, k), v)))))
-  raised_counts i j n m h k (functions p a q b t) r w v = (omega (arith, h), omega (arith, k), raised_counts i j (n + 1) (m + 1) (omega (arith, h)) (omega (arith, k)) a ((n + 1) ∷ (counts (n + 1) b ((n + 1) ∷ r))) ((m + 1) ∷ (counts (m + 1) b ((m + 1) ∷ w))) ((omega (arith, h), omega (arith, k), raised_counts i j (n + 1) (m + 1) (omega (arith, h)) (omega (arith, k)) b ((n + 1) ∷ r) ((m + 1) ∷ w) ((omega (arith, h), omega (arith, k), v)))))
-  raised_counts i j n m h k (except p a q ss t) r w v = (omega (arith, h), omega (arith, k), raised_counts i j (n + 1) (m + 1) (omega (arith, h)) (omega (arith, k)) a ((n + 1) ∷ (counts_settings (n + 1) ss ((n + 1) ∷ r))) ((m + 1) ∷ (counts_settings (m + 1) ss ((m + 1) ∷ w))) ((omega (arith, h), omega (arith, k), raised_settings i j (n + 1) (m + 1) (omega (arith, h)) (omega (arith, k)) ss ((n + 1) ∷ r) ((m + 1) ∷ w) ((omega (arith, h), omega (arith, k), v)))))
-  raised_counts i j n m h k (apply a p xs q) r w v = raised_counts i j n m (omega (arith, h)) (omega (arith, k)) a ((n + links a + 1) ∷ (counts_all (n + links a + 1) xs ((n + links a + 1) ∷ r))) ((m + links a + 1) ∷ (counts_all (m + links a + 1) xs ((m + links a + 1) ∷ w))) ((omega (arith, h), omega (arith, k), raised_all i j (n + links a + 1) (m + links a + 1) (omega (arith, h)) (omega (arith, k)) xs ((n + links a + 1) ∷ r) ((m + links a + 1) ∷ w) ((omega (arith, h), omega (arith, k), v))))
-  raised_counts i j n m h k (select a p f) r w v = raised_counts i j n m (omega (arith, h)) (omega (arith, k)) a ((n + links a + 1) ∷ ((n + links a + 1) ∷ r)) ((m + links a + 1) ∷ ((m + links a + 1) ∷ w)) ((omega (arith, h), omega (arith, k), (omega (arith, h), omega (arith, k), v)))
-  raised_counts i j n m h k (list o bs) r w v = raised_bullets i j n m (omega (arith, h)) (omega (arith, k)) bs r w v
-  raised_counts i j n m h k (quantified b p bs q a) r w v = (omega (arith, h), omega (arith, k), raised_binds i j (n + 1) (m + 1) (omega (arith, h)) (omega (arith, k)) bs ((n + 1) ∷ (counts (n + 1) a r)) ((m + 1) ∷ (counts (m + 1) a w)) ((omega (arith, h), omega (arith, k), raised_counts i j (n + 1) (m + 1) (omega (arith, h)) (omega (arith, k)) a r w v)))
-  raised_counts i j n m h k (if_then_else p a q b t c) r w v = (omega (arith, h), omega (arith, k), raised_counts i j (n + 1) (m + 1) (omega (arith, h)) (omega (arith, k)) a ((n + 1) ∷ (counts (n + 1) b ((n + 1) ∷ (counts (n + 1) c r)))) ((m + 1) ∷ (counts (m + 1) b ((m + 1) ∷ (counts (m + 1) c w)))) ((omega (arith, h), omega (arith, k), raised_counts i j (n + 1) (m + 1) (omega (arith, h)) (omega (arith, k)) b ((n + 1) ∷ (counts (n + 1) c r)) ((m + 1) ∷ (counts (m + 1) c w)) ((omega (arith, h), omega (arith, k), raised_counts i j (n + 1) (m + 1) (omega (arith, h)) (omega (arith, k)) c r w v)))))
-  raised_counts i j n m h k (cases p xs) r w v = (omega (arith, h), omega (arith, k), raised_arms i j (n + 1) (m + 1) (omega (arith, h)) (omega (arith, k)) xs r w v)
-  raised_counts i j n m h k (local p ls q a) r w v = (omega (arith, h), omega (arith, k), raised_locals i j (n + 1) (m + 1) (omega (arith, h)) (omega (arith, k)) ls ((n + 1) ∷ (counts (n + 1) a r)) ((m + 1) ∷ (counts (m + 1) a w)) ((omega (arith, h), omega (arith, k), raised_counts i j (n + 1) (m + 1) (omega (arith, h)) (omega (arith, k)) a r w v)))
-  raised_counts i j n m h k (infix_of a p o b) r w v = raised_counts i j n m (omega (arith, h)) (omega (arith, k)) a ((n + chain a + 1) ∷ (counts (n + chain a + 1) b r)) ((m + chain a + 1) ∷ (counts (m + chain a + 1) b w)) ((omega (arith, h), omega (arith, k), raised_counts i j (n + chain a + 1) (m + chain a + 1) (omega (arith, h)) (omega (arith, k)) b r w v))
-  raised_counts i j n m h k (prefix_of p o a) r w v = (omega (arith, h), omega (arith, k), raised_counts i j (n + 1) (m + 1) (omega (arith, h)) (omega (arith, k)) a r w v)
+  pub raised_in : (linked : Bool) (i j n m : ℕ) → n + i ≤ m → m ≤ n + j → (a : Phrase) (r w : List ℕ) → Raised i j r w → Raised i j (counts_in linked n a r) (counts_in linked m a w)
+  raised_in linked i j n m h k (number p d) r w v = (omega (arith, h), omega (arith, k), v)
+  raised_in linked i j n m h k (string p x) r w v = (omega (arith, h), omega (arith, k), v)
+  raised_in linked i j n m h k (constant p c) r w v = (omega (arith, h), omega (arith, k), v)
+  raised_in linked i j n m h k (name p x) r w v = (omega (arith, h), omega (arith, k), v)
+  raised_in linked i j n m h k (primed p x q) r w v = (omega (arith, h), omega (arith, k), (omega (arith, h), omega (arith, k), v))
+  raised_in linked i j n m h k (call p x q xs t) r w v = (omega (arith, h), omega (arith, k), (omega (arith, h), omega (arith, k), raised_all_in linked i j (n + 1) (m + 1) (omega (arith, h)) (omega (arith, k)) xs ((n + 1) ∷ r) ((m + 1) ∷ w) ((omega (arith, h), omega (arith, k), v))))
+  raised_in linked i j n m h k (brackets p a q) r w v = (omega (arith, h), omega (arith, k), raised_in linked i j (n + 1) (m + 1) (omega (arith, h)) (omega (arith, k)) a ((n + 1) ∷ r) ((m + 1) ∷ w) ((omega (arith, h), omega (arith, k), v)))
+  raised_in linked i j n m h k (no_set p q) r w v = (omega (arith, h), omega (arith, k), (omega (arith, h), omega (arith, k), v))
+  raised_in linked i j n m h k (set_of p xs q) r w v = (omega (arith, h), omega (arith, k), raised_all_in linked i j (n + 1) (m + 1) (omega (arith, h)) (omega (arith, k)) xs ((n + 1) ∷ r) ((m + 1) ∷ w) ((omega (arith, h), omega (arith, k), v)))
+  raised_in linked i j n m h k (filter p q x y s t a u) r w v = (omega (arith, h), omega (arith, k), (omega (arith, h), omega (arith, k), (omega (arith, h), omega (arith, k), raised_in linked i j (n + 1) (m + 1) (omega (arith, h)) (omega (arith, k)) s ((n + 1) ∷ (counts_in linked (n + 1) a ((n + 1) ∷ r))) ((m + 1) ∷ (counts_in linked (m + 1) a ((m + 1) ∷ w))) ((omega (arith, h), omega (arith, k), raised_in linked i j (n + 1) (m + 1) (omega (arith, h)) (omega (arith, k)) a ((n + 1) ∷ r) ((m + 1) ∷ w) ((omega (arith, h), omega (arith, k), v)))))))
+  raised_in linked i j n m h k (image p a q bs t) r w v = (omega (arith, h), omega (arith, k), raised_in linked i j (n + 1) (m + 1) (omega (arith, h)) (omega (arith, k)) a ((n + 1) ∷ (binds_in linked (n + 1) bs ((n + 1) ∷ r))) ((m + 1) ∷ (binds_in linked (m + 1) bs ((m + 1) ∷ w))) ((omega (arith, h), omega (arith, k), raised_binds_in linked i j (n + 1) (m + 1) (omega (arith, h)) (omega (arith, k)) bs ((n + 1) ∷ r) ((m + 1) ∷ w) ((omega (arith, h), omega (arith, k), v)))))
+  raised_in linked i j n m h k (no_tuple p q) r w v = (omega (arith, h), omega (arith, k), (omega (arith, h), omega (arith, k), v))
+  raised_in linked i j n m h k (tuple p xs q) r w v = (omega (arith, h), omega (arith, k), raised_all_in linked i j (n + 1) (m + 1) (omega (arith, h)) (omega (arith, k)) xs ((n + 1) ∷ r) ((m + 1) ∷ w) ((omega (arith, h), omega (arith, k), v)))
+  raised_in linked i j n m h k (fields p fs q) r w v = (omega (arith, h), omega (arith, k), raised_fields_in linked i j (n + 1) (m + 1) (omega (arith, h)) (omega (arith, k)) fs ((n + 1) ∷ r) ((m + 1) ∷ w) ((omega (arith, h), omega (arith, k), v)))
+  raised_in linked i j n m h k (records p fs q) r w v = (omega (arith, h), omega (arith, k), raised_fields_in linked i j (n + 1) (m + 1) (omega (arith, h)) (omega (arith, k)) fs ((n + 1) ∷ r) ((m + 1) ∷ w) ((omega (arith, h), omega (arith, k), v)))
+  raised_in linked i j n m h k (function p bs q a t) r w v = (omega (arith, h), omega (arith, k), raised_binds_in linked i j (n + 1) (m + 1) (omega (arith, h)) (omega (arith, k)) bs ((n + 1) ∷ (counts_in linked (n + 1) a ((n + 1) ∷ r))) ((m + 1) ∷ (counts_in linked (m + 1) a ((m + 1) ∷ w))) ((omega (arith, h), omega (arith, k), raised_in linked i j (n + 1) (m + 1) (omega (arith, h)) (omega (arith, k)) a ((n + 1) ∷ r) ((m + 1) ∷ w) ((omega (arith, h), omega (arith, k), v)))))
+  raised_in linked i j n m h k (functions p a q b t) r w v = (omega (arith, h), omega (arith, k), raised_in linked i j (n + 1) (m + 1) (omega (arith, h)) (omega (arith, k)) a ((n + 1) ∷ (counts_in linked (n + 1) b ((n + 1) ∷ r))) ((m + 1) ∷ (counts_in linked (m + 1) b ((m + 1) ∷ w))) ((omega (arith, h), omega (arith, k), raised_in linked i j (n + 1) (m + 1) (omega (arith, h)) (omega (arith, k)) b ((n + 1) ∷ r) ((m + 1) ∷ w) ((omega (arith, h), omega (arith, k), v)))))
+  raised_in linked i j n m h k (except p a q ss t) r w v = (omega (arith, h), omega (arith, k), raised_in linked i j (n + 1) (m + 1) (omega (arith, h)) (omega (arith, k)) a ((n + 1) ∷ (settings_in linked (n + 1) ss ((n + 1) ∷ r))) ((m + 1) ∷ (settings_in linked (m + 1) ss ((m + 1) ∷ w))) ((omega (arith, h), omega (arith, k), raised_settings_in linked i j (n + 1) (m + 1) (omega (arith, h)) (omega (arith, k)) ss ((n + 1) ∷ r) ((m + 1) ∷ w) ((omega (arith, h), omega (arith, k), v)))))
+  raised_in linked i j n m h k (apply a p xs q) r w v = raised_in linked i j n m (omega (arith, h)) (omega (arith, k)) a ((n + before linked a + 1) ∷ (all_in linked (n + before linked a + 1) xs ((n + before linked a + 1) ∷ r))) ((m + before linked a + 1) ∷ (all_in linked (m + before linked a + 1) xs ((m + before linked a + 1) ∷ w))) ((omega (arith, h), omega (arith, k), raised_all_in linked i j (n + before linked a + 1) (m + before linked a + 1) (omega (arith, h)) (omega (arith, k)) xs ((n + before linked a + 1) ∷ r) ((m + before linked a + 1) ∷ w) ((omega (arith, h), omega (arith, k), v))))
+  raised_in linked i j n m h k (select a p f) r w v =
+      let least = field_least linked i n m h a in
+      let most = field_most linked j n m k a in
+      raised_in linked i j n m (omega (arith, h)) (omega (arith, k)) a (field_at linked n a ∷ (field_at linked n a ∷ r)) (field_at linked m a ∷ (field_at linked m a ∷ w)) (least, most, (least, most, v))
+  raised_in linked i j n m h k (list o bs) r w v = raised_bullets_in linked i j n m (omega (arith, h)) (omega (arith, k)) bs r w v
+  raised_in linked i j n m h k (quantified b p bs q a) r w v = (omega (arith, h), omega (arith, k), raised_binds_in linked i j (n + 1) (m + 1) (omega (arith, h)) (omega (arith, k)) bs ((n + 1) ∷ (counts_in linked (n + 1) a r)) ((m + 1) ∷ (counts_in linked (m + 1) a w)) ((omega (arith, h), omega (arith, k), raised_in linked i j (n + 1) (m + 1) (omega (arith, h)) (omega (arith, k)) a r w v)))
+  raised_in linked i j n m h k (if_then_else p a q b t c) r w v = (omega (arith, h), omega (arith, k), raised_in linked i j (n + 1) (m + 1) (omega (arith, h)) (omega (arith, k)) a ((n + 1) ∷ (counts_in linked (n + 1) b ((n + 1) ∷ (counts_in linked (n + 1) c r)))) ((m + 1) ∷ (counts_in linked (m + 1) b ((m + 1) ∷ (counts_in linked (m + 1) c w)))) ((omega (arith, h), omega (arith, k), raised_in linked i j (n + 1) (m + 1) (omega (arith, h)) (omega (arith, k)) b ((n + 1) ∷ (counts_in linked (n + 1) c r)) ((m + 1) ∷ (counts_in linked (m + 1) c w)) ((omega (arith, h), omega (arith, k), raised_in linked i j (n + 1) (m + 1) (omega (arith, h)) (omega (arith, k)) c r w v)))))
+  raised_in linked i j n m h k (cases p xs) r w v = (omega (arith, h), omega (arith, k), raised_arms_in linked i j (n + 1) (m + 1) (omega (arith, h)) (omega (arith, k)) xs r w v)
+  raised_in linked i j n m h k (local p ls q a) r w v = (omega (arith, h), omega (arith, k), raised_locals_in linked i j (n + 1) (m + 1) (omega (arith, h)) (omega (arith, k)) ls ((n + 1) ∷ (counts_in linked (n + 1) a r)) ((m + 1) ∷ (counts_in linked (m + 1) a w)) ((omega (arith, h), omega (arith, k), raised_in linked i j (n + 1) (m + 1) (omega (arith, h)) (omega (arith, k)) a r w v)))
+  raised_in linked i j n m h k (infix_of a p o b) r w v = raised_in linked i j n m (omega (arith, h)) (omega (arith, k)) a ((n + chain a + 1) ∷ (counts_in linked (n + chain a + 1) b r)) ((m + chain a + 1) ∷ (counts_in linked (m + chain a + 1) b w)) ((omega (arith, h), omega (arith, k), raised_in linked i j (n + chain a + 1) (m + chain a + 1) (omega (arith, h)) (omega (arith, k)) b r w v))
+  raised_in linked i j n m h k (prefix_of p o a) r w v = (omega (arith, h), omega (arith, k), raised_in linked i j (n + 1) (m + 1) (omega (arith, h)) (omega (arith, k)) a r w v)
 
-  pub raised_all : (i j n m : ℕ) → n + i ≤ m → m ≤ n + j → (xs : Phrases) (r w : List ℕ) → Raised i j r w → Raised i j (counts_all n xs r) (counts_all m xs w)
-  raised_all i j n m h k (last a) r w v = raised_counts i j n m (omega (arith, h)) (omega (arith, k)) a r w v
-  raised_all i j n m h k (more a p xs) r w v = raised_counts i j n m (omega (arith, h)) (omega (arith, k)) a (n ∷ (counts_all n xs r)) (m ∷ (counts_all m xs w)) ((omega (arith, h), omega (arith, k), raised_all i j n m (omega (arith, h)) (omega (arith, k)) xs r w v))
+  pub raised_all_in : (linked : Bool) (i j n m : ℕ) → n + i ≤ m → m ≤ n + j → (xs : Phrases) (r w : List ℕ) → Raised i j r w → Raised i j (all_in linked n xs r) (all_in linked m xs w)
+  raised_all_in linked i j n m h k (last a) r w v = raised_in linked i j n m (omega (arith, h)) (omega (arith, k)) a r w v
+  raised_all_in linked i j n m h k (more a p xs) r w v = raised_in linked i j n m (omega (arith, h)) (omega (arith, k)) a (n ∷ (all_in linked n xs r)) (m ∷ (all_in linked m xs w)) ((omega (arith, h), omega (arith, k), raised_all_in linked i j n m (omega (arith, h)) (omega (arith, k)) xs r w v))
 
-  pub raised_binds : (i j n m : ℕ) → n + i ≤ m → m ≤ n + j → (bs : Binds) (r w : List ℕ) → Raised i j r w → Raised i j (counts_binds n bs r) (counts_binds m bs w)
-  raised_binds i j n m h k (last_bind p x q a) r w v = (omega (arith, h), omega (arith, k), (omega (arith, h), omega (arith, k), raised_counts i j n m (omega (arith, h)) (omega (arith, k)) a r w v))
-  raised_binds i j n m h k (bind p x q a t bs) r w v = (omega (arith, h), omega (arith, k), (omega (arith, h), omega (arith, k), raised_counts i j n m (omega (arith, h)) (omega (arith, k)) a (n ∷ (counts_binds n bs r)) (m ∷ (counts_binds m bs w)) ((omega (arith, h), omega (arith, k), raised_binds i j n m (omega (arith, h)) (omega (arith, k)) bs r w v))))
-  raised_binds i j n m h k (share p x q bs) r w v = (omega (arith, h), omega (arith, k), (omega (arith, h), omega (arith, k), raised_binds i j n m (omega (arith, h)) (omega (arith, k)) bs r w v))
+  pub raised_binds_in : (linked : Bool) (i j n m : ℕ) → n + i ≤ m → m ≤ n + j → (bs : Binds) (r w : List ℕ) → Raised i j r w → Raised i j (binds_in linked n bs r) (binds_in linked m bs w)
+  raised_binds_in linked i j n m h k (last_bind p x q a) r w v = (omega (arith, h), omega (arith, k), (omega (arith, h), omega (arith, k), raised_in linked i j n m (omega (arith, h)) (omega (arith, k)) a r w v))
+  raised_binds_in linked i j n m h k (bind p x q a t bs) r w v = (omega (arith, h), omega (arith, k), (omega (arith, h), omega (arith, k), raised_in linked i j n m (omega (arith, h)) (omega (arith, k)) a (n ∷ (binds_in linked n bs r)) (m ∷ (binds_in linked m bs w)) ((omega (arith, h), omega (arith, k), raised_binds_in linked i j n m (omega (arith, h)) (omega (arith, k)) bs r w v))))
+  raised_binds_in linked i j n m h k (share p x q bs) r w v = (omega (arith, h), omega (arith, k), (omega (arith, h), omega (arith, k), raised_binds_in linked i j n m (omega (arith, h)) (omega (arith, k)) bs r w v))
 
-  pub raised_fields : (i j n m : ℕ) → n + i ≤ m → m ≤ n + j → (fs : Fields) (r w : List ℕ) → Raised i j r w → Raised i j (counts_fields n fs r) (counts_fields m fs w)
-  raised_fields i j n m h k (last_field f p a) r w v = (omega (arith, h), omega (arith, k), (omega (arith, h), omega (arith, k), raised_counts i j n m (omega (arith, h)) (omega (arith, k)) a r w v))
-  raised_fields i j n m h k (field f p a q fs) r w v = (omega (arith, h), omega (arith, k), (omega (arith, h), omega (arith, k), raised_counts i j n m (omega (arith, h)) (omega (arith, k)) a (n ∷ (counts_fields n fs r)) (m ∷ (counts_fields m fs w)) ((omega (arith, h), omega (arith, k), raised_fields i j n m (omega (arith, h)) (omega (arith, k)) fs r w v))))
+  pub raised_fields_in : (linked : Bool) (i j n m : ℕ) → n + i ≤ m → m ≤ n + j → (fs : Fields) (r w : List ℕ) → Raised i j r w → Raised i j (fields_in linked n fs r) (fields_in linked m fs w)
+  raised_fields_in linked i j n m h k (last_field f p a) r w v = (omega (arith, h), omega (arith, k), (omega (arith, h), omega (arith, k), raised_in linked i j n m (omega (arith, h)) (omega (arith, k)) a r w v))
+  raised_fields_in linked i j n m h k (field f p a q fs) r w v = (omega (arith, h), omega (arith, k), (omega (arith, h), omega (arith, k), raised_in linked i j n m (omega (arith, h)) (omega (arith, k)) a (n ∷ (fields_in linked n fs r)) (m ∷ (fields_in linked m fs w)) ((omega (arith, h), omega (arith, k), raised_fields_in linked i j n m (omega (arith, h)) (omega (arith, k)) fs r w v))))
 
-  pub raised_settings : (i j n m : ℕ) → n + i ≤ m → m ≤ n + j → (ss : Settings) (r w : List ℕ) → Raised i j r w → Raised i j (counts_settings n ss r) (counts_settings m ss w)
-  raised_settings i j n m h k (last_setting p path q a) r w v = (omega (arith, h), omega (arith, k), raised_path i j n m (omega (arith, h)) (omega (arith, k)) path (n ∷ (counts n a r)) (m ∷ (counts m a w)) ((omega (arith, h), omega (arith, k), raised_counts i j n m (omega (arith, h)) (omega (arith, k)) a r w v)))
-  raised_settings i j n m h k (setting p path q a t ss) r w v = (omega (arith, h), omega (arith, k), raised_path i j n m (omega (arith, h)) (omega (arith, k)) path (n ∷ (counts n a (n ∷ (counts_settings n ss r)))) (m ∷ (counts m a (m ∷ (counts_settings m ss w)))) ((omega (arith, h), omega (arith, k), raised_counts i j n m (omega (arith, h)) (omega (arith, k)) a (n ∷ (counts_settings n ss r)) (m ∷ (counts_settings m ss w)) ((omega (arith, h), omega (arith, k), raised_settings i j n m (omega (arith, h)) (omega (arith, k)) ss r w v)))))
+  pub raised_settings_in : (linked : Bool) (i j n m : ℕ) → n + i ≤ m → m ≤ n + j → (ss : Settings) (r w : List ℕ) → Raised i j r w → Raised i j (settings_in linked n ss r) (settings_in linked m ss w)
+  raised_settings_in linked i j n m h k (last_setting p path q a) r w v = (omega (arith, h), omega (arith, k), raised_path_in linked i j n m (omega (arith, h)) (omega (arith, k)) path (n ∷ (counts_in linked n a r)) (m ∷ (counts_in linked m a w)) ((omega (arith, h), omega (arith, k), raised_in linked i j n m (omega (arith, h)) (omega (arith, k)) a r w v)))
+  raised_settings_in linked i j n m h k (setting p path q a t ss) r w v = (omega (arith, h), omega (arith, k), raised_path_in linked i j n m (omega (arith, h)) (omega (arith, k)) path (n ∷ (counts_in linked n a (n ∷ (settings_in linked n ss r)))) (m ∷ (counts_in linked m a (m ∷ (settings_in linked m ss w)))) ((omega (arith, h), omega (arith, k), raised_in linked i j n m (omega (arith, h)) (omega (arith, k)) a (n ∷ (settings_in linked n ss r)) (m ∷ (settings_in linked m ss w)) ((omega (arith, h), omega (arith, k), raised_settings_in linked i j n m (omega (arith, h)) (omega (arith, k)) ss r w v)))))
 
-  pub raised_path : (i j n m : ℕ) → n + i ≤ m → m ≤ n + j → (path : Path) (r w : List ℕ) → Raised i j r w → Raised i j (counts_path n path r) (counts_path m path w)
-  raised_path i j n m h k path_end r w v = v
-  raised_path i j n m h k (index p xs q path) r w v = (omega (arith, h), omega (arith, k), raised_all i j (n + 1) (m + 1) (omega (arith, h)) (omega (arith, k)) xs ((n + 1) ∷ (counts_path n path r)) ((m + 1) ∷ (counts_path m path w)) ((omega (arith, h), omega (arith, k), raised_path i j n m (omega (arith, h)) (omega (arith, k)) path r w v)))
-  raised_path i j n m h k (at_field p f path) r w v = (omega (arith, h), omega (arith, k), (omega (arith, h), omega (arith, k), raised_path i j n m (omega (arith, h)) (omega (arith, k)) path r w v))
+  pub raised_path_in : (linked : Bool) (i j n m : ℕ) → n + i ≤ m → m ≤ n + j → (path : Path) (r w : List ℕ) → Raised i j r w → Raised i j (path_in linked n path r) (path_in linked m path w)
+  raised_path_in linked i j n m h k path_end r w v = v
+  raised_path_in linked i j n m h k (index p xs q path) r w v = (omega (arith, h), omega (arith, k), raised_all_in linked i j (n + 1) (m + 1) (omega (arith, h)) (omega (arith, k)) xs ((n + 1) ∷ (path_in linked n path r)) ((m + 1) ∷ (path_in linked m path w)) ((omega (arith, h), omega (arith, k), raised_path_in linked i j n m (omega (arith, h)) (omega (arith, k)) path r w v)))
+  raised_path_in linked i j n m h k (at_field p f path) r w v = (omega (arith, h), omega (arith, k), (omega (arith, h), omega (arith, k), raised_path_in linked i j n m (omega (arith, h)) (omega (arith, k)) path r w v))
 
-  pub raised_bullets : (i j n m : ℕ) → n + i ≤ m → m ≤ n + j → (bs : Bullets) (r w : List ℕ) → Raised i j r w → Raised i j (counts_bullets n bs r) (counts_bullets m bs w)
-  raised_bullets i j n m h k (last_bullet p a) r w v = (omega (arith, h), omega (arith, k), raised_counts i j (n + 1) (m + 1) (omega (arith, h)) (omega (arith, k)) a r w v)
-  raised_bullets i j n m h k (bullet p a bs) r w v = (omega (arith, h), omega (arith, k), raised_counts i j (n + 1) (m + 1) (omega (arith, h)) (omega (arith, k)) a (counts_bullets (n + 1) bs r) (counts_bullets (m + 1) bs w) (raised_bullets i j (n + 1) (m + 1) (omega (arith, h)) (omega (arith, k)) bs r w v))
+  pub raised_bullets_in : (linked : Bool) (i j n m : ℕ) → n + i ≤ m → m ≤ n + j → (bs : Bullets) (r w : List ℕ) → Raised i j r w → Raised i j (bullets_in linked n bs r) (bullets_in linked m bs w)
+  raised_bullets_in linked i j n m h k (last_bullet p a) r w v = (omega (arith, h), omega (arith, k), raised_in linked i j (n + 1) (m + 1) (omega (arith, h)) (omega (arith, k)) a r w v)
+  raised_bullets_in linked i j n m h k (bullet p a bs) r w v = (omega (arith, h), omega (arith, k), raised_in linked i j (n + 1) (m + 1) (omega (arith, h)) (omega (arith, k)) a (bullets_in linked (n + 1) bs r) (bullets_in linked (m + 1) bs w) (raised_bullets_in linked i j (n + 1) (m + 1) (omega (arith, h)) (omega (arith, k)) bs r w v))
 
-  pub raised_arms : (i j n m : ℕ) → n + i ≤ m → m ≤ n + j → (xs : Arms) (r w : List ℕ) → Raised i j r w → Raised i j (counts_arms n xs r) (counts_arms m xs w)
-  raised_arms i j n m h k (last_arm a p b) r w v = raised_counts i j n m (omega (arith, h)) (omega (arith, k)) a (n ∷ (counts n b r)) (m ∷ (counts m b w)) ((omega (arith, h), omega (arith, k), raised_counts i j n m (omega (arith, h)) (omega (arith, k)) b r w v))
-  raised_arms i j n m h k (other_arm a p b q s t c) r w v = raised_counts i j n m (omega (arith, h)) (omega (arith, k)) a (n ∷ (counts n b (n ∷ (n ∷ (n ∷ (counts n c r)))))) (m ∷ (counts m b (m ∷ (m ∷ (m ∷ (counts m c w)))))) ((omega (arith, h), omega (arith, k), raised_counts i j n m (omega (arith, h)) (omega (arith, k)) b (n ∷ (n ∷ (n ∷ (counts n c r)))) (m ∷ (m ∷ (m ∷ (counts m c w)))) ((omega (arith, h), omega (arith, k), (omega (arith, h), omega (arith, k), (omega (arith, h), omega (arith, k), raised_counts i j n m (omega (arith, h)) (omega (arith, k)) c r w v))))))
-  raised_arms i j n m h k (arm a p b q xs) r w v = raised_counts i j n m (omega (arith, h)) (omega (arith, k)) a (n ∷ (counts n b (n ∷ (counts_arms n xs r)))) (m ∷ (counts m b (m ∷ (counts_arms m xs w)))) ((omega (arith, h), omega (arith, k), raised_counts i j n m (omega (arith, h)) (omega (arith, k)) b (n ∷ (counts_arms n xs r)) (m ∷ (counts_arms m xs w)) ((omega (arith, h), omega (arith, k), raised_arms i j n m (omega (arith, h)) (omega (arith, k)) xs r w v))))
+  pub raised_arms_in : (linked : Bool) (i j n m : ℕ) → n + i ≤ m → m ≤ n + j → (xs : Arms) (r w : List ℕ) → Raised i j r w → Raised i j (arms_in linked n xs r) (arms_in linked m xs w)
+  raised_arms_in linked i j n m h k (last_arm a p b) r w v = raised_in linked i j n m (omega (arith, h)) (omega (arith, k)) a (n ∷ (counts_in linked n b r)) (m ∷ (counts_in linked m b w)) ((omega (arith, h), omega (arith, k), raised_in linked i j n m (omega (arith, h)) (omega (arith, k)) b r w v))
+  raised_arms_in linked i j n m h k (other_arm a p b q s t c) r w v = raised_in linked i j n m (omega (arith, h)) (omega (arith, k)) a (n ∷ (counts_in linked n b (n ∷ (n ∷ (n ∷ (counts_in linked n c r)))))) (m ∷ (counts_in linked m b (m ∷ (m ∷ (m ∷ (counts_in linked m c w)))))) ((omega (arith, h), omega (arith, k), raised_in linked i j n m (omega (arith, h)) (omega (arith, k)) b (n ∷ (n ∷ (n ∷ (counts_in linked n c r)))) (m ∷ (m ∷ (m ∷ (counts_in linked m c w)))) ((omega (arith, h), omega (arith, k), (omega (arith, h), omega (arith, k), (omega (arith, h), omega (arith, k), raised_in linked i j n m (omega (arith, h)) (omega (arith, k)) c r w v))))))
+  raised_arms_in linked i j n m h k (arm a p b q xs) r w v = raised_in linked i j n m (omega (arith, h)) (omega (arith, k)) a (n ∷ (counts_in linked n b (n ∷ (arms_in linked n xs r)))) (m ∷ (counts_in linked m b (m ∷ (arms_in linked m xs w)))) ((omega (arith, h), omega (arith, k), raised_in linked i j n m (omega (arith, h)) (omega (arith, k)) b (n ∷ (arms_in linked n xs r)) (m ∷ (arms_in linked m xs w)) ((omega (arith, h), omega (arith, k), raised_arms_in linked i j n m (omega (arith, h)) (omega (arith, k)) xs r w v))))
 
-  pub raised_locals : (i j n m : ℕ) → n + i ≤ m → m ≤ n + j → (ls : Locals) (r w : List ℕ) → Raised i j r w → Raised i j (counts_locals n ls r) (counts_locals m ls w)
-  raised_locals i j n m h k (last_local p x q a) r w v = (omega (arith, h), omega (arith, k), (omega (arith, h), omega (arith, k), raised_counts i j n m (omega (arith, h)) (omega (arith, k)) a r w v))
-  raised_locals i j n m h k (more_locals p x q a ls) r w v = (omega (arith, h), omega (arith, k), (omega (arith, h), omega (arith, k), raised_counts i j n m (omega (arith, h)) (omega (arith, k)) a (counts_locals n ls r) (counts_locals m ls w) (raised_locals i j n m (omega (arith, h)) (omega (arith, k)) ls r w v)))
+  pub raised_locals_in : (linked : Bool) (i j n m : ℕ) → n + i ≤ m → m ≤ n + j → (ls : Locals) (r w : List ℕ) → Raised i j r w → Raised i j (locals_in linked n ls r) (locals_in linked m ls w)
+  raised_locals_in linked i j n m h k (last_local p x q a) r w v = (omega (arith, h), omega (arith, k), (omega (arith, h), omega (arith, k), raised_in linked i j n m (omega (arith, h)) (omega (arith, k)) a r w v))
+  raised_locals_in linked i j n m h k (more_locals p x q a ls) r w v = (omega (arith, h), omega (arith, k), (omega (arith, h), omega (arith, k), raised_in linked i j n m (omega (arith, h)) (omega (arith, k)) a (locals_in linked n ls r) (locals_in linked m ls w) (raised_locals_in linked i j n m (omega (arith, h)) (omega (arith, k)) ls r w v)))
+
+pub raised_counts : (i j n m : ℕ) → n + i ≤ m → m ≤ n + j → (a : Phrase) (r w : List ℕ) → Raised i j r w → Raised i j (counts n a r) (counts m a w)
+raised_counts i j n m h k a r w v = raised_in true i j n m h k a r w v

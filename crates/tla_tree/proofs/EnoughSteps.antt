@@ -1,5 +1,5 @@
 -- Enough steps are enough: with more of them each reader does the same, within a limit as without.
-use Rattle.std.proofs.Common.{◌≡◌, ℕ, suc, ◌+◌, ◌-◌, ◌≤◌, ◌||◌, ◌&&◌, not, nat_eq, nat_le, Bool, true, false, Option, Some, None, refl, ap, arith, option_map}
+use Rattle.std.proofs.Common.{◌≡◌, ℕ, suc, ◌+◌, ◌-◌, ◌≤◌, ◌||◌, ◌&&◌, not, nat_eq, nat_le, Bool, true, false, Option, Some, None, refl, ap, subst, arith, option_map}
 use Rattle.tla_token.specs.declared.place.Place.{Place}
 use Rattle.tla_tree.specs.declared.op.Op.{Op}
 use Rattle.tla_tree.specs.declared.op.Op.TheVariants as op
@@ -7,9 +7,9 @@ use Rattle.tla_tree.specs.Tree.{Word}
 use Rattle.tla_tree.specs.Rank.{is_bullet}
 use Rattle.tla_tree.specs.Lexical.{Mark, Key, TokenView}
 use Rattle.tla_tree.specs.Lexical as tk
-use Rattle.tla_tree.specs.Nesting.{links}
+use Rattle.tla_tree.specs.Nesting.{links, before}
 use Rattle.tla_tree.specs.Spelling.{Field, Phrase, Binds, Path, can_be_head, is_some_path, takes_box}
-use Rattle.tla_tree.specs.Reader.{Limit, Room, room, less, within, opened, opened_after, read_by, so_far, chain_of, chain_behind, Reader, ◌>>=◌, is_mark, is_key, is_sign, place_if, a_mark, a_key, a_sign, word_of, field_of, a_word, a_field, bullet_of, Context, free, right_of, under, behind, bound, is_free, prefix_by, goes_on, element, Readers, ended, named, from_name, set_rest, image_rest, brace_rest, set_from, member_rest, brace_name, braces, tuples, field_rest, function_rest, square_rest, square_from, bind_rest, square_member, plain_field, square_name, squares, list_if, primary, quantifier, choice_from, keyed, under_by, signed, operand, short_signed, short_by, apply_if, select_if, postfix_by, climb_if, climb_by, phrases_by, binds_by, fields_by, settings_by, setting_if, path_by, bullets_if, arms_other, arms_if, arms_by, locals_by, one_step, no_steps}
+use Rattle.tla_tree.specs.Reader.{Limit, Room, room, less, within, opened, opened_if, opened_after, read_by, so_far, chain_of, chain_behind, Reader, ◌>>=◌, is_mark, is_key, is_sign, place_if, a_mark, a_key, a_sign, word_of, field_of, a_word, a_field, bullet_of, Context, free, right_of, under, behind, bound, is_free, prefix_by, goes_on, element, Readers, ended, named, from_name, set_rest, image_rest, brace_rest, set_from, member_rest, brace_name, braces, tuples, field_rest, function_rest, square_rest, square_from, bind_rest, square_member, plain_field, square_name, squares, list_if, primary, quantifier, choice_from, keyed, under_by, signed, operand, short_signed, short_by, apply_if, select_if, postfix_by, climb_if, climb_by, phrases_by, binds_by, fields_by, settings_by, setting_if, path_by, bullets_if, arms_other, arms_if, arms_by, locals_by, one_step, no_steps}
 use Rattle.tla_tree.proofs.Opened.{in_call, in_brackets, in_braces, in_tuples, in_squares, in_choice, in_cases, in_local, in_quantifier, in_signed, in_short, in_apply, in_select, in_climb, in_index, in_bullets}
 use Rattle.tla_tree.proofs.Enough.{IsFair, weaker, fair_gives, fair_refuses, fair_deep, fair_skip, fair_peek, fair_bind, fair_take, fair_fits}
 
@@ -44,6 +44,7 @@ pub record Both (n : ℕ) : Type 0 where
   pub h : AreFair n r q
   pub at : (j : ℕ) → Alike n (m.at j) (k.at j)
   pub fits : (j : ℕ) (a : Phrase) → m.fits j a ≡ k.fits j a
+  pub linked : m.linked ≡ k.linked
 
 -- ---- a token, and then on
 module _ {B : Type 0} {b n : ℕ} (l : b ≤ n + 4) where
@@ -63,15 +64,15 @@ module _ {B : Type 0} {b n : ℕ} (l : b ≤ n + 4) where
   fair_field e h = fair_take l h e field_of
 
 -- ---- one form more
-fair_read : {A : Type 0} {b n : ℕ} (k : ℕ) (m i : Room) (at : (j : ℕ) → Alike n (m.at j) (i.at j)) (fits : (j : ℕ) (a : Phrase) → m.fits j a ≡ i.fits j a) (f g : Room → Readers → Reader A)
+fair_read : {A : Type 0} {b n : ℕ} (k : ℕ) (m i : Room) (at : (j : ℕ) → Alike n (m.at j) (i.at j)) (fits : (j : ℕ) (a : Phrase) → m.fits j a ≡ i.fits j a) (linked : m.linked ≡ i.linked) (f g : Room → Readers → Reader A)
     → ((v : Both n) → IsFair b (f v.m v.r) (g v.k v.q)) → (o p : Option Readers) → Alike n o p → IsFair b (read_by o (f (within k m))) (read_by p (g (within k i)))
-fair_read k m i at fits f g h (Some r) (Some q) x = h (record { m = within k m; k = within k i; r = r; q = q; h = x; at = λ j. at (suc k + j); fits = λ j. fits (suc k + j) })
-fair_read k m i at fits f g h (Some r) None x = absurd x
-fair_read k m i at fits f g h None (Some q) x = absurd x
-fair_read k m i at fits f g h None None x = fair_deep
+fair_read k m i at fits linked f g h (Some r) (Some q) x = h (record { m = within k m; k = within k i; r = r; q = q; h = x; at = λ j. at (suc k + j); fits = λ j. fits (suc k + j); linked = linked })
+fair_read k m i at fits linked f g h (Some r) None x = absurd x
+fair_read k m i at fits linked f g h None (Some q) x = absurd x
+fair_read k m i at fits linked f g h None None x = fair_deep
 
 fair_opened : {A : Type 0} {b n : ℕ} (w : Both n) (k : ℕ) (f g : Room → Readers → Reader A) → ((v : Both n) → IsFair b (f v.m v.r) (g v.k v.q)) → IsFair b (opened w.m k f) (opened w.k k g)
-fair_opened w k f g h = fair_read k w.m w.k w.at w.fits f g h (w.m.at (suc k)) (w.k.at (suc k)) (w.at (suc k))
+fair_opened w k f g h = fair_read k w.m w.k w.at w.fits w.linked f g h (w.m.at (suc k)) (w.k.at (suc k)) (w.at (suc k))
 
 fair_some : {A : Type 0} {b n : ℕ} (w : Both n) (k : Option ℕ) (f g : Room → Readers → Reader A) → ((v : Both n) → IsFair b (f v.m v.r) (g v.k v.q)) → IsFair b (opened_after w.m k f) (opened_after w.k k g)
 fair_some w (Some k) f g h = fair_opened w k f g h
@@ -257,11 +258,16 @@ module _ (n : ℕ) where
 
   -- ---- loops
   fair_apply : (w : Both n) → (b : Bool) (e : ℕ) (a : Phrase) (p : Place) → IsFair (n + 3) (apply_if b w.m w.r e a p) (apply_if b w.k w.q e a p)
-  fair_apply w true e a p = fair_opened w (links a) (in_apply w.r e a p) (in_apply w.q e a p) (λ v. fair_skip l3 (fair_bind (v.h.phrases e) (λ xs. fair_mark l0 e tk.close_square (λ s. postfix w e _))))
+  fair_apply w true e a p = subst (λ (t : Bool). IsFair (n + 3) (opened w.m (before w.m.linked a) (in_apply w.r e a p)) (opened w.k (before t a) (in_apply w.q e a p))) w.linked
+      (fair_opened w (before w.m.linked a) (in_apply w.r e a p) (in_apply w.q e a p) (λ v. fair_skip l3 (fair_bind (v.h.phrases e) (λ xs. fair_mark l0 e tk.close_square (λ s. postfix w e _)))))
   fair_apply w false e a p = fair_gives
 
   fair_select : (w : Both n) → (b : Bool) (e : ℕ) (a : Phrase) (p : Place) → IsFair (n + 3) (select_if b w.m w.r e a p) (select_if b w.k w.q e a p)
-  fair_select w true e a p = fair_opened w (links a) (in_select w.r e a p) (in_select w.q e a p) (λ v. fair_skip l3 (fair_field l0 e (λ f. postfix w e _)))
+  fair_select w true e a p = subst (λ (t : Bool). IsFair (n + 3) (opened_if w.m.linked w.m w.r (links a) (in_select w.r e a p)) (opened_if t w.k w.q (links a) (in_select w.q e a p))) w.linked (by w.m.linked)
+    where
+      by : (t : Bool) → IsFair (n + 3) (opened_if t w.m w.r (links a) (in_select w.r e a p)) (opened_if t w.k w.q (links a) (in_select w.q e a p))
+      by true = fair_opened w (links a) (in_select w.r e a p) (in_select w.q e a p) (λ v. fair_skip l3 (fair_field l0 e (λ f. postfix w e _)))
+      by false = fair_skip l3 (fair_field l0 e (λ f. postfix w e _))
   fair_select w false e a p = fair_gives
 
   fair_postfix : (w : Both n) → (e : ℕ) (a : Phrase) (p : Place) (k : TokenView) → IsFair (n + 3) (postfix_by w.m w.r e a p k) (postfix_by w.k w.q e a p k)
@@ -362,14 +368,18 @@ some_left : (n : ℕ) (f g : Limit → Readers) → ((b : Limit) → AreFair n (
 some_left n f g h true b k = h (Some (b - k))
 some_left n f g h false b k = tt
 
-module _ (n : ℕ) (f g : Limit → Readers) (h : (b : Limit) → AreFair n (f b) (g b)) where
-  alike_left : (b : Limit) (j : ℕ) → Alike n ((room f b).at j) ((room g b).at j)
+module _ (linked : Bool) (n : ℕ) (f g : Limit → Readers) (h : (b : Limit) → AreFair n (f b) (g b)) where
+  alike_left : (b : Limit) (j : ℕ) → Alike n ((room linked f b).at j) ((room linked g b).at j)
   alike_left None j = h None
   alike_left (Some b) j = some_left n f g h (nat_le j b) b j
 
-  same_fits : (b : Limit) (j : ℕ) (a : Phrase) → (room f b).fits j a ≡ (room g b).fits j a
+  same_fits : (b : Limit) (j : ℕ) (a : Phrase) → (room linked f b).fits j a ≡ (room linked g b).fits j a
   same_fits None j a = refl
   same_fits (Some b) j a = refl
 
-  pub fair_one_step : (b : Limit) → AreFair (suc n) (one_step (room f b) (f b)) (one_step (room g b) (g b))
-  fair_one_step b = fair_step n (record { m = room f b; k = room g b; r = f b; q = g b; h = h b; at = alike_left b; fits = same_fits b })
+  same_linked : (b : Limit) → (room linked f b).linked ≡ (room linked g b).linked
+  same_linked None = refl
+  same_linked (Some b) = refl
+
+  pub fair_one_step : (b : Limit) → AreFair (suc n) (one_step (room linked f b) (f b)) (one_step (room linked g b) (g b))
+  fair_one_step b = fair_step n (record { m = room linked f b; k = room linked g b; r = f b; q = g b; h = h b; at = alike_left b; fits = same_fits b; linked = same_linked b })

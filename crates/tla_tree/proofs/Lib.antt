@@ -75,6 +75,7 @@ pub mod LimitedForms
 pub mod LimitedSets
 pub mod LimitedAll
 pub mod LimitedStops
+pub mod ReadBounded
 pub mod CountsMoved
 pub mod ReadWithin
 mod RowsDeepest

@@ -31,28 +31,28 @@ use Rattle.tla_tree.proofs.Limited.{Late, Plain, Past, On, told_ok, told_err}
 use Rattle.tla_tree.proofs.LimitedAll.{limited}
 
 pub beside : (ts : List Token) → On true deepest_expression (λ u. u) (λ a u. counts 0 a u) ts (read_limited ts) (read 0 ts)
-beside ts = (limited deepest_expression (4 * length ts) 0 deepest_expression (omega arith)).expr 0 free refl (λ u. u) held ts
+beside ts = (limited true deepest_expression (4 * length ts) 0 deepest_expression (omega arith)).expr 0 free refl (λ u. u) held ts
 
 -- it is read without the limit too, and is no deeper
 pub read_within : (ts rest : List Token) (a : Phrase) → read_limited ts ≡ Ok (a, rest) → (read 0 ts ≡ Ok (a, rest)) × (text_nesting a ≤ deepest_expression)
 read_within ts rest a o = (let w = told_ok (beside ts) o in (w.0, greatest_fits (counts 0 a []) deepest_expression (w.1 (λ e u i. i) refl [] tt)))
 
 -- and what is no deeper is read within the limit
-fit_or_deep : (b : ℕ) (ns : List ℕ) (m : ℕ) → Fit b ns → Deep b ns m → ⊥
+pub fit_or_deep : (b : ℕ) (ns : List ℕ) (m : ℕ) → Fit b ns → Deep b ns m → ⊥
 fit_or_deep b [] m f d = d
 fit_or_deep b (n ∷ ns) m f (inl (l, k)) = (let h = f.0 in absurd (omega (arith, h, l)))
 fit_or_deep b (n ∷ ns) m f (inr d) = fit_or_deep b ns m f.1 d
 
-noughts : List Token → List ℕ
+pub noughts : List Token → List ℕ
 noughts [] = []
 noughts (t ∷ ts) = 0 ∷ noughts ts
 
-as_long : (ts : List Token) → length (noughts ts) ≡ length ts
+pub as_long : (ts : List Token) → length (noughts ts) ≡ length ts
 unfolding noughts
 as_long [] = refl
 as_long (t ∷ ts) = (let h = as_long ts in omega (arith, h))
 
-noughts_fit : (b : ℕ) (ts : List Token) → Fit b (noughts ts)
+pub noughts_fit : (b : ℕ) (ts : List Token) → Fit b (noughts ts)
 unfolding noughts
 noughts_fit b [] = tt
 noughts_fit b (t ∷ ts) = (omega arith, noughts_fit b ts)

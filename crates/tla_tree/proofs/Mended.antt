@@ -211,11 +211,11 @@ infix_few p x q b t o w fix k = (at b, λ c i. by (is_above op.In (applied o)) r
 
 pub record Mends (lim : Bool) (most base : ℕ) (r : Readers) (n : Needs) : Type 0 where
   pub expr : (e : ℕ) (c : Context) → is_behind_in c ≡ false → (ts : List Token) (u : Stop) → r.expr e c ts ≡ Err u → Mend lim (n.expr e c ts) (Small lim most (counts base)) (Few counts 1) (Fits c e) spell ts u.1
-  pub set : (e : ℕ) (p : Place) (x : Word) (q : Place) (ts : List Token) (u : Stop) → r.expr e (behind p x q) ts ≡ Err u → Mend lim (n.expr e (behind p x q) ts) (Alive lim most base p x q) (FewBoth p x q) (Good e) spell ts u.1
+  pub set : (e : ℕ) (p : Place) (x : Word) (q : Place) (ts : List Token) (u : Stop) → r.expr e (behind p x q) ts ≡ Err u → Mend lim (n.expr e (behind p x q) ts) (Alive true lim most base p x q) (FewBoth p x q) (Good e) spell ts u.1
   pub short : (e : ℕ) (ts : List Token) (u : Stop) → r.short e ts ≡ Err u → Mend lim (n.short e ts) (Small lim most (counts base)) (Few counts 1) (Brief e) spell ts u.1
   pub postfix : (e : ℕ) (b : Phrase) → Good e b → is_primary (head b) ≡ true → Small lim most (counts base) b → (ts : List Token) (u : Stop) → r.postfix e b ts ≡ Err u → Mend lim (n.postfix e b ts) (Small lim most (counts base)) (Few counts 1) (Prime e) spell (spell b ts) u.1
   pub climb : (e : ℕ) (c : Context) → is_behind_in c ≡ false → (b : Phrase) → Good e b → fits c b ≡ true → Small lim most (counts base) b → (ts : List Token) (u : Stop) → r.climb e c b ts ≡ Err u → Mend lim (n.climb e c b ts) (Small lim most (counts base)) (Few counts 1) (Fits c e) spell (spell b ts) u.1
-  pub climb_set : (e : ℕ) (p : Place) (x : Word) (q : Place) (b : Phrase) → Good e b → Alive lim most base p x q b → (ts : List Token) (u : Stop) → r.climb e (behind p x q) b ts ≡ Err u → Mend lim (n.climb e (behind p x q) b ts) (Alive lim most base p x q) (FewBoth p x q) (Good e) spell (spell b ts) u.1
+  pub climb_set : (e : ℕ) (p : Place) (x : Word) (q : Place) (b : Phrase) → Good e b → Alive true lim most base p x q b → (ts : List Token) (u : Stop) → r.climb e (behind p x q) b ts ≡ Err u → Mend lim (n.climb e (behind p x q) b ts) (Alive true lim most base p x q) (FewBoth p x q) (Good e) spell (spell b ts) u.1
   pub phrases : (e : ℕ) (ts : List Token) (u : Stop) → r.phrases e ts ≡ Err u → Mend lim (n.phrases e ts) (Small lim most (counts_all base)) (Few counts_all 1) (GoodAll e) spell_all ts u.1
   pub binds : (e : ℕ) (p : Place) (x : Word) → Right e p → (ts : List Token) (u : Stop) → r.binds e p x ts ≡ Err u → Mend lim (n.binds e p x ts) (Small lim most (counts_binds base)) (Few counts_binds 3) (GoodBinds e) spell_binds (word p x ts) u.1
   pub fields : (e : ℕ) (m : Mark) (f : Field) → Right e f.place → (ts : List Token) (u : Stop) → r.fields e m f ts ≡ Err u → Mend lim (n.fields e m f ts) (Small lim most (counts_fields base)) (Few counts_fields 3) (GoodFields e) (spell_fields m) (field_token f ts) u.1
@@ -249,7 +249,7 @@ any_needs most base r n w h = record {
 abbrev pub AliveFirst : Bool → ℕ → ℕ → Place → Word → Place → Phrase → Type 0
 AliveFirst lim most k p x q a = Small lim most (counts k) a ⊎ ((lim ≡ true) × (c : Phrase) × (element p x q a ≡ Some c) × Small lim most (counts k) c)
 
-pub alive_first : (lim : Bool) (most k : ℕ) (p : Place) (x : Word) (q : Place) (a : Phrase) → Alive lim most k p x q a → AliveFirst lim most k p x q a
+pub alive_first : (lim : Bool) (most k : ℕ) (p : Place) (x : Word) (q : Place) (a : Phrase) → Alive true lim most k p x q a → AliveFirst lim most k p x q a
 alive_first true most k p x q a (inl f) = inl f
 alive_first true most k p x q a (inr f) = inr (refl, f.0, f.1, f.2)
 alive_first false most k p x q a f = inl (λ z. absurd cc)
@@ -261,16 +261,17 @@ ReadersMend lim most base n None = lim ≡ true
 
 pub record MendsRoom (lim : Bool) (most base : ℕ) (m : Room) (n : Needs) : Type 0 where
   pub at : (j c : ℕ) → c ≡ base + j → ReadersMend lim most c n (m.at j)
+  pub linked : m.linked ≡ true
 
 -- refused at the token of a form, or inside it
-pub opened_by : {A : Type 0} {ws : Wants} (R : Wants → Type 0) (lim : Bool) (most base : ℕ) (m : Room) (q : Readers) → IsRoom lim most base m q → {n : Needs} → MendsRoom lim most base m n → (j c : ℕ) → c ≡ base + suc j → (f : Room → Readers → Reader A) (g : Room → Readers → Need) (ts : List Token) (u : Stop) → opened m j f ts ≡ Err u
-    → (lim ≡ true → ts ≡ u.1 → R ws) → ((i : Room) (d : Readers) → AreLimited lim most c d q → IsRoom lim most c i q → Mends lim most c d n → MendsRoom lim most c i n → f i d ts ≡ Err u → R (g i d ts)) → R (need_opened m j ws g ts)
-opened_by {A} {ws} R lim most base m q v {n} w j c e f g ts u o here inner = by (m.at (suc j)) (v.at (suc j) c e) (w.at (suc j) c e) o
+pub opened_by : {A : Type 0} {ws : Wants} (R : Wants → Type 0) (lim : Bool) (most base : ℕ) (m : Room) (q : Readers) → IsRoom true lim most base m q → {n : Needs} → MendsRoom lim most base m n → (j c : ℕ) → c ≡ base + suc j → (f : Room → Readers → Reader A) (g : Room → Readers → Need) (ts : List Token) (u : Stop) → opened m j f ts ≡ Err u
+    → (lim ≡ true → ts ≡ u.1 → R ws) → ((i : Room) (d : Readers) → AreLimited true lim most c d q → IsRoom true lim most c i q → Mends lim most c d n → MendsRoom lim most c i n → f i d ts ≡ Err u → R (g i d ts)) → R (need_opened m j ws g ts)
+opened_by {A} {ws} R lim most base m q v {n} w j c e f g ts u o here inner = by (m.at (suc j)) (v.at (suc j) c (λ z. e)) (w.at (suc j) c e) o
   where
-    by : (z : Option Readers) → ReadersFit lim most c q z → ReadersMend lim most c n z → read_by z (f (within j m)) ts ≡ Err u → R (need_by z ws (g (within j m)) ts)
-    by (Some d) t k o = inner (within j m) d t (inner_room lim most base m q v j c e) k (record { at = λ i d' e'. w.at (suc j + i) d' (omega (arith, e, e')) }) o
+    by : (z : Option Readers) → ReadersFit true lim most c q z → ReadersMend lim most c n z → read_by z (f (within j m)) ts ≡ Err u → R (need_by z ws (g (within j m)) ts)
+    by (Some d) t k o = inner (within j m) d t (inner_room true lim most base m q v j c (λ z. e)) k (record { at = λ i d' e'. w.at (suc j + i) d' (omega (arith, e, e')); linked = w.linked }) o
     by None t k o = here k (deep_is {A = A} o)
 
-pub opened_err : {A C : Type 0} {ws : Wants} {K : C → List Token → Type 0} {F Q : C → Type 0} {put : C → List Token → List Token} {ss v : List Token} (lim : Bool) (most base : ℕ) (m : Room) (q : Readers) → IsRoom lim most base m q → {n : Needs} → MendsRoom lim most base m n → (j c : ℕ) → c ≡ base + suc j → (f : Room → Readers → Reader A) (g : Room → Readers → Need) (ts : List Token) (u : Stop) → opened m j f ts ≡ Err u
-    → (ts ≡ u.1 → Mend lim ws F K Q put ss v) → ((i : Room) (d : Readers) → AreLimited lim most c d q → IsRoom lim most c i q → Mends lim most c d n → MendsRoom lim most c i n → f i d ts ≡ Err u → Mend lim (g i d ts) F K Q put ss v) → Mend lim (need_opened m j ws g ts) F K Q put ss v
+pub opened_err : {A C : Type 0} {ws : Wants} {K : C → List Token → Type 0} {F Q : C → Type 0} {put : C → List Token → List Token} {ss v : List Token} (lim : Bool) (most base : ℕ) (m : Room) (q : Readers) → IsRoom true lim most base m q → {n : Needs} → MendsRoom lim most base m n → (j c : ℕ) → c ≡ base + suc j → (f : Room → Readers → Reader A) (g : Room → Readers → Need) (ts : List Token) (u : Stop) → opened m j f ts ≡ Err u
+    → (ts ≡ u.1 → Mend lim ws F K Q put ss v) → ((i : Room) (d : Readers) → AreLimited true lim most c d q → IsRoom true lim most c i q → Mends lim most c d n → MendsRoom lim most c i n → f i d ts ≡ Err u → Mend lim (g i d ts) F K Q put ss v) → Mend lim (need_opened m j ws g ts) F K Q put ss v
 opened_err {A} {C} {ws} {K} {F} {Q} {put} {ss} {v} lim most base m q i {n} w j c e f g ts u o here inner = opened_by (λ (z : Wants). Mend lim z F K Q put ss v) lim most base m q i w j c e f g ts u o (λ l. here) inner

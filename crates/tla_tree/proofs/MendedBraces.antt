@@ -36,7 +36,7 @@ module _ (lim : Bool) (most base : ℕ) (low : lim ≡ true → base + 1 ≤ mos
   fits_in_squares : Mend lim ws (Small lim most (counts (base + 1))) (Few counts 1) (Fits free e) spell us u → ts ≡ mark p tk.open_square us → Mend lim (around ws (an_arrow e)) (Small lim most (counts base)) (Few counts 1) (Prime e) spell ts u
   fits_in_squares m s = inside (λ v. mark p tk.open_square v) (put_ahead held) (mark_at e tk.arrow ∷ number_at e ∷ mark_at e tk.close_square ∷ []) m (functions p m.whole (after e) (some e) (after e)) ((g, m.good.0, right_after e, right_after e, right_after e), refl) (λ z c i. search (low, m.fits)) (λ k n. cut_inside (λ u. ((n + 1) ∷ u)) (put_ahead held) (λ u. ((n + 1) ∷ ((n + 1) ∷ ((n + 1) ∷ u)))) (mark_at e tk.arrow ∷ number_at e ∷ mark_at e tk.close_square ∷ []) (λ u. refl) (λ u. omega arith) (inr ((n + 1), λ u. refl, omega arith)) (omega arith) m.fix (k (n + 1))) (λ v. refl) s
 
-module _ (lim : Bool) (most base : ℕ) (rm : Room) (r full : Readers) (sq : Sound full) (al : AreLimited lim most base r full) (iv : IsRoom lim most base rm full) {nd : Needs} (h : Mends lim most base r nd) (mv : MendsRoom lim most base rm nd) where
+module _ (lim : Bool) (most base : ℕ) (rm : Room) (r full : Readers) (sq : Sound full) (al : AreLimited true lim most base r full) (iv : IsRoom true lim most base rm full) {nd : Needs} (h : Mends lim most base r nd) (mv : MendsRoom lim most base rm nd) where
   -- ---- names
   named_mended : (e : ℕ) (p : Place) (x : Word) → Right e p → (t : Place) (k : TokenView) (ts : List Token) (u : Stop) → next e ts ≡ token t k → named rm e p x t k ts ≡ Err u → Mend lim (need_named rm nd e k ts) (Small lim most (counts base)) (Few counts 1) (Prime e) spell (word p x ts) u.1
   named_mended e p x g t (tk.mark tk.open_bracket) ts u i o =
@@ -69,7 +69,7 @@ module _ (lim : Bool) (most base : ℕ) (rm : Room) (r full : Readers) (sq : Sou
       (λ bs vs l o. gives_err (bind q x t b j bs) vs u o)))
   bind_mended e q x t gq gt b gb fb j k ts u i o = absurd cc
 
-module _ (lim : Bool) (most base : ℕ) (rm : Room) (r full : Readers) (sq : Sound full) (al : AreLimited lim most (base + 1) r full) (iv : IsRoom lim most (base + 1) rm full) {nd : Needs} (h : Mends lim most (base + 1) r nd) (mv : MendsRoom lim most (base + 1) rm nd) where
+module _ (lim : Bool) (most base : ℕ) (rm : Room) (r full : Readers) (sq : Sound full) (al : AreLimited true lim most (base + 1) r full) (iv : IsRoom true lim most (base + 1) rm full) {nd : Needs} (h : Mends lim most (base + 1) r nd) (mv : MendsRoom lim most (base + 1) rm nd) where
   s : Read lim most (base + 1) r
   s = are_read lim most (base + 1) r full sq al
 
@@ -113,11 +113,11 @@ module _ (lim : Bool) (most base : ℕ) (rm : Room) (r full : Readers) (sq : Sou
       let w = element_is e q x t gq gt b c gb i in
       regive (λ z. not_both l z) (onto (ap (λ (vs : List Token). mark p tk.open_brace vs) (w.1 ts)) (missing (λ v. mark p tk.open_brace (spell c v)) (put_ahead (ahead c)) (mark_at e tk.close_brace ∷ []) (set_of p (last c) (after e)) ((g, w.0, right_after e), refl) (λ z c i. search (al.low, f)) (λ n. cut_missing (λ u. ((n + 1) ∷ (counts (n + 1) c u))) (put_ahead (then_ahead (cnt.ahead_counts (n + 1) c) (held))) (λ u. ((n + 1) ∷ u)) (mark_at e tk.close_brace ∷ []) (λ u. refl) (λ u. omega arith) (inr ((n + 1), λ u. refl, omega arith))) (λ v. refl) (rw d refl)))
 
-  member_here : (e : ℕ) (p : Place) → Right e p → (q : Place) (x : Word) (t : Place) → Right e q → Right e t → (b : Phrase) → Good e b → Alive lim most (base + 1) q x t b → (ts : List Token) (u : Stop) → ts ≡ u.1 → Member (a_filter e ∷ []) e p q x t b ts u.1
+  member_here : (e : ℕ) (p : Place) → Right e p → (q : Place) (x : Word) (t : Place) → Right e q → Right e t → (b : Phrase) → Good e b → Alive true lim most (base + 1) q x t b → (ts : List Token) (u : Stop) → ts ≡ u.1 → Member (a_filter e ∷ []) e p q x t b ts u.1
   member_here e p g q x t gq gt b gb a ts u d = member_by e p g q x t gq gt b gb (alive_first lim most (base + 1) q x t b a) ts u d
 
   -- within S
-  member_inside : {ws : Wants} (e : ℕ) (p : Place) → Right e p → (q : Place) (x : Word) (t : Place) → Right e q → Right e t → (us u : List Token) → (m : Mend lim ws (Alive lim most (base + 1) q x t) (FewBoth q x t) (Good e) spell us u) → Mend lim (around ws (a_filter e)) (Small lim most (counts base)) (Few counts 1) (Prime e) spell (mark p tk.open_brace (word q x (sign t op.In us))) u
+  member_inside : {ws : Wants} (e : ℕ) (p : Place) → Right e p → (q : Place) (x : Word) (t : Place) → Right e q → Right e t → (us u : List Token) → (m : Mend lim ws (Alive true lim most (base + 1) q x t) (FewBoth q x t) (Good e) spell us u) → Mend lim (around ws (a_filter e)) (Small lim most (counts base)) (Few counts 1) (Prime e) spell (mark p tk.open_brace (word q x (sign t op.In us))) u
   member_inside {ws} e p g q x t gq gt us u m = by (alive_first lim most (base + 1) q x t m.whole m.fits)
     where
       by : AliveFirst lim most (base + 1) q x t m.whole → Mend lim (around ws (a_filter e)) (Small lim most (counts base)) (Few counts 1) (Prime e) spell (mark p tk.open_brace (word q x (sign t op.In us))) u
@@ -126,16 +126,16 @@ module _ (lim : Bool) (most base : ℕ) (rm : Room) (r full : Readers) (sq : Sou
           let w = element_is e q x t gq gt m.whole c m.good i in
           regive (λ z. not_both l z) (inside (λ v. mark p tk.open_brace (word q x (sign t op.In v))) (put_ahead (put_ahead (put_ahead held))) (mark_at e tk.close_brace ∷ []) m (set_of p (last c) (after e)) ((g, w.0, right_after e), refl) (λ z c i. search (al.low, f)) (λ k n. cut_inside (λ u. (n + 1) ∷ u) (put_ahead held) (λ u. (n + 1) ∷ u) (mark_at e tk.close_brace ∷ []) (λ u. refl) (λ u. omega arith) (inr ((n + 1), λ u. refl, omega arith)) (omega arith) m.fix (k.1 c i (n + 1))) (λ v. ap (λ (vs : List Token). mark p tk.open_brace vs) (w.1 (mark_at e tk.close_brace ∷ v))) refl)
 
-  set_at : (e : ℕ) (p : Place) → Right e p → (q : Place) (x : Word) (t : Place) → Right e q → Right e t → (b : Phrase) → Good e b → Alive lim most (base + 1) q x t b → (c : Phrase) → element q x t b ≡ Some c → (j : Place) (k : TokenView) (ts : List Token) (u : Stop) → next e ts ≡ token j k
+  set_at : (e : ℕ) (p : Place) → Right e p → (q : Place) (x : Word) (t : Place) → Right e q → Right e t → (b : Phrase) → Good e b → Alive true lim most (base + 1) q x t b → (c : Phrase) → element q x t b ≡ Some c → (j : Place) (k : TokenView) (ts : List Token) (u : Stop) → next e ts ≡ token j k
       → if_fits (rm.fits 0 c || not (is_mark tk.comma k || is_mark tk.close_brace k)) (set_rest r e p c j k) ts ≡ Err u → Member (need_element rm r nd e c k ts) e p q x t b ts u.1
-  set_at e p g q x t gq gt b gb al' c ci j (tk.mark tk.comma) ts u i o = by (rm.fits 0 c) (iv.fits 0 (base + 1) here al.low c) o
+  set_at e p g q x t gq gt b gb al' c ci j (tk.mark tk.comma) ts u i o = by (rm.fits 0 c) (iv.fits 0 (base + 1) (λ z. here) al.low c) o
     where
-      by : (f : Bool) → PhraseFits lim most (base + 1) c f → if_fits (f || false) (set_rest r e p c j (tk.mark tk.comma)) ts ≡ Err u → Member (need_fit f (a_filter e ∷ []) (need_set r nd e (tk.mark tk.comma)) ts) e p q x t b ts u.1
+      by : (f : Bool) → PhraseFits true lim most (base + 1) c f → if_fits (f || false) (set_rest r e p c j (tk.mark tk.comma)) ts ≡ Err u → Member (need_fit f (a_filter e ∷ []) (need_set r nd e (tk.mark tk.comma)) ts) e p q x t b ts u.1
       by true f o = (let w = element_is e q x t gq gt b c gb ci in onto (ap (λ (vs : List Token). mark p tk.open_brace vs) (w.1 ts)) (set_mended e p g c w.0 f j (tk.mark tk.comma) ts u i o))
       by false f o = member_here e p g q x t gq gt b gb al' ts u (deep_is {A = Phrase} o)
-  set_at e p g q x t gq gt b gb al' c ci j (tk.mark tk.close_brace) ts u i o = by (rm.fits 0 c) (iv.fits 0 (base + 1) here al.low c) o
+  set_at e p g q x t gq gt b gb al' c ci j (tk.mark tk.close_brace) ts u i o = by (rm.fits 0 c) (iv.fits 0 (base + 1) (λ z. here) al.low c) o
     where
-      by : (f : Bool) → PhraseFits lim most (base + 1) c f → if_fits (f || false) (set_rest r e p c j (tk.mark tk.close_brace)) ts ≡ Err u → Member (a_filter e ∷ []) e p q x t b ts u.1
+      by : (f : Bool) → PhraseFits true lim most (base + 1) c f → if_fits (f || false) (set_rest r e p c j (tk.mark tk.close_brace)) ts ≡ Err u → Member (a_filter e ∷ []) e p q x t b ts u.1
       by true f o = member_here e p g q x t gq gt b gb al' ts u (ended_err e tk.close_brace (λ z. set_of p (last c) z) ts u o)
       by false f o = member_here e p g q x t gq gt b gb al' ts u (deep_is {A = Phrase} o)
   set_at e p g q x t gq gt b gb al' c ci j k ts u i o = by (rm.fits 0 c) o
@@ -144,17 +144,17 @@ module _ (lim : Bool) (most base : ℕ) (rm : Room) (r full : Readers) (sq : Sou
       by true o = member_here e p g q x t gq gt b gb al' ts u (ended_err e tk.close_brace (λ z. set_of p (last c) z) ts u o)
       by false o = member_here e p g q x t gq gt b gb al' ts u (ended_err e tk.close_brace (λ z. set_of p (last c) z) ts u o)
 
-  set_from_mended : (e : ℕ) (p : Place) → Right e p → (q : Place) (x : Word) (t : Place) → Right e q → Right e t → (b : Phrase) → Good e b → Alive lim most (base + 1) q x t b → (ts : List Token) (u : Stop) → set_from rm r e p (element q x t b) ts ≡ Err u → Member (need_set_from rm r nd e (element q x t b) ts) e p q x t b ts u.1
+  set_from_mended : (e : ℕ) (p : Place) → Right e p → (q : Place) (x : Word) (t : Place) → Right e q → Right e t → (b : Phrase) → Good e b → Alive true lim most (base + 1) q x t b → (ts : List Token) (u : Stop) → set_from rm r e p (element q x t b) ts ≡ Err u → Member (need_set_from rm r nd e (element q x t b) ts) e p q x t b ts u.1
   set_from_mended e p g q x t gq gt b gb al' ts u o = by (element q x t b) refl o
     where
       by : (m : Option Phrase) → element q x t b ≡ m → set_from rm r e p m ts ≡ Err u → Member (need_set_from rm r nd e m ts) e p q x t b ts u.1
       by (Some c) i o = set_at e p g q x t gq gt b gb al' c i (next e ts).place (next e ts).kind ts u refl o
       by None i o = member_here e p g q x t gq gt b gb al' ts u (left_is {A = Phrase} o)
 
-  member_mended : (e : ℕ) (p : Place) → Right e p → (q : Place) (x : Word) (t : Place) → Right e q → Right e t → (b : Phrase) → Good e b → Alive lim most (base + 1) q x t b → (j : Place) (k : TokenView) (ts : List Token) (u : Stop) → next e ts ≡ token j k → member_rest rm r e p q x t b j k ts ≡ Err u → Member (need_member rm r nd e q x t b k ts) e p q x t b ts u.1
-  member_mended e p g q x t gq gt b gb al' j (tk.mark tk.colon) ts u i o = by (rm.fits 0 b) (iv.fits 0 (base + 1) here al.low b) o
+  member_mended : (e : ℕ) (p : Place) → Right e p → (q : Place) (x : Word) (t : Place) → Right e q → Right e t → (b : Phrase) → Good e b → Alive true lim most (base + 1) q x t b → (j : Place) (k : TokenView) (ts : List Token) (u : Stop) → next e ts ≡ token j k → member_rest rm r e p q x t b j k ts ≡ Err u → Member (need_member rm r nd e q x t b k ts) e p q x t b ts u.1
+  member_mended e p g q x t gq gt b gb al' j (tk.mark tk.colon) ts u i o = by (rm.fits 0 b) (iv.fits 0 (base + 1) (λ z. here) al.low b) o
     where
-      by : (f : Bool) → PhraseFits lim most (base + 1) b f → if_fits f (skip (r.expr e free >>= λ a. ended e tk.close_brace (λ z. filter p q x t b j a z))) ts ≡ Err u → Member (need_fit f (a_filter e ∷ []) (need_condition r nd e) ts) e p q x t b ts u.1
+      by : (f : Bool) → PhraseFits true lim most (base + 1) b f → if_fits f (skip (r.expr e free >>= λ a. ended e tk.close_brace (λ z. filter p q x t b j a z))) ts ≡ Err u → Member (need_fit f (a_filter e ∷ []) (need_condition r nd e) ts) e p q x t b ts u.1
       by true fb o =
           let n = seen e ts j (tk.mark tk.colon) i refl in
           refused_part o
@@ -263,10 +263,10 @@ module _ (lim : Bool) (most base : ℕ) (rm : Room) (r full : Readers) (sq : Sou
       let w = element_is e q x t gq gt b c gb i in
       regive (λ z. not_both l z) (onto (ap (λ (vs : List Token). mark p tk.open_square vs) (w.1 ts)) (missing (λ v. mark p tk.open_square (spell c v)) (put_ahead (ahead c)) (mark_at e tk.arrow ∷ number_at e ∷ mark_at e tk.close_square ∷ []) (functions p c (after e) (some e) (after e)) ((g, w.0, right_after e, right_after e, right_after e), refl) (λ z c i. search (al.low, f)) (λ n. cut_missing (λ u. ((n + 1) ∷ (counts (n + 1) c u))) (put_ahead (then_ahead (cnt.ahead_counts (n + 1) c) (held))) (λ u. ((n + 1) ∷ ((n + 1) ∷ ((n + 1) ∷ u)))) (mark_at e tk.arrow ∷ number_at e ∷ mark_at e tk.close_square ∷ []) (λ u. refl) (λ u. omega arith) (inr ((n + 1), λ u. refl, omega arith))) (λ v. refl) (rw d refl)))
 
-  square_here : (e : ℕ) (p : Place) → Right e p → (q : Place) (x : Word) (t : Place) → Right e q → Right e t → (b : Phrase) → Good e b → Alive lim most (base + 1) q x t b → (ts : List Token) (u : Stop) → ts ≡ u.1 → SquareMember (a_value e ∷ []) e p q x t b ts u.1
+  square_here : (e : ℕ) (p : Place) → Right e p → (q : Place) (x : Word) (t : Place) → Right e q → Right e t → (b : Phrase) → Good e b → Alive true lim most (base + 1) q x t b → (ts : List Token) (u : Stop) → ts ≡ u.1 → SquareMember (a_value e ∷ []) e p q x t b ts u.1
   square_here e p g q x t gq gt b gb a ts u d = square_by e p g q x t gq gt b gb (alive_first lim most (base + 1) q x t b a) ts u d
 
-  square_inside : {ws : Wants} (e : ℕ) (p : Place) → Right e p → (q : Place) (x : Word) (t : Place) → Right e q → Right e t → (us u : List Token) → (m : Mend lim ws (Alive lim most (base + 1) q x t) (FewBoth q x t) (Good e) spell us u) → Mend lim (around ws (a_value e)) (Small lim most (counts base)) (Few counts 1) (Prime e) spell (mark p tk.open_square (word q x (sign t op.In us))) u
+  square_inside : {ws : Wants} (e : ℕ) (p : Place) → Right e p → (q : Place) (x : Word) (t : Place) → Right e q → Right e t → (us u : List Token) → (m : Mend lim ws (Alive true lim most (base + 1) q x t) (FewBoth q x t) (Good e) spell us u) → Mend lim (around ws (a_value e)) (Small lim most (counts base)) (Few counts 1) (Prime e) spell (mark p tk.open_square (word q x (sign t op.In us))) u
   square_inside {ws} e p g q x t gq gt us u m = by (alive_first lim most (base + 1) q x t m.whole m.fits)
     where
       by : AliveFirst lim most (base + 1) q x t m.whole → Mend lim (around ws (a_value e)) (Small lim most (counts base)) (Few counts 1) (Prime e) spell (mark p tk.open_square (word q x (sign t op.In us))) u
@@ -275,16 +275,16 @@ module _ (lim : Bool) (most base : ℕ) (rm : Room) (r full : Readers) (sq : Sou
           let w = element_is e q x t gq gt m.whole c m.good i in
           regive (λ z. not_both l z) (inside (λ v. mark p tk.open_square (word q x (sign t op.In v))) (put_ahead (put_ahead (put_ahead held))) (mark_at e tk.arrow ∷ number_at e ∷ mark_at e tk.close_square ∷ []) m (functions p c (after e) (some e) (after e)) ((g, w.0, right_after e, right_after e, right_after e), refl) (λ z c i. search (al.low, f)) (λ k n. cut_inside (λ u. (n + 1) ∷ u) (put_ahead held) (λ u. (n + 1) ∷ (n + 1) ∷ (n + 1) ∷ u) (mark_at e tk.arrow ∷ number_at e ∷ mark_at e tk.close_square ∷ []) (λ u. refl) (λ u. omega arith) (inr ((n + 1), λ u. refl, omega arith)) (omega arith) m.fix (k.1 c i (n + 1))) (λ v. ap (λ (vs : List Token). mark p tk.open_square vs) (w.1 (mark_at e tk.arrow ∷ number_at e ∷ mark_at e tk.close_square ∷ v))) refl)
 
-  square_at : (e : ℕ) (p : Place) → Right e p → (q : Place) (x : Word) (t : Place) → Right e q → Right e t → (b : Phrase) → Good e b → Alive lim most (base + 1) q x t b → (c : Phrase) → element q x t b ≡ Some c → (j : Place) (k : TokenView) (ts : List Token) (u : Stop) → next e ts ≡ token j k
+  square_at : (e : ℕ) (p : Place) → Right e p → (q : Place) (x : Word) (t : Place) → Right e q → Right e t → (b : Phrase) → Good e b → Alive true lim most (base + 1) q x t b → (c : Phrase) → element q x t b ≡ Some c → (j : Place) (k : TokenView) (ts : List Token) (u : Stop) → next e ts ≡ token j k
       → if_fits (rm.fits 0 c || not (is_mark tk.arrow k || is_key tk.except_key k)) (square_rest r e p c j k) ts ≡ Err u → SquareMember (need_left rm r nd e c k ts) e p q x t b ts u.1
-  square_at e p g q x t gq gt b gb al' c ci j (tk.mark tk.arrow) ts u i o = by (rm.fits 0 c) (iv.fits 0 (base + 1) here al.low c) o
+  square_at e p g q x t gq gt b gb al' c ci j (tk.mark tk.arrow) ts u i o = by (rm.fits 0 c) (iv.fits 0 (base + 1) (λ z. here) al.low c) o
     where
-      by : (f : Bool) → PhraseFits lim most (base + 1) c f → if_fits (f || false) (square_rest r e p c j (tk.mark tk.arrow)) ts ≡ Err u → SquareMember (need_fit f (a_value e ∷ []) (need_square r nd e (tk.mark tk.arrow)) ts) e p q x t b ts u.1
+      by : (f : Bool) → PhraseFits true lim most (base + 1) c f → if_fits (f || false) (square_rest r e p c j (tk.mark tk.arrow)) ts ≡ Err u → SquareMember (need_fit f (a_value e ∷ []) (need_square r nd e (tk.mark tk.arrow)) ts) e p q x t b ts u.1
       by true f o = (let w = element_is e q x t gq gt b c gb ci in onto (ap (λ (vs : List Token). mark p tk.open_square vs) (w.1 ts)) (square_mended e p g c w.0 f j (tk.mark tk.arrow) ts u i o))
       by false f o = square_here e p g q x t gq gt b gb al' ts u (deep_is {A = Phrase} o)
-  square_at e p g q x t gq gt b gb al' c ci j (tk.key tk.except_key) ts u i o = by (rm.fits 0 c) (iv.fits 0 (base + 1) here al.low c) o
+  square_at e p g q x t gq gt b gb al' c ci j (tk.key tk.except_key) ts u i o = by (rm.fits 0 c) (iv.fits 0 (base + 1) (λ z. here) al.low c) o
     where
-      by : (f : Bool) → PhraseFits lim most (base + 1) c f → if_fits (f || false) (square_rest r e p c j (tk.key tk.except_key)) ts ≡ Err u → SquareMember (need_fit f (a_value e ∷ []) (need_square r nd e (tk.key tk.except_key)) ts) e p q x t b ts u.1
+      by : (f : Bool) → PhraseFits true lim most (base + 1) c f → if_fits (f || false) (square_rest r e p c j (tk.key tk.except_key)) ts ≡ Err u → SquareMember (need_fit f (a_value e ∷ []) (need_square r nd e (tk.key tk.except_key)) ts) e p q x t b ts u.1
       by true f o = (let w = element_is e q x t gq gt b c gb ci in onto (ap (λ (vs : List Token). mark p tk.open_square vs) (w.1 ts)) (square_mended e p g c w.0 f j (tk.key tk.except_key) ts u i o))
       by false f o = square_here e p g q x t gq gt b gb al' ts u (deep_is {A = Phrase} o)
   square_at e p g q x t gq gt b gb al' c ci j k ts u i o = by (rm.fits 0 c) o
@@ -293,22 +293,22 @@ module _ (lim : Bool) (most base : ℕ) (rm : Room) (r full : Readers) (sq : Sou
       by true o = square_here e p g q x t gq gt b gb al' ts u (left_is {A = Phrase} {ts = ts} {u = u} o)
       by false o = square_here e p g q x t gq gt b gb al' ts u (left_is {A = Phrase} {ts = ts} {u = u} o)
 
-  square_from_mended : (e : ℕ) (p : Place) → Right e p → (q : Place) (x : Word) (t : Place) → Right e q → Right e t → (b : Phrase) → Good e b → Alive lim most (base + 1) q x t b → (ts : List Token) (u : Stop) → square_from rm r e p (element q x t b) ts ≡ Err u → SquareMember (need_square_from rm r nd e (element q x t b) ts) e p q x t b ts u.1
+  square_from_mended : (e : ℕ) (p : Place) → Right e p → (q : Place) (x : Word) (t : Place) → Right e q → Right e t → (b : Phrase) → Good e b → Alive true lim most (base + 1) q x t b → (ts : List Token) (u : Stop) → square_from rm r e p (element q x t b) ts ≡ Err u → SquareMember (need_square_from rm r nd e (element q x t b) ts) e p q x t b ts u.1
   square_from_mended e p g q x t gq gt b gb al' ts u o = by (element q x t b) refl o
     where
       by : (m : Option Phrase) → element q x t b ≡ m → square_from rm r e p m ts ≡ Err u → SquareMember (need_square_from rm r nd e m ts) e p q x t b ts u.1
       by (Some c) i o = square_at e p g q x t gq gt b gb al' c i (next e ts).place (next e ts).kind ts u refl o
       by None i o = square_here e p g q x t gq gt b gb al' ts u (left_is {A = Phrase} o)
 
-  square_member_mended : (e : ℕ) (p : Place) → Right e p → (q : Place) (x : Word) (t : Place) → Right e q → Right e t → (b : Phrase) → Good e b → Alive lim most (base + 1) q x t b → (j : Place) (k : TokenView) (ts : List Token) (u : Stop) → next e ts ≡ token j k → square_member rm r e p q x t b j k ts ≡ Err u → SquareMember (need_argument rm r nd e q x t b k ts) e p q x t b ts u.1
-  square_member_mended e p g q x t gq gt b gb al' j (tk.mark tk.maps) ts u i o = by (rm.fits 0 b) (iv.fits 0 (base + 1) here al.low b) o
+  square_member_mended : (e : ℕ) (p : Place) → Right e p → (q : Place) (x : Word) (t : Place) → Right e q → Right e t → (b : Phrase) → Good e b → Alive true lim most (base + 1) q x t b → (j : Place) (k : TokenView) (ts : List Token) (u : Stop) → next e ts ≡ token j k → square_member rm r e p q x t b j k ts ≡ Err u → SquareMember (need_argument rm r nd e q x t b k ts) e p q x t b ts u.1
+  square_member_mended e p g q x t gq gt b gb al' j (tk.mark tk.maps) ts u i o = by (rm.fits 0 b) (iv.fits 0 (base + 1) (λ z. here) al.low b) o
     where
-      by : (f : Bool) → PhraseFits lim most (base + 1) b f → if_fits f (function_rest r e p (last_bind q x t b)) ts ≡ Err u → SquareMember (need_fit f (a_value e ∷ []) (need_function r nd e) ts) e p q x t b ts u.1
+      by : (f : Bool) → PhraseFits true lim most (base + 1) b f → if_fits f (function_rest r e p (last_bind q x t b)) ts ≡ Err u → SquareMember (need_fit f (a_value e ∷ []) (need_function r nd e) ts) e p q x t b ts u.1
       by true f o = function_mended e p g (last_bind q x t b) (gq, gt, gb) (λ z c i. search (al.low, f)) ts u o
       by false f o = square_here e p g q x t gq gt b gb al' ts u (deep_is {A = Phrase} o)
-  square_member_mended e p g q x t gq gt b gb al' j (tk.mark tk.comma) ts u i o = by (rm.fits 0 b) (iv.fits 0 (base + 1) here al.low b) o
+  square_member_mended e p g q x t gq gt b gb al' j (tk.mark tk.comma) ts u i o = by (rm.fits 0 b) (iv.fits 0 (base + 1) (λ z. here) al.low b) o
     where
-      by : (f : Bool) → PhraseFits lim most (base + 1) b f → if_fits f (peek e (bind_rest r e q x t b) >>= λ bs. function_rest r e p bs) ts ≡ Err u → SquareMember (need_fit f (a_value e ∷ []) (need_arguments r nd e q x t b) ts) e p q x t b ts u.1
+      by : (f : Bool) → PhraseFits true lim most (base + 1) b f → if_fits f (peek e (bind_rest r e q x t b) >>= λ bs. function_rest r e p bs) ts ≡ Err u → SquareMember (need_fit f (a_value e ∷ []) (need_arguments r nd e q x t b) ts) e p q x t b ts u.1
       by true f o =
           refused_part o
           (λ l. (let m = bind_mended lim most (base + 1) rm r full sq al iv h mv e q x t gq gt b gb f (next e ts).place (next e ts).kind ts u refl l in let z = right_after e in

@@ -1,5 +1,5 @@
 -- What stands before a refused token can be gone on with: primaries, open forms and operators.
-use Rattle.std.proofs.Common.{◌≡◌, ℕ, suc, ◌+◌, ◌≤◌, nat_lt, Bool, true, false, ◌&&◌, not, List, [], ◌∷◌, Option, Some, None, Err, inl, inr, refl, sym, ap, ◌∙◌, arith}
+use Rattle.std.proofs.Common.{◌≡◌, ℕ, suc, ◌+◌, ◌≤◌, nat_lt, Bool, true, false, ◌&&◌, not, List, [], ◌∷◌, Option, Some, None, Err, inl, inr, refl, sym, ap, ◌∙◌, arith, subst}
 use Rattle.std.proofs.lemmas.Bool.{and_parts, not-true}
 use Rattle.tla_token.specs.declared.place.Place.{Place}
 use Rattle.tla_tree.specs.declared.op.Op.{Op}
@@ -14,12 +14,13 @@ use Rattle.tla_tree.specs.Spelling as sp
 use Rattle.tla_tree.specs.Wanted.{after, mark_at, key_at, sign_at, number_at, word_at, Wants, Need, around, or_then, need_opened, need_after, a_number, a_close}
 use Rattle.tla_tree.specs.Needs.{Needs}
 use Rattle.tla_tree.specs.NeedsForms.{need_list, need_brackets, need_in_braces, need_in_tuple, need_in_squares, need_primary, need_quantifier, need_choice, need_local, need_keyed, need_under, need_signed, need_operand, need_short_signed, need_short, need_subscript, need_apply, need_selected, need_select, need_postfix, need_right, need_infix, need_climb}
+use Rattle.tla_tree.proofs.Opened.{in_apply, in_select}
 use Rattle.tla_tree.proofs.DeepCounts as cnt
 use Rattle.tla_tree.proofs.SpellAhead.{held, put_ahead, then_ahead, ahead, ahead_all, ahead_binds, ahead_locals}
 use Rattle.tla_tree.proofs.MendedCounts.{Few, uncut, cut_inside, cut_missing}
 use Rattle.tla_tree.proofs.Mended.{FewBoth, infix_few, right_after, some, some_bind, some_field, Mend, inside, missing, better, onto, regive, not_both, left_is, broken, refused_part, mark_err, key_err, word_err, field_err, gives_err, Fits, Prime, Brief, Mends, MendsRoom, opened_err, deep_is}
-use Rattle.tla_tree.specs.Nesting.{chain, links, counts, counts_all, counts_binds, counts_locals}
-use Rattle.tla_tree.specs.Reader.{Stop, Room, Reader, skip, peek, a_mark, a_key, a_field, opened, opened_after, so_far, behind, is_behind_in, ◌>>=◌, gives, next, tail, peek, Context, free, right_of, under, bound, fits, is_free, prefix_by, goes_on, Readers, list_if, keyed, under_by, signed, operand, short_signed, short_by, apply_if, select_if, postfix_by, climb_if, climb_by}
+use Rattle.tla_tree.specs.Nesting.{chain, links, before, counts, counts_all, counts_binds, counts_locals}
+use Rattle.tla_tree.specs.Reader.{Stop, Room, Reader, skip, peek, a_mark, a_key, a_field, opened, opened_after, so_far, behind, is_behind_in, ◌>>=◌, gives, next, tail, peek, Context, free, right_of, under, bound, fits, is_free, prefix_by, goes_on, Readers, list_if, keyed, under_by, signed, operand, short_signed, short_by, apply_if, select_if, postfix_by, climb_if, climb_by, opened_if}
 use Rattle.tla_tree.specs.Reader as rd
 use Rattle.tla_tree.proofs.ReadStops.{sign_infix}
 use Rattle.tla_tree.proofs.ReadLists.{first_column}
@@ -41,7 +42,7 @@ pub nothing : {R : Phrase → Type 0} (lim : Bool) (most base : ℕ) → (lim �
 nothing lim most base low e ts u g d = missing (λ v. v) held (number_at e ∷ []) (some e) g (λ z c i. search (low)) (λ n. cut_missing (λ u. u) (held) (λ u. (n ∷ u)) (number_at e ∷ []) (λ u. refl) (λ u. omega arith) (inr (n, λ u. refl, omega arith))) (λ v. refl) d
 
 -- within, where one more is open
-module _ (lim : Bool) (most base : ℕ) (r full : Readers) (sq : Sound full) (al : AreLimited lim most (base + 1) r full) {nd : Needs} (h : Mends lim most (base + 1) r nd) where
+module _ (lim : Bool) (most base : ℕ) (r full : Readers) (sq : Sound full) (al : AreLimited true lim most (base + 1) r full) {nd : Needs} (h : Mends lim most (base + 1) r nd) where
   within : Read lim most (base + 1) r
   within = are_read lim most (base + 1) r full sq al
 
@@ -131,7 +132,7 @@ module _ (lim : Bool) (most base : ℕ) (r full : Readers) (sq : Sound full) (al
       inside (λ v. token p (tk.sign o) ∷ v) (put_ahead held) [] y (prefix_of p q y.whole) ((w.0, short_under q y.whole y.good.1, g, y.good.0), y.good.1) (λ z c i. search (al.low, y.fits)) (λ k n. cut_inside (λ u. ((n + 1) ∷ u)) (put_ahead held) (λ u. u) [] (λ u. refl) (λ u. omega arith) (inl (refl, λ u. refl)) (omega arith) y.fix (k (n + 1))) (λ v. rw w.1 refl) refl))
       (λ a us j l. gives_err (prefix_of p q a) us u l)
 
-module _ (lim : Bool) (most base : ℕ) (rm : Room) (r full : Readers) (sq : Sound full) (al : AreLimited lim most base r full) (iv : IsRoom lim most base rm full) {nd : Needs} (h : Mends lim most base r nd) (mv : MendsRoom lim most base rm nd) where
+module _ (lim : Bool) (most base : ℕ) (rm : Room) (r full : Readers) (sq : Sound full) (al : AreLimited true lim most base r full) (iv : IsRoom true lim most base rm full) {nd : Needs} (h : Mends lim most base r nd) (mv : MendsRoom lim most base rm nd) where
   s : Read lim most base r
   s = are_read lim most base r full sq al
 
@@ -256,7 +257,8 @@ module _ (lim : Bool) (most base : ℕ) (rm : Room) (r full : Readers) (sq : Sou
       by : (m : Bool) → can_be_head b p ≡ m → apply_if m rm r e b p ts ≡ Err u → Mend lim (need_apply m rm nd e b p ts) (Small lim most (counts base)) (Few counts 1) (Prime e) spell (spell b ts) u.1
       by true m o =
           let n = seen e ts p (tk.mark tk.open_square) i refl in
-          opened_err lim most base rm full iv mv (links b) (base + links b + 1) (omega arith) (λ i d. skip (d.phrases e >>= λ xs. a_mark e tk.close_square >>= λ q. r.postfix e (apply b p xs q))) (λ i d. need_subscript d nd e b p) ts u o
+          let o' : opened rm (links b) (in_apply r e b p) ts ≡ Err u = subst (λ (t : Bool). opened rm (before t b) (in_apply r e b p) ts ≡ Err u) mv.linked o in
+          opened_err lim most base rm full iv mv (links b) (base + links b + 1) (omega arith) (in_apply r e b p) (λ i d. need_subscript d nd e b p) ts u o'
           (λ d'. so_far_mended e (Prime e) b (g, f) fb ts u d')
           (λ i d ad id hd md o. refused_part o
           (λ j. (let y = hd.phrases e (tail ts) u j in inside (λ v. spell b (mark p tk.open_square v)) (then_ahead (ahead b) (put_ahead held)) (mark_at e tk.close_square ∷ []) y (apply b p y.whole (after e)) ((g, m, n.0, y.good, right_after e), refl) (λ z c i. search (ad.low, fb, y.fits)) (λ k n. cut_inside (λ u. (counts n b ((n + links b + 1) ∷ u))) (then_ahead (cnt.ahead_counts n b) (put_ahead held)) (λ u. ((n + links b + 1) ∷ u)) (mark_at e tk.close_square ∷ []) (λ u. refl) (λ u. omega arith) (inr ((n + links b + 1), λ u. refl, omega arith)) (omega arith) y.fix (k (n + links b + 1))) (λ v. refl) (rw n.1 refl)))
@@ -270,7 +272,8 @@ module _ (lim : Bool) (most base : ℕ) (rm : Room) (r full : Readers) (sq : Sou
       by : (m : Bool) → can_be_head b p ≡ m → select_if m rm r e b p ts ≡ Err u → Mend lim (need_select m rm nd e b p ts) (Small lim most (counts base)) (Few counts 1) (Prime e) spell (spell b ts) u.1
       by true m o =
           let n = seen e ts p (tk.mark tk.dot) i refl in
-          opened_err lim most base rm full iv mv (links b) (base + links b + 1) (omega arith) (λ i d. skip (a_field e >>= λ f. r.postfix e (select b p f))) (λ i d. need_selected nd e b p) ts u o
+          let o' : opened rm (links b) (in_select r e b p) ts ≡ Err u = subst (λ (t : Bool). opened_if t rm r (links b) (in_select r e b p) ts ≡ Err u) mv.linked o in
+          opened_err lim most base rm full iv mv (links b) (base + links b + 1) (omega arith) (in_select r e b p) (λ i d. need_selected nd e b p) ts u o'
           (λ d'. so_far_mended e (Prime e) b (g, f) fb ts u d')
           (λ i d ad id hd md o. refused_part o
           (λ j. (let d'' = field_err e (tail ts) u j in missing (λ v. spell b (mark p tk.dot v)) (then_ahead (ahead b) (put_ahead held)) (word_at e ∷ []) (select b p (some_field e)) ((g, m, n.0, right_after e), refl) (λ z c i. search (ad.low, fb)) (λ n. cut_missing (λ u. (counts n b ((n + links b + 1) ∷ u))) (then_ahead (cnt.ahead_counts n b) (put_ahead held)) (λ u. ((n + links b + 1) ∷ u)) (word_at e ∷ []) (λ u. refl) (λ u. omega arith) (inr ((n + links b + 1), λ u. refl, omega arith))) (λ v. refl) (rw (sym d'', n.1) refl)))
@@ -287,7 +290,7 @@ module _ (lim : Bool) (most base : ℕ) (rm : Room) (r full : Readers) (sq : Sou
           let w = and_parts (not (is_prefix o)) (nat_lt (bound c) (rank o).0 && can_be_left b p o) m in
           let x = and_parts (nat_lt (bound c) (rank o).0) (can_be_left b p o) w.1 in
           let its_sign = sign_infix o (not-true (is_prefix o) w.0) in
-          rw (alone lim most base rm r full al iv c al' b p o) (opened_err lim most base rm full iv mv (chain b) (base + chain b + 1) (omega arith) (λ i d. skip (d.expr e (right_of o) >>= λ a. r.climb e c (infix_of b p o a))) (need_right nd e c b p o) ts u (rw (alone lim most base rm r full al iv c al' b p o) at l)
+          rw (alone true lim most base rm r full al iv c al' b p o) (opened_err lim most base rm full iv mv (chain b) (base + chain b + 1) (omega arith) (λ i d. skip (d.expr e (right_of o) >>= λ a. r.climb e c (infix_of b p o a))) (need_right nd e c b p o) ts u (rw (alone true lim most base rm r full al iv c al' b p o) at l)
           (λ d'. so_far_mended e (Fits c e) b (g, f) fb ts u d')
           (λ i d ad id hd md l. refused_part l
           (λ j. (let y = hd.expr e (right_of o) refl (tail ts) u j in inside (λ v. spell b (token p (tk.sign o) ∷ v)) (then_ahead (ahead b) (put_ahead held)) [] y (infix_of b p o y.whole) ((w.0, x.1, y.good.1, g, n.0, y.good.0), infix_fits c b p o y.whole x.0) (λ z c i. search (ad.low, fb, y.fits)) (λ k n. cut_inside (λ u. (counts n b ((n + chain b + 1) ∷ u))) (then_ahead (cnt.ahead_counts n b) (put_ahead held)) (λ u. u) [] (λ u. refl) (λ u. omega arith) (inl (refl, λ u. refl)) (omega arith) y.fix (k (n + chain b + 1))) (λ v. rw its_sign refl) (rw n.1 refl)))
@@ -296,11 +299,11 @@ module _ (lim : Bool) (most base : ℕ) (rm : Room) (r full : Readers) (sq : Sou
   climb_mended e c al' b g f fb p k ts u i o = gives_err b ts u o
 
   -- behind `x \in`
-  pub set_climb_mended : (e : ℕ) (y : Place) (x : Word) (t : Place) (b : Phrase) → Good e b → Alive lim most base y x t b → (p : Place) (k : TokenView) (ts : List Token) (u : Stop) → next e ts ≡ token p k → climb_by rm r e (behind y x t) b p k ts ≡ Err u → Mend lim (need_climb rm nd e (behind y x t) b p k ts) (Alive lim most base y x t) (FewBoth y x t) (Good e) spell (spell b ts) u.1
+  pub set_climb_mended : (e : ℕ) (y : Place) (x : Word) (t : Place) (b : Phrase) → Good e b → Alive true lim most base y x t b → (p : Place) (k : TokenView) (ts : List Token) (u : Stop) → next e ts ≡ token p k → climb_by rm r e (behind y x t) b p k ts ≡ Err u → Mend lim (need_climb rm nd e (behind y x t) b p k ts) (Alive true lim most base y x t) (FewBoth y x t) (Good e) spell (spell b ts) u.1
   set_climb_mended e y x t b g fb p (tk.sign o) ts u i l = by (goes_on 0 b p o) refl l
     where
       Goal : Wants → Type 0
-      Goal ws = Mend lim ws (Alive lim most base y x t) (FewBoth y x t) (Good e) spell (spell b ts) u.1
+      Goal ws = Mend lim ws (Alive true lim most base y x t) (FewBoth y x t) (Good e) spell (spell b ts) u.1
 
       there : ts ≡ u.1 → Goal []
       there d = missing (λ v. spell b v) (ahead b) [] b g fb (uncut b, λ c i. uncut c) (λ v. refl) (ap (spell b) d)
@@ -311,7 +314,7 @@ module _ (lim : Bool) (most base : ℕ) (rm : Room) (r full : Readers) (sq : Sou
           let w = and_parts (not (is_prefix o)) (nat_lt 0 (rank o).0 && can_be_left b p o) m in
           let z = and_parts (nat_lt 0 (rank o).0) (can_be_left b p o) w.1 in
           let its_sign = sign_infix o (not-true (is_prefix o) w.0) in
-          let alive = alive_after lim most base rm r full al iv sq e y x t (λ u. u) held b o p j eq (base + suc j) refl in
+          let alive = alive_after true lim most base rm r full al iv sq e y x t (λ u. u) held b o p j eq (base + suc j) refl in
           opened_err lim most base rm full iv mv j (base + suc j) refl (λ i d. skip (d.expr e (right_of o) >>= λ a. r.climb e (behind y x t) (infix_of b p o a))) (need_right nd e (behind y x t) b p o) ts u l there
           (λ i d ad id hd md l. refused_part l
           (λ f. (let v = hd.expr e (right_of o) refl (tail ts) u f in inside (λ v. spell b (token p (tk.sign o) ∷ v)) (then_ahead (ahead b) (put_ahead held)) [] v (infix_of b p o v.whole) (w.0, z.1, v.good.1, g, n.0, v.good.0) (alive v.whole ad.low v.fits) (infix_few y x t b p o v.whole v.fix) (λ v. rw its_sign refl) (rw n.1 refl)))

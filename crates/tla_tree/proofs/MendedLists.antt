@@ -21,7 +21,7 @@ use Rattle.tla_tree.proofs.SpellAhead.{held, put_ahead, then_ahead, ahead, ahead
 use Rattle.tla_tree.proofs.MendedCounts.{Heads, Cut, Few, uncut, cut_inside, cut_missing}
 use Rattle.tla_tree.proofs.Mended.{FewBoth, plain_few, better, right_after, some, some_bind, some_field, some_path, Mend, inside, missing, onto, regive, any_needs, not_both, left_is, broken, refused_by, refused_part, no_take, mark_err, sign_err, word_err, field_err, gives_err, Fits, SomePath, Listed, Mends, ReadersMend, MendsRoom, opened_by, opened_err}
 use Rattle.tla_tree.specs.Nesting.{counts, counts_all, counts_binds, counts_fields, counts_settings, counts_path, counts_bullets, counts_arms, counts_locals}
-use Rattle.tla_tree.specs.Reader.{Stop, Room, room, less, any, skip, peek, take, a_mark, behind, is_behind_in, read_limited, ◌>>=◌, gives, next, tail, is_sign, bullet_of, Context, free, Readers, one_step, no_steps, readers, read, phrases_by, binds_by, fields_by, settings_by, setting_if, path_by, bullets_if, arms_other, arms_if, arms_by, locals_by}
+use Rattle.tla_tree.specs.Reader.{Stop, Room, room, less, any, skip, peek, take, a_mark, behind, is_behind_in, read_limited, ◌>>=◌, gives, next, tail, is_sign, bullet_of, Context, free, Readers, one_step, no_steps, readers, readers_in, read, phrases_by, binds_by, fields_by, settings_by, setting_if, path_by, bullets_if, arms_other, arms_if, arms_by, locals_by}
 use Rattle.tla_tree.proofs.SoundTokens.{seen, mark_ok, sign_ok, word_ok, field_ok}
 use Rattle.tla_tree.proofs.SoundPhrases.{Sound}
 use Rattle.tla_tree.proofs.SoundForms.{is_infix, bullet_sign, prime_fits}
@@ -60,7 +60,7 @@ no_locals : (lim : Bool) (most base : ℕ) → (lim ≡ true → base ≤ most) 
 no_locals lim most base low e ts u d = missing (λ v. v) held (word_at e ∷ mark_at e tk.defines ∷ number_at e ∷ []) (last_local (after e) an_x (after e) (some e)) (right_after e, right_after e, right_after e) (λ z c i. search (low)) (λ n. cut_missing (λ u. u) (held) (λ u. (n ∷ (n ∷ (n ∷ u)))) (word_at e ∷ mark_at e tk.defines ∷ number_at e ∷ []) (λ u. refl) (λ u. omega arith) (inr (n, λ u. refl, omega arith))) (λ v. refl) d
 
 -- the column of the next bullet is that of the first
-bullets_mended : (lim : Bool) (most base : ℕ) (r : Readers) {full : Readers} → AreLimited lim most (base + 1) r full → {nd : Needs} → Mends lim most (base + 1) r nd → (e : ℕ) (o : Op) (c : ℕ) → is_bullet o ≡ true → nat_lt e c ≡ true → (p : Place) → Right e p → p.col ≡ c → (a : Phrase) → Good c a → Small lim most (counts (base + 1)) a → (b : Bool) (ts : List Token) → (is_sign o (next e ts).kind && nat_eq c (next e ts).place.col) ≡ b → (u : Stop) → bullets_if b r e o c p a ts ≡ Err u
+bullets_mended : (lim : Bool) (most base : ℕ) (r : Readers) {full : Readers} → AreLimited true lim most (base + 1) r full → {nd : Needs} → Mends lim most (base + 1) r nd → (e : ℕ) (o : Op) (c : ℕ) → is_bullet o ≡ true → nat_lt e c ≡ true → (p : Place) → Right e p → p.col ≡ c → (a : Phrase) → Good c a → Small lim most (counts (base + 1)) a → (b : Bool) (ts : List Token) → (is_sign o (next e ts).kind && nat_eq c (next e ts).place.col) ≡ b → (u : Stop) → bullets_if b r e o c p a ts ≡ Err u
     → Mend lim (nd.bullets e o c ts) (Small lim most (counts_bullets base)) (Few counts_bullets 1) (Listed e c) (spell_bullets o) (sign p o (spell a ts)) u.1
 bullets_mended lim most base r al h e o c ob gc p gp pc a g fa true ts at u i =
     broken i
@@ -71,7 +71,7 @@ bullets_mended lim most base r al h e o c ob gc p gp pc a g fa true ts at u i =
     (λ bs us j l. gives_err (bullet p a bs) us u l)
 bullets_mended lim most base r al h e o c ob gc p gp pc a g fa false ts at u i = gives_err (last_bullet p a) ts u i
 
-module _ (lim : Bool) (most base : ℕ) (rm : Room) (r full : Readers) (sq : Sound full) (al : AreLimited lim most base r full) (iv : IsRoom lim most base rm full) {nd : Needs} (h : Mends lim most base r nd) (mv : MendsRoom lim most base rm nd) where
+module _ (lim : Bool) (most base : ℕ) (rm : Room) (r full : Readers) (sq : Sound full) (al : AreLimited true lim most base r full) (iv : IsRoom true lim most base rm full) {nd : Needs} (h : Mends lim most base r nd) (mv : MendsRoom lim most base rm nd) where
   s : Read lim most base r
   s = are_read lim most base r full sq al
 
@@ -206,7 +206,7 @@ module _ (lim : Bool) (most base : ℕ) (rm : Room) (r full : Readers) (sq : Sou
       (λ j. better (λ a g. (g.0, g.1)) (λ a f. f) (λ a fix g k. k) (operand_mended lim most base rm r full sq al iv h mv e c (next e ts).place (next e ts).kind ts u refl j))
       (λ a us j l. (let w = operand_read lim most base rm r full sq al iv e c (next e ts).place (next e ts).kind ts a us refl j in onto w.2 (h.climb e c n a w.0 w.1 w.3 us u l)))
 
-  set_step : (e : ℕ) (p : Place) (x : Word) (q : Place) (ts : List Token) (u : Stop) → (one_step rm r).expr e (behind p x q) ts ≡ Err u → Mend lim ((step_needs rm r nd).expr e (behind p x q) ts) (Alive lim most base p x q) (FewBoth p x q) (Good e) spell ts u.1
+  set_step : (e : ℕ) (p : Place) (x : Word) (q : Place) (ts : List Token) (u : Stop) → (one_step rm r).expr e (behind p x q) ts ≡ Err u → Mend lim ((step_needs rm r nd).expr e (behind p x q) ts) (Alive true lim most base p x q) (FewBoth p x q) (Good e) spell ts u.1
   set_step e p x q ts u o =
       refused_part o
       (λ j. better (λ a g. g.0) (λ a f. inl f) (λ a fix g k. plain_few p x q a g.2 fix k) (operand_mended lim most base rm r full sq al iv h mv e (behind p x q) (next e ts).place (next e ts).kind ts u refl j))
@@ -319,25 +319,25 @@ no_steps_mended lim most base low = record {
 
 -- without a limit
 mends_any : (most base : ℕ) (r : Readers) (nd : Needs) → ((c : ℕ) → Mends false most c r nd) → MendsRoom false most base (any r) nd
-mends_any most base r nd h = record { at = λ j c e. h c }
+mends_any most base r nd h = record { at = λ j c e. h c; linked = refl }
 
 pub mended : (most n base : ℕ) → Mends false most base (readers n None) (needs n)
-unfolding readers needs
+unfolding readers_in needs
 mended most zero base = no_steps_mended false most base (λ e. absurd cc)
-mended most (suc n) base = step_mended false most base (any (readers n None)) (readers n None) (readers n None) (sound n) (unlimited most n base) (any_room most base (readers n None) (unlimited most n)) (mended most n base) (mends_any most base (readers n None) (needs n) (mended most n))
+mended most (suc n) base = step_mended false most base (any (readers n None)) (readers n None) (readers n None) (sound n) (unlimited true most n base) (any_room true most base (readers n None) (unlimited true most n)) (mended most n base) (mends_any most base (readers n None) (needs n) (mended most n))
 
 -- within a limit, whatever is wanted
-mends_room : (most n base b : ℕ) → base + b ≡ most → ((c b : ℕ) → c + b ≡ most → Mends true most c (readers n (Some b)) first_needs) → MendsRoom true most base (room (readers n) (Some b)) first_needs
-mends_room most n base b e h = record { at = λ j c w. by j c w (nat_le j b) refl }
+mends_room : (most n base b : ℕ) → base + b ≡ most → ((c b : ℕ) → c + b ≡ most → Mends true most c (readers n (Some b)) first_needs) → MendsRoom true most base (room true (readers n) (Some b)) first_needs
+mends_room most n base b e h = record { at = λ j c w. by j c w (nat_le j b) refl; linked = refl }
   where
     by : (j c : ℕ) → c ≡ base + j → (f : Bool) → nat_le j b ≡ f → ReadersMend true most c first_needs (option_map (readers n) (less f b j))
     by j c w true f = (let i = leb-true j b f in h c (b - j) (omega (arith, e, w, i)))
     by j c w false f = refl
 
 pub mended_within : (most n base b : ℕ) → base + b ≡ most → Mends true most base (readers n (Some b)) first_needs
-unfolding readers
+unfolding readers_in
 mended_within most zero base b e = no_steps_mended true most base (λ i. omega (arith, e))
-mended_within most (suc n) base b e = any_needs most base _ _ first_needs (step_mended true most base (room (readers n) (Some b)) (readers n (Some b)) (readers n None) (sound n) (limited most n base b e) (limited_room most n base b e (limited most n)) (mended_within most n base b e) (mends_room most n base b e (mended_within most n)))
+mended_within most (suc n) base b e = any_needs most base _ _ first_needs (step_mended true most base (room true (readers n) (Some b)) (readers n (Some b)) (readers n None) (sound n) (limited true most n base b e) (limited_room true most n base b e (limited true most n)) (mended_within most n base b e) (mends_room most n base b e (mended_within most n)))
 
 -- ---- for each form that is open at the first of the tokens that complete, 16 are enough
 heads_at : (pre back : List ℕ) (n : ℕ) → Heads n back → get_or (pre ++ back) (length pre) 0 ≡ n

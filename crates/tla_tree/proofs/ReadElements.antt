@@ -7,7 +7,7 @@ use Rattle.tla_tree.specs.Tree.{Word}
 use Rattle.tla_tree.specs.Lexical.{TokenView, Token, token}
 use Rattle.tla_tree.specs.Lexical as tk
 use Rattle.tla_tree.specs.Spelling.{Phrase, name, primed, call, set_of, image, Phrases, last, more, apply, select, list, quantified, infix_of, prefix_of, Binds, last_bullet, bullet, mark, sign, word, field_token, spell, spell_all, spell_binds, is_word, is_in, is_bind, Right, Good}
-use Rattle.tla_tree.specs.Reader.{any, Out, then_read, ◌>>=◌, next, peek, free, Readers, readers, from_name, element, set_from, set_rest, member_rest, brace_name, brace_rest, braces}
+use Rattle.tla_tree.specs.Reader.{any, Out, then_read, ◌>>=◌, next, peek, free, Readers, readers, readers_in, from_name, element, set_from, set_rest, member_rest, brace_name, brace_rest, braces}
 use Rattle.tla_tree.proofs.Steps.{steps, steps_all, steps_binds}
 use Rattle.tla_tree.proofs.ReadSoon.{Soon, same}
 use Rattle.tla_tree.proofs.ReadStops.{is_calm, Calm}
@@ -18,7 +18,7 @@ use Rattle.tla_tree.proofs.ReadForms.{is_start, Starts, starts, ReadsBinds}
 -- an expression that begins with a name, after that name
 pub from_word : (e : ℕ) (p : Place) (x : Word) (vs : List Token) (o : Out Phrase) {k : ℕ} → Right e p → Soon k (λ r. r.expr e free (word p x vs)) o
     → Soon k (λ r. then_read (from_name (any r) r e p x vs) (λ a us. r.climb e free a us)) o
-unfolding readers
+unfolding readers_in
 from_word e p x vs o g h = (λ n l. (let at : (readers (suc n) None).expr e free (word p x vs) ≡ then_read (from_name (any (readers n None)) (readers n None) e p x vs) (λ a us. (readers n None).climb e free a us) = rw g refl in sym at ∙ h (suc n) (omega arith)))
 
 brace_name_other : (r : Readers) (e : ℕ) (p q : Place) (x : Word) (s : Place) (k : TokenView) (vs : List Token) → is_in k ≡ false

@@ -5,7 +5,7 @@ use Rattle.tla_tree.specs.Lexical.{TokenView, Token}
 use Rattle.tla_tree.specs.Lexical as tk
 use Rattle.tla_tree.specs.Spelling.{Phrase}
 pub use Rattle.tla_tree.specs.laws.Following.{is_tail, NoTail}
-use Rattle.tla_tree.specs.Reader.{any, Out, next, Context, bound, Readers, one_step, readers, goes_on, postfix_by, climb_by}
+use Rattle.tla_tree.specs.Reader.{any, Out, next, Context, bound, Readers, one_step, readers, readers_in, goes_on, postfix_by, climb_by}
 
 -- with k steps, and with more, it gives o
 abbrev pub Soon : {A : Type 0} → ℕ → (Readers → Out A) → Out A → Type 0
@@ -13,7 +13,7 @@ Soon k f o = (n : ℕ) → k ≤ n → f (readers n None) ≡ o
 
 -- one step and then fewer
 pub step : {A : Type 0} (f : Readers → Out A) (o : Out A) → {k : ℕ} → 1 ≤ k → ((n : ℕ) → k ≤ suc n → f (one_step (any (readers n None)) (readers n None)) ≡ o) → Soon k f o
-unfolding readers
+unfolding readers_in
 step f o s h zero l = absurd (omega arith)
 step f o s h (suc n) l = h n l
 

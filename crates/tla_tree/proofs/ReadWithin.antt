@@ -32,7 +32,7 @@ id_small lim most = λ z u i. i
 
 pub record Read (lim : Bool) (most base : ℕ) (r : Readers) : Type 0 where
   pub expr : (e : ℕ) (c : Context) → is_behind_in c ≡ false → (ts : List Token) (a : Phrase) (us : List Token) → r.expr e c ts ≡ Ok (a, us) → Good e a × (fits c a ≡ true) × (spell a us ≡ ts) × Small lim most (counts base) a
-  pub set : (e : ℕ) (p : Place) (x : Word) (q : Place) (ts : List Token) (a : Phrase) (us : List Token) → r.expr e (behind p x q) ts ≡ Ok (a, us) → Good e a × (spell a us ≡ ts) × Alive lim most base p x q a
+  pub set : (e : ℕ) (p : Place) (x : Word) (q : Place) (ts : List Token) (a : Phrase) (us : List Token) → r.expr e (behind p x q) ts ≡ Ok (a, us) → Good e a × (spell a us ≡ ts) × Alive true lim most base p x q a
   pub postfix : (e : ℕ) (b : Phrase) → Good e b → is_primary (head b) ≡ true → Small lim most (counts base) b → (ts : List Token) (a : Phrase) (us : List Token) → r.postfix e b ts ≡ Ok (a, us) → Good e a × (is_primary (head a) ≡ true) × (spell a us ≡ spell b ts) × Small lim most (counts base) a
   pub climb : (e : ℕ) (c : Context) → is_behind_in c ≡ false → (b : Phrase) → Good e b → fits c b ≡ true → Small lim most (counts base) b → (ts : List Token) (a : Phrase) (us : List Token) → r.climb e c b ts ≡ Ok (a, us) → Good e a × (fits c a ≡ true) × (spell a us ≡ spell b ts) × Small lim most (counts base) a
   pub phrases : (e : ℕ) (ts : List Token) (xs : Phrases) (us : List Token) → r.phrases e ts ≡ Ok (xs, us) → GoodAll e xs × (spell_all xs us ≡ ts) × Small lim most (counts_all base) xs
@@ -44,7 +44,7 @@ pub record Read (lim : Bool) (most base : ℕ) (r : Readers) : Type 0 where
   pub arms : (e : ℕ) (ts : List Token) (xs : Arms) (us : List Token) → r.arms e ts ≡ Ok (xs, us) → GoodArms e xs × (spell_arms xs us ≡ ts) × Small lim most (counts_arms base) xs
   pub locals : (e : ℕ) (ts : List Token) (ls : Locals) (us : List Token) → r.locals e ts ≡ Ok (ls, us) → GoodLocals e ls × (spell_locals ls us ≡ ts) × Small lim most (counts_locals base) ls
 
-module _ (lim : Bool) (most base : ℕ) (r q : Readers) (s : Sound q) (h : AreLimited lim most base r q) where
+module _ (lim : Bool) (most base : ℕ) (r q : Readers) (s : Sound q) (h : AreLimited true lim most base r q) where
   one : lim ≡ true → (u : List ℕ) → Fit most u → Fit most (base ∷ u)
   one = λ z u i. (h.low z, i)
 
@@ -67,32 +67,32 @@ module _ (lim : Bool) (most base : ℕ) (r q : Readers) (s : Sound q) (h : AreLi
   pub bind_rest_read : (e : ℕ) (p : Place) (x : Word) (t : Place) → Right e p → Right e t → (b : Phrase) → Good e b → Small lim most (counts base) b → (j : Place) (k : TokenView) (ts : List Token) (bs : Binds) (us : List Token) → next e ts ≡ token j k → bind_rest r e p x t b j k ts ≡ Ok (bs, us)
       → GoodBinds e bs × (spell_binds bs us ≡ word p x (sign t op.In (spell b ts))) × Small lim most (counts_binds base) bs
   bind_rest_read e p x t gp gt b gb small j k ts bs us i o =
-      let w = told_ok (limited_bind_rest lim most base r q h (λ u. u) held e p x t b j k ts i) o in
+      let w = told_ok (limited_bind_rest true lim most base r q h (λ u. u) held e p x t b j k ts i) o in
       let v = bind_rest_sound q s e p x t gp gt b gb j k ts bs us i w.0 in
       (v.0, v.1, w.1 (λ z u i. (h.low z, (h.low z, small z u i))))
 
-module _ (lim : Bool) (most base : ℕ) (m : Room) (r q : Readers) (s : Sound q) (h : AreLimited lim most base r q) (v : IsRoom lim most base m q) where
+module _ (lim : Bool) (most base : ℕ) (m : Room) (r q : Readers) (s : Sound q) (h : AreLimited true lim most base r q) (v : IsRoom true lim most base m q) where
   low : lim ≡ true → (u : List ℕ) → Fit most u → Fit most (base ∷ u)
   low = λ z u i. (h.low z, i)
 
   pub named_read : (e : ℕ) (p : Place) (x : Word) → Right e p → (j : Place) (k : TokenView) (ts : List Token) (a : Phrase) (us : List Token) → next e ts ≡ token j k → named m e p x j k ts ≡ Ok (a, us) → Good e a × (is_primary (head a) ≡ true) × (spell a us ≡ word p x ts) × Small lim most (counts base) a
-  named_read e p x g j k ts a us i o = (let t = told_ok (limited_named lim most base m r q h v e p x (λ u. u) held j k ts i) o in let w = named_sound q s e p x g j k ts a us i t.0 in (w.0, w.1, w.2, t.1 low))
+  named_read e p x g j k ts a us i o = (let t = told_ok (limited_named true lim most base m r q h v e p x (λ u. u) held j k ts i) o in let w = named_sound q s e p x g j k ts a us i t.0 in (w.0, w.1, w.2, t.1 low))
 
   pub from_read : (e : ℕ) (p : Place) (x : Word) → Right e p → (ts : List Token) (a : Phrase) (us : List Token) → from_name m r e p x ts ≡ Ok (a, us) → Good e a × (is_primary (head a) ≡ true) × (spell a us ≡ word p x ts) × Small lim most (counts base) a
-  from_read e p x g ts a us o = (let t = told_ok (limited_from lim most base m r q h v e p x (λ u. u) held ts) o in let w = from_name_sound q s e p x g ts a us t.0 in (w.0, w.1, w.2, t.1 low))
+  from_read e p x g ts a us o = (let t = told_ok (limited_from true lim most base m r q h v e p x (λ u. u) held ts) o in let w = from_name_sound q s e p x g ts a us t.0 in (w.0, w.1, w.2, t.1 low))
 
   pub operand_read : (e : ℕ) (c : Context) (p : Place) (k : TokenView) (ts : List Token) (a : Phrase) (us : List Token) → next e ts ≡ token p k → operand m r e c p k ts ≡ Ok (a, us) → Good e a × (fits c a ≡ true) × (spell a us ≡ ts) × Small lim most (counts base) a
-  operand_read e c p k ts a us i o = (let t = told_ok (limited_operand lim most base m r q h v e c p k (λ u. u) held ts i) o in let w = operand_sound q s e c p k ts a us i t.0 in (w.0, w.1, w.2, t.1 (id_small lim most)))
+  operand_read e c p k ts a us i o = (let t = told_ok (limited_operand true lim most base m r q h v e c p k (λ u. u) held ts i) o in let w = operand_sound q s e c p k ts a us i t.0 in (w.0, w.1, w.2, t.1 (id_small lim most)))
 
-module _ (lim : Bool) (most base : ℕ) (m : Room) (r q : Readers) (s : Sound q) (h : AreLimited lim most (base + 1) r q) (v : IsRoom lim most (base + 1) m q) where
+module _ (lim : Bool) (most base : ℕ) (m : Room) (r q : Readers) (s : Sound q) (h : AreLimited true lim most (base + 1) r q) (v : IsRoom true lim most (base + 1) m q) where
   up : lim ≡ true → (u : List ℕ) → Fit most u → Fit most ((base + 1) ∷ u)
   up = λ z u i. (h.low z, i)
 
   pub braces_read : (e : ℕ) (p : Place) → Right e p → (j : Place) (k : TokenView) (ts : List Token) (a : Phrase) (us : List Token) → next e ts ≡ token j k → braces m r e p j k ts ≡ Ok (a, us) → Good e a × (is_primary (head a) ≡ true) × (spell a us ≡ mark p tk.open_brace ts) × Small lim most (counts base) a
-  braces_read e p g j k ts a us i o = (let t = told_ok (limited_braces lim most base m r q h v (λ u. u) held e p j k ts i) o in let w = braces_sound q s e p g j k ts a us i t.0 in (w.0, w.1, w.2, t.1 up))
+  braces_read e p g j k ts a us i o = (let t = told_ok (limited_braces true lim most base m r q h v (λ u. u) held e p j k ts i) o in let w = braces_sound q s e p g j k ts a us i t.0 in (w.0, w.1, w.2, t.1 up))
 
   pub tuples_read : (e : ℕ) (p : Place) → Right e p → (j : Place) (k : TokenView) (ts : List Token) (a : Phrase) (us : List Token) → next e ts ≡ token j k → tuples r e p j k ts ≡ Ok (a, us) → Good e a × (is_primary (head a) ≡ true) × (spell a us ≡ mark p tk.open_tuple ts) × Small lim most (counts base) a
-  tuples_read e p g j k ts a us i o = (let t = told_ok (limited_tuples lim most base r q h (λ u. u) held e p j k ts i) o in let w = tuples_sound q s e p g j k ts a us i t.0 in (w.0, w.1, w.2, t.1 up))
+  tuples_read e p g j k ts a us i o = (let t = told_ok (limited_tuples true lim most base r q h (λ u. u) held e p j k ts i) o in let w = tuples_sound q s e p g j k ts a us i t.0 in (w.0, w.1, w.2, t.1 up))
 
   pub squares_read : (e : ℕ) (p : Place) → Right e p → (j : Place) (k : TokenView) (ts : List Token) (a : Phrase) (us : List Token) → next e ts ≡ token j k → squares m r e p j k ts ≡ Ok (a, us) → Good e a × (is_primary (head a) ≡ true) × (spell a us ≡ mark p tk.open_square ts) × Small lim most (counts base) a
-  squares_read e p g j k ts a us i o = (let t = told_ok (limited_squares lim most base m r q h v (λ u. u) held e p j k ts i) o in let w = squares_sound q s e p g j k ts a us i t.0 in (w.0, w.1, w.2, t.1 up))
+  squares_read e p g j k ts a us i o = (let t = told_ok (limited_squares true lim most base m r q h v (λ u. u) held e p j k ts i) o in let w = squares_sound q s e p g j k ts a us i t.0 in (w.0, w.1, w.2, t.1 up))

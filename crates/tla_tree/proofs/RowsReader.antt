@@ -8,7 +8,7 @@ use Rattle.tla_tree.specs.Lexical.{Mark, Key, TokenView, Token, token}
 use Rattle.tla_tree.specs.Lexical as tk
 use Rattle.tla_tree.specs.Spelling.{Phrase}
 use Rattle.tla_tree.specs.Spelling as spelled
-use Rattle.tla_tree.specs.Reader.{read, readers}
+use Rattle.tla_tree.specs.Reader.{read, readers, readers_in}
 use Rattle.tla_tree.specs.Nesting.{counts}
 use Rattle.tla_tree.specs.FirstStop.{looks, Begins, Passes, phrases, in_expression}
 use Rattle.tla_tree.specs.laws.Columns.{lineless}
@@ -33,39 +33,39 @@ name c = spelled.name (at c) (codes "a")
 
 -- `/\ a`, and `/\ /\ /\ a`: each bullet takes more than one step
 one_bullet : read 0 (s 1 op.And ∷ w 4 ∷ []) ≡ Ok (spelled.list op.And (spelled.last_bullet (at 1) (name 4)), [])
-unfolding readers
+unfolding readers_in
 one_bullet = refl
 
 three_bullets : read 0 (s 1 op.And ∷ s 4 op.And ∷ s 7 op.And ∷ w 10 ∷ [])
     ≡ Ok (spelled.list op.And (spelled.last_bullet (at 1) (spelled.list op.And (spelled.last_bullet (at 4) (spelled.list op.And (spelled.last_bullet (at 7) (name 10)))))), [])
-unfolding readers
+unfolding readers_in
 three_bullets = refl
 
 -- `CASE a -> CASE a -> a [] OTHER -> a [] a -> a`: the last `[]` belongs to no CASE, since the nearest has its OTHER
 after_other : read 0 (k 1 tk.case_key ∷ w 6 ∷ m 8 tk.arrow ∷ k 11 tk.case_key ∷ w 16 ∷ m 18 tk.arrow ∷ w 21 ∷ m 23 tk.box ∷ k 26 tk.other_key ∷ m 32 tk.arrow ∷ w 35 ∷ m 37 tk.box ∷ w 40 ∷ m 42 tk.arrow ∷ w 45 ∷ [])
     ≡ Ok (spelled.cases (at 1) (spelled.last_arm (name 6) (at 8) (spelled.cases (at 11) (spelled.other_arm (name 16) (at 18) (name 21) (at 23) (at 26) (at 32) (name 35)))), m 37 tk.box ∷ w 40 ∷ m 42 tk.arrow ∷ w 45 ∷ [])
-unfolding readers
+unfolding readers_in
 after_other = refl
 
 -- names that share a set, and definitions of one LET
 shared : read 0 (k 1 tk.for_all_key ∷ w 4 ∷ m 5 tk.comma ∷ w 7 ∷ s 9 op.In ∷ w 13 ∷ m 15 tk.colon ∷ w 17 ∷ [])
     ≡ Ok (spelled.quantified true (at 1) (spelled.share (at 4) (codes "a") (at 5) (spelled.last_bind (at 7) (codes "a") (at 9) (name 13))) (at 15) (name 17), [])
-unfolding readers
+unfolding readers_in
 shared = refl
 
 two_definitions : read 0 (k 1 tk.let_key ∷ w 5 ∷ m 7 tk.defines ∷ w 10 ∷ w 12 ∷ m 14 tk.defines ∷ w 17 ∷ k 19 tk.in_key ∷ w 22 ∷ [])
     ≡ Ok (spelled.local (at 1) (spelled.more_locals (at 5) (codes "a") (at 7) (name 10) (spelled.last_local (at 12) (codes "a") (at 14) (name 17))) (at 19) (name 22), [])
-unfolding readers
+unfolding readers_in
 two_definitions = refl
 
 -- in `a /\ a \/ a` the second operator goes on nothing, being neither above nor below the first
 mixed : read 0 (w 1 ∷ s 3 op.And ∷ w 6 ∷ s 8 op.Or ∷ w 11 ∷ []) ≡ Ok (spelled.infix_of (name 1) (at 3) op.And (name 6), s 8 op.Or ∷ w 11 ∷ [])
-unfolding readers
+unfolding readers_in
 mixed = refl
 
 -- `a +` is refused after its last token
 unfinished : read 0 (w 1 ∷ s 3 op.Plus ∷ []) ≡ Err (Syntax, [])
-unfolding readers
+unfolding readers_in
 unfinished = refl
 
 -- ---- kinds and columns

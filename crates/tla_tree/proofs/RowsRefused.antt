@@ -6,7 +6,7 @@ use Rattle.tla_tree.specs.Lexical.{Token}
 use Rattle.tla_tree.specs.Lexical as tk
 use Rattle.tla_tree.specs.Spelling.{Phrase}
 use Rattle.tla_tree.specs.Spelling as spelled
-use Rattle.tla_tree.specs.Reader.{readers, read}
+use Rattle.tla_tree.specs.Reader.{readers, readers_in, read}
 use Rattle.tla_tree.specs.Nesting.{counts}
 use Rattle.tla_tree.specs.FirstStop.{looks, Passes, phrases, in_expression, RefusesExpression}
 use Rattle.tla_tree.proofs.StopsThere.{refused_at}
@@ -21,7 +21,7 @@ abbrev whole : List Token
 whole = m 1 tk.open_brace ∷ w 2 ∷ s 4 op.In ∷ w 8 ∷ s 10 op.In ∷ w 14 ∷ m 15 tk.close_brace ∷ []
 
 stopped : read 0 whole ≡ Err (Syntax, m 15 tk.close_brace ∷ [])
-unfolding readers
+unfolding readers_in
 stopped = refl
 
 abbrev completed : Phrase

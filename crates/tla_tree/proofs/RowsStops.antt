@@ -9,7 +9,7 @@ use Rattle.tla_tree.specs.Lexical.{Mark, Token, token}
 use Rattle.tla_tree.specs.Lexical as tk
 use Rattle.tla_tree.specs.Spelling.{Phrase, Good, tree_of}
 use Rattle.tla_tree.specs.Spelling as spelled
-use Rattle.tla_tree.specs.Reader.{readers}
+use Rattle.tla_tree.specs.Reader.{readers, readers_in}
 use Rattle.tla_tree.specs.Nesting.{counts}
 use Rattle.tla_tree.specs.FirstStop.{Look, looks, to_end, Begins, Passes, StopsAt, phrases, in_expression, ReadsExpression, RefusesExpression}
 use Rattle.tla_tree.proofs.AlikeEndsSteps.{refused_after_none}
@@ -45,11 +45,11 @@ begins_so_far : Passes (phrases 0) (take 3 (to_end opened))
 begins_so_far = (map Some (looks (w 16 ∷ m 17 tk.close_bracket ∷ [])), map in_expression (counts 0 closed_sum []), (closed_sum, search, refl, refl), refl)
 
 none_with_semicolon : Begins (phrases 0) (take 4 (to_end opened)) → ⊥
-unfolding readers
+unfolding readers_in
 none_with_semicolon b = begins_none 0 12 opened (λ m more. refl) b
 
 no_expression : (t : Tree) → ReadsExpression opened 3 t → ⊥
-unfolding readers
+unfolding readers_in
 no_expression t r = refused_after_none 0 (take 3 opened) (drop 3 opened) Syntax refl r.spelled.0 r.spelled.1 r.spelled.2
 
 opened_stops : StopsAt (phrases 0) (to_end opened) 3 Syntax
@@ -76,7 +76,7 @@ reads_both : Passes (phrases 0) (take 3 (to_end mixed))
 reads_both = (map Some (looks []), map in_expression (counts 0 both []), (both, search, refl, refl), refl)
 
 none_with_or : Begins (phrases 0) (take 4 (to_end mixed)) → ⊥
-unfolding readers
+unfolding readers_in
 none_with_or b = begins_none 0 12 (take 4 mixed) (λ m more. refl) b
 
 read_before : ReadsExpression mixed 3 (tree_of both)

@@ -11,7 +11,7 @@ use Rattle.tla_tree.specs.Lexical as tk
 use Rattle.tla_tree.specs.Spelling.{Field, Phrase}
 use Rattle.tla_tree.specs.Spelling.{Phrases, Binds, Fields, Settings, Path, Bullets, Arms, arm, Locals}
 use Rattle.tla_tree.specs.Spelling.{mark, sign, word, field_token, spell, spell_all, spell_fields, spell_settings, spell_path, spell_bullets, spell_arms, spell_locals, Right, Good, GoodAll, GoodFields, GoodSettings, GoodPath, GoodBullets, GoodArms, GoodLocals, first_bullet, is_some_path, takes_box}
-use Rattle.tla_tree.specs.Reader.{any, ◌>>=◌, gives, next, tail, take, is_sign, bullet_of, free, Readers, one_step, readers, read, phrases_by, binds_by, fields_by, settings_by, setting_if, path_by, bullets_if, arms_other, arms_if, arms_by, locals_by}
+use Rattle.tla_tree.specs.Reader.{any, ◌>>=◌, gives, next, tail, take, is_sign, bullet_of, free, Readers, one_step, readers, readers_in, read, phrases_by, binds_by, fields_by, settings_by, setting_if, path_by, bullets_if, arms_other, arms_if, arms_by, locals_by}
 use Rattle.tla_tree.specs.Reader as rd
 use Rattle.tla_tree.proofs.SoundTokens.{then_ok, given, seen, taken, take_ok, if_some, sign_is, mark_ok, sign_ok, word_ok, field_ok}
 use Rattle.tla_tree.proofs.SoundPhrases.{IsGroup, Sound}
@@ -239,7 +239,7 @@ no_steps_sound = record {
 }
 
 pub sound : (n : ℕ) → Sound (readers n None)
-unfolding readers
+unfolding readers_in
 sound zero = no_steps_sound
 sound (suc n) = step_sound (readers n None) (sound n)
 

@@ -13,7 +13,7 @@ use Rattle.tla_tree.specs.Lexical.{Mark, Key, TokenView, Token, token}
 use Rattle.tla_tree.specs.Lexical as tk
 use Rattle.tla_tree.specs.Spelling.{Field, Phrase, number, string, constant, name, primed, call, brackets, no_set, set_of, filter, image, no_tuple, tuple, fields, records, function, functions, except, apply, select, list, quantified, if_then_else, cases, local, infix_of, prefix_of}
 use Rattle.tla_tree.specs.Spelling.{Phrases, last, more, Binds, last_bind, bind, share, Fields, last_field, field, Settings, last_setting, setting, Path, path_end, index, at_field, Bullets, last_bullet, bullet, Arms, last_arm, other_arm, arm, Locals, last_local, more_locals}
-use Rattle.tla_tree.specs.Nesting.{chain, links, text_nesting}
+use Rattle.tla_tree.specs.Nesting.{chain, links, before, nesting_in}
 use Rattle.tla_tree.specs.Spelling.{applied, is_above, can_be_left, can_be_right, can_be_under, can_be_head, is_some_path, takes_box}
 
 -- the rule, and the tokens from the refused one on
@@ -213,14 +213,16 @@ pub record Readers : Type 0 where
   pub locals : ℕ → Reader Locals
 
 -- ---- how many forms may still open
--- the readers where so many forms more are open, as long as so many may be; and whether a phrase may be read there, of which it is told late what it opens
+-- the readers where so many forms more are open, as long as so many may be; whether a phrase may be read there, of which it is told late what it opens; and whether
+-- fields and closed applications count
 pub record Room : Type 0 where
   pub at : ℕ → Option Readers
   pub fits : ℕ → Phrase → Bool
+  pub linked : Bool
 
 -- where one more is open, and so many besides
 abbrev pub within : ℕ → Room → Room
-within k m = record { at = λ n. m.at (suc k + n); fits = λ n. m.fits (suc k + n) }
+within k m = record { at = λ n. m.at (suc k + n); fits = λ n. m.fits (suc k + n); linked = m.linked }
 
 -- with these readers, or refused
 abbrev pub read_by : {A : Type 0} → Option Readers → (Readers → Reader A) → Reader A
@@ -231,9 +233,14 @@ read_by None f = too_deep
 abbrev pub opened : {A : Type 0} → Room → ℕ → (Room → Readers → Reader A) → Reader A
 opened m k f = read_by (m.at (suc k)) (f (within k m))
 
+-- where this counts, with one more form open, and so many besides, or refused
+abbrev pub opened_if : {A : Type 0} → Bool → Room → Readers → ℕ → (Room → Readers → Reader A) → Reader A
+opened_if true m r k f = opened m k f
+opened_if false m r k f = f m r
+
 -- wherever any number of forms may be open
 abbrev pub any : Readers → Room
-any r = record { at = λ n. Some r; fits = λ n a. true }
+any r = record { at = λ n. Some r; fits = λ n a. true; linked = true }
 
 -- ---- what is open at an operator after a phrase so far
 abbrev pub is_behind_in : Context → Bool
@@ -418,11 +425,11 @@ short_by m r e p k = primary m r e p k
 
 -- ---- loops
 abbrev pub apply_if : Bool → Room → Readers → ℕ → Phrase → Place → Reader Phrase
-apply_if true m r e a p = opened m (links a) (λ i d. skip (d.phrases e >>= λ xs. a_mark e tk.close_square >>= λ q. r.postfix e (apply a p xs q)))
+apply_if true m r e a p = opened m (before m.linked a) (λ i d. skip (d.phrases e >>= λ xs. a_mark e tk.close_square >>= λ q. r.postfix e (apply a p xs q)))
 apply_if false m r e a p = gives a
 
 abbrev pub select_if : Bool → Room → Readers → ℕ → Phrase → Place → Reader Phrase
-select_if true m r e a p = opened m (links a) (λ i d. skip (a_field e >>= λ f. r.postfix e (select a p f)))
+select_if true m r e a p = opened_if m.linked m r (links a) (λ i d. skip (a_field e >>= λ f. r.postfix e (select a p f)))
 select_if false m r e a p = gives a
 
 abbrev pub postfix_by : Room → Readers → ℕ → Phrase → Place → TokenView → Reader Phrase
@@ -531,13 +538,18 @@ abbrev pub less : Bool → ℕ → ℕ → Option Limit
 less true b k = Some (Some (b - k))
 less false b k = None
 
-abbrev pub room : (Limit → Readers) → Limit → Room
-room f None = any (f None)
-room f (Some b) = record { at = λ k. option_map f (less (nat_le k b) b k); fits = λ k a. nat_le (text_nesting a + k) b }
+-- w tells whether fields and closed applications count
+abbrev pub room : Bool → (Limit → Readers) → Limit → Room
+room w f None = any (f None)
+room w f (Some b) = record { at = λ k. option_map f (less (nat_le k b) b k); fits = λ k a. nat_le (nesting_in w a + k) b; linked = w }
 
-unfoldable pub readers : ℕ → Limit → Readers
-readers zero b = no_steps
-readers (suc n) b = one_step (room (readers n) b) (readers n b)
+unfoldable pub readers_in : Bool → ℕ → Limit → Readers
+readers_in w zero b = no_steps
+readers_in w (suc n) b = one_step (room w (readers_in w n) b) (readers_in w n b)
+
+-- where they count
+abbrev pub readers : ℕ → Limit → Readers
+readers n b = readers_in true n b
 
 -- an expression to the right of the edge, however deep it is; reading takes four steps for each token at most
 abbrev pub read : ℕ → Reader Phrase

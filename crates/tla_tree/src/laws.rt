@@ -9,7 +9,9 @@ ghost use Rattle.tla_token.specs.declared.place.Place.{Place};
 ghost use Rattle.tla_token.specs.declared.rule.Refusal.{Refusal};
 ghost use Rattle.tla_token.specs.declared.rule.Rule.{Rule};
 ghost use Rattle.tla_token.specs.Limits.{deepest_expression};
-ghost use Rattle.tla_tree.specs.Nesting.{counts, text_nesting};
+ghost use Rattle.tla_tree.specs.Nesting.{counts, nesting_in, text_nesting};
+ghost use Rattle.tla_tree.specs.Whole.{read_bounded};
+ghost use Rattle.tla_tree.specs.laws.Bounded.{BoundedRefuses};
 ghost use Rattle.tla_tree.specs.FirstStop.{looks, Begins, phrases, Completes, ReadsExpression, RefusesExpression};
 ghost use Rattle.tla_tree.specs.laws.Columns.{lineless};
 ghost use Rattle.tla_tree.specs.Written.{pieces, written};
@@ -62,6 +64,13 @@ pub fn what_is_wanted_completes()
 pub fn the_limit_only_refuses()
     ensures within { (ts rest : List Token) (a : Phrase) → read_limited ts ≡ Ok (a, rest) → (read 0 ts ≡ Ok (a, rest)) × (text_nesting a ≤ deepest_expression) }
     ensures fits { (ts rest : List Token) (a : Phrase) → read 0 ts ≡ Ok (a, rest) → text_nesting a ≤ deepest_expression → read_limited ts ≡ Ok (a, rest) }
+{}
+
+/// The bound of a module's expressions only refuses too: what is read within it is read without, and opens no more forms, fields and closed applications not counted; and what is
+/// refused within it is refused without, at the same token, or opens more.
+pub fn the_bound_of_a_module_only_refuses()
+    ensures within { (l edge : ℕ) (ts rest : List Token) (a : Phrase) → read_bounded l edge ts ≡ Ok (a, rest) → (read edge ts ≡ Ok (a, rest)) × (nesting_in false a ≤ l) }
+    ensures refuses { (l edge : ℕ) (ts rest : List Token) (r : Rule) → read_bounded l edge ts ≡ Err (r, rest) → BoundedRefuses l (read edge ts) r rest }
 {}
 
 /// So with the limit of open forms every list of tokens is read or refused just where the grammar says: what is read is the expression there, and goes up

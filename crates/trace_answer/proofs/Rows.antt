@@ -3,7 +3,7 @@ use Rattle.std.proofs.Common.{◌≡◌, ◌<◌, ℕ, pos, Bool, true, false, L
 use Rattle.std.specs.Fmt.{digits}
 use Rattle.tla_token.specs.Limits.{past_text}
 use Rattle.tla_token.specs.declared.rule.Rule.TheVariants.{BadLine}
-use Rattle.tla_tree.specs.Reader.{readers}
+use Rattle.tla_tree.specs.Reader.{readers, readers_in}
 use Rattle.tla_tree.specs.Spelling.{last, more, set_of}
 use Rattle.tla_tree.specs.Tree.{Word}
 use Rattle.tla_value.specs.Outside.{Outside}
@@ -87,7 +87,7 @@ is_spelled = record {
 }
 
 outside : outside_read (walk source) ≡ with_n
-unfolding readers
+unfolding readers_in
 outside = refl
 
 has : HasOutside (walk source) with_n

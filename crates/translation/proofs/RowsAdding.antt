@@ -1,7 +1,7 @@
 -- The worked file of processes and a procedure: nothing is wrong with it, and what is written for it has both sides, by computation.
 use Rattle.std.proofs.Common.{◌≡◌, ◌<◌, length, [], ◌∷◌, Bool, true, false, codes, Some, None, refl, sym, subst, arith}
 use Rattle.tla_token.specs.Limits.{past_text}
-use Rattle.tla_tree.specs.Reader.{readers}
+use Rattle.tla_tree.specs.Reader.{readers, readers_in}
 use Rattle.tla_tree.specs.Spelling.{last, more, set_of, infix_of}
 use Rattle.tla_tree.specs.declared.op.Op.TheVariants.{Plus, Minus, Greater}
 use Rattle.tla_value.specs.Outside.{Outside}
@@ -84,7 +84,7 @@ is_spelled = record {
 }
 
 outside : outside_read (walk adding_file) ≡ sequences
-unfolding readers
+unfolding readers_in
 outside = refl
 
 pub has : HasOutside (walk adding_file) sequences

@@ -2,7 +2,7 @@
 use Rattle.std.proofs.Common.{◌≡◌, ◌<◌, length, [], ◌∷◌, Bool, true, false, codes, Some, None, refl, sym, subst, arith}
 use Rattle.std.specs.Fmt.{digits}
 use Rattle.tla_token.specs.Limits.{past_text}
-use Rattle.tla_tree.specs.Reader.{readers}
+use Rattle.tla_tree.specs.Reader.{readers, readers_in}
 use Rattle.tla_value.specs.Outside.{Outside}
 use Rattle.tla_tree.specs.Spelling.{last, infix_of}
 use Rattle.tla_tree.specs.declared.op.Op.TheVariants.{Plus, Minus, Greater}
@@ -73,7 +73,7 @@ is_spelled = record {
 }
 
 outside : outside_read (walk counting_file) ≡ with_most
-unfolding readers
+unfolding readers_in
 outside = refl
 
 has : HasOutside (walk counting_file) with_most

@@ -1,7 +1,7 @@
 -- The worked file of a single process whose identifier is a set: nothing is wrong with it, and what is written for it has both sides, by computation.
 use Rattle.std.proofs.Common.{◌≡◌, ◌<◌, length, [], Bool, true, false, codes, Some, None, refl, sym, subst, arith}
 use Rattle.tla_token.specs.Limits.{past_text}
-use Rattle.tla_tree.specs.Reader.{readers}
+use Rattle.tla_tree.specs.Reader.{readers, readers_in}
 use Rattle.tla_value.specs.Outside.{Outside}
 use Rattle.tla_tree.specs.Spelling.{last, no_set, set_of, infix_of, prefix_of}
 use Rattle.tla_tree.specs.declared.op.Op.TheVariants.{In, Subset}
@@ -65,7 +65,7 @@ is_spelled = record {
 }
 
 outside : outside_read (walk picking_file) ≡ nothing_outside
-unfolding readers
+unfolding readers_in
 outside = refl
 
 has : HasOutside (walk picking_file) nothing_outside

@@ -7,7 +7,7 @@ use Rattle.tla_tree.specs.declared.op.Op.TheVariants.{Plus, Minus, Greater}
 use Rattle.tla_tree.specs.Tree.{Word, Name}
 use Rattle.tla_tree.specs.Spelling.{Phrase, last, more, set_of, infix_of}
 use Rattle.tla_tree.specs.Spelling as spelled
-use Rattle.tla_tree.specs.Reader.{readers}
+use Rattle.tla_tree.specs.Reader.{readers, readers_in}
 use Rattle.tla_value.specs.Outside.{Outside}
 use Rattle.pcal_tree.specs.Placeless.{placeless}
 use Rattle.pcal_tree.specs.AlgorithmTokens.{views}
@@ -171,7 +171,7 @@ translated_by : (x w : front.Text) (o : Outside) (a g : Algorithm) → placeless
 translated_by x w o a g same is = subst (λ (b : Algorithm). IsWritten x w o (region_of false (with_names o b))) (sym same) is
 
 add_outside : outside_read (walk procedures.file) ≡ procedures.sequences
-unfolding readers
+unfolding readers_in
 add_outside = refl
 
 pub add_has : HasOutside (walk procedures.file) procedures.sequences
@@ -183,7 +183,7 @@ add_translated =
     (procedures.file_reads procedures.sequences add_has)
 
 inc_outside : outside_read (walk whole.file) ≡ integers
-unfolding readers
+unfolding readers_in
 inc_outside = refl
 
 inc_has : HasOutside (walk whole.file) integers
@@ -193,7 +193,7 @@ inc_translated : IsWritten whole.file whole.translated integers (written_region 
 inc_translated = translated_by whole.file whole.translated integers (algorithm_of inc_text) whole.inc inc_same (whole.file_reads integers inc_has)
 
 both_outside : outside_read (walk kinds.file) ≡ integers
-unfolding readers
+unfolding readers_in
 both_outside = refl
 
 pub both_have : HasOutside (walk kinds.file) integers
@@ -207,7 +207,7 @@ abbrev with_unit : Outside
 with_unit = record integers { opaque = record { keyword = []; names = codes "Inv" ∷ []; place = at 13 1 } ∷ [] }
 
 old_outside : outside_read (walk whole.outdated) ≡ with_unit
-unfolding readers
+unfolding readers_in
 old_outside = refl
 
 old_has : HasOutside (walk whole.outdated) with_unit
