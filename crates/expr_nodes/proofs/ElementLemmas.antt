@@ -17,7 +17,7 @@ element_yes i p q x e = ap (λ (t : Bool). if t then Some (infix_of (name p x) q
 pub element_left : (a : Phrase) (r : Place) (o : Op) (b : Phrase) (p q : Place) (x : Word) → can_be_right op.In (infix_of a r o b) ≡ false → element p x q (infix_of a r o b) ≡ on_left (element p x q a) r o b
 element_left a r o b p q x e = ap (λ (t : Bool). if t then Some (infix_of (name p x) q op.In (infix_of a r o b)) else on_left (element p x q a) r o b) e
 
-pub left_yes : {old new : List Tree} (l put : Read) (e : Option Phrase) (p : Place) (o : Op) (j : Phrase) → MayBeIn old (Some l) e → ((a : Phrase) → shape_of a ≡ l.shape → can_be_left a p o ≡ true)
-    → ((a : Phrase) → IsIn old l a → IsIn new put (infix_of a p o j)) → MayBeIn new (Some put) (on_left e p o j)
-left_yes {old} {new} l put (Some a) p o j h can f = subst (λ (t : Bool). MayBeIn new (Some put) (if t then Some (infix_of a p o j) else None)) (sym (can a h.shape)) (f a h)
-left_yes {old} {new} l put None p o j h can f = absurd h
+pub left_yes : {linked : Bool} {old new : List Tree} (l put : Read) (e : Option Phrase) (p : Place) (o : Op) (j : Phrase) → MayBeIn linked old (Some l) e → ((a : Phrase) → shape_of linked a ≡ l.shape → can_be_left a p o ≡ true)
+    → ((a : Phrase) → IsIn linked old l a → IsIn linked new put (infix_of a p o j)) → MayBeIn linked new (Some put) (on_left e p o j)
+left_yes {linked} {old} {new} l put (Some a) p o j h can f = subst (λ (t : Bool). MayBeIn linked new (Some put) (if t then Some (infix_of a p o j) else None)) (sym (can a h.shape)) (f a h)
+left_yes {linked} {old} {new} l put None p o j h can f = absurd h

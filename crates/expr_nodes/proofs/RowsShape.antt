@@ -35,32 +35,32 @@ a c = name (in_col c) (codes "a")
 abbrev sum : Phrase
 sum = infix_of (infix_of (a 1) (in_col 3) op.Plus (brackets (in_col 5) (infix_of (a 6) (in_col 8) op.Minus (a 10)) (in_col 11))) (in_col 13) op.Plus (a 15)
 
-chain_of_two : (shape_of sum).chain ≡ 2
+chain_of_two : (shape_of true sum).chain ≡ 2
 chain_of_two = refl
 
 -- the bracket and the `-` in it, behind the first `+`
-deepest_in_it : (shape_of sum).nesting ≡ 3
+deepest_in_it : (shape_of true sum).nesting ≡ 3
 deepest_in_it = refl
 
-head_of_it : (shape_of sum).head ≡ at.Applied op.Plus
+head_of_it : (shape_of true sum).head ≡ at.Applied op.Plus
 head_of_it = refl
 
-left_of_a_sum : stands_left (shape_of sum) (in_col 17) op.Plus ≡ true
+left_of_a_sum : stands_left (shape_of true sum) (in_col 17) op.Plus ≡ true
 left_of_a_sum = refl
 
 -- /\ CASE 1 -> 2
 abbrev item : Phrase
 item = list op.And (last_bullet (in_col 4) (cases (in_col 7) (last_arm (number (in_col 12) 1) (in_col 14) (number (in_col 17) 2))))
 
-boxes_of_an_item : (shape_of item).boxes ≡ boxes.RightOf 4
+boxes_of_an_item : (shape_of true item).boxes ≡ boxes.RightOf 4
 boxes_of_an_item = refl
 
-right_of_the_bullet : takes 5 (shape_of item).boxes ≡ true
+right_of_the_bullet : takes 5 (shape_of true item).boxes ≡ true
 right_of_the_bullet = refl
 
-no_further_bullet : stands_left (shape_of item) (in_col 4) op.And ≡ false
+no_further_bullet : stands_left (shape_of true item) (in_col 4) op.And ≡ false
 no_further_bullet = refl
 
 -- each bullet is open besides those before it
-two_bullets : (shape_of (list op.And (bullet (in_col 1) (a 4) (last_bullet (in_col 1) (a 4))))).nesting ≡ 2
+two_bullets : (shape_of true (list op.And (bullet (in_col 1) (a 4) (last_bullet (in_col 1) (a 4))))).nesting ≡ 2
 two_bullets = refl

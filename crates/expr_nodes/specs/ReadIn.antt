@@ -46,55 +46,55 @@ first_of (last a) = a
 first_of (more a p xs) = a
 
 -- the number has the tree of the phrase, and its shape is told
-pub record IsIn (ts : List tree.Tree) (x : Read) (a : Phrase) : Type 0 where
+pub record IsIn (linked : Bool) (ts : List tree.Tree) (x : Read) (a : Phrase) : Type 0 where
   pub below : x.id < length ts
   pub tree : at ts x.id ≡ tree_of a
-  pub shape : shape_of a ≡ x.shape
+  pub shape : shape_of linked a ≡ x.shape
 
 -- an expression or none
-abbrev pub MayBeIn : List tree.Tree → Option Read → Option Phrase → Type 0
-MayBeIn ts (Some x) (Some a) = IsIn ts x a
-MayBeIn ts (Some x) None = ⊥
-MayBeIn ts None (Some a) = ⊥
-MayBeIn ts None None = Unit {0}
+abbrev pub MayBeIn : Bool → List tree.Tree → Option Read → Option Phrase → Type 0
+MayBeIn linked ts (Some x) (Some a) = IsIn linked ts x a
+MayBeIn linked ts (Some x) None = ⊥
+MayBeIn linked ts None (Some a) = ⊥
+MayBeIn linked ts None None = Unit {0}
 
 -- so many numbers have the trees of phrases in a row
-pub record AreIn (ts : List tree.Tree) (is : List ℕ) (r : Row) (xs : Phrases) : Type 0 where
+pub record AreIn (linked : Bool) (ts : List tree.Tree) (is : List ℕ) (r : Row) (xs : Phrases) : Type 0 where
   pub below : AllBelow (length ts) is
   pub trees : trees_at ts is ≡ trees_of xs
-  pub nesting : in_all xs ≡ r.nesting
+  pub nesting : in_all linked xs ≡ r.nesting
   pub first : start (first_of xs) ≡ r.first
 
 -- these groups of names, and the numbers of their sets
-pub record AreBound (ts : List tree.Tree) (gs : List (List tree.Name)) (is : List ℕ) (n : ℕ) (bs : Binds) : Type 0 where
+pub record AreBound (linked : Bool) (ts : List tree.Tree) (gs : List (List tree.Name)) (is : List ℕ) (n : ℕ) (bs : Binds) : Type 0 where
   pub below : AllBelow (length ts) is
   pub names : groups bs ≡ gs
   pub sets : (us : List tree.Tree) → sets_before bs (trees_from us) ≡ trees_from (map (at ts) is ++ us)
-  pub nesting : in_binds bs ≡ n
+  pub nesting : in_binds linked bs ≡ n
 
-pub record AreLocals (ts : List tree.Tree) (xs : List tree.Name) (is : List ℕ) (n : ℕ) (ls : Locals) : Type 0 where
+pub record AreLocals (linked : Bool) (ts : List tree.Tree) (xs : List tree.Name) (is : List ℕ) (n : ℕ) (ls : Locals) : Type 0 where
   pub below : AllBelow (length ts) is
   pub names : local_names ls ≡ xs
   pub sides : (us : List tree.Tree) → right_sides_before ls (trees_from us) ≡ trees_from (map (at ts) is ++ us)
-  pub nesting : in_locals ls ≡ n
+  pub nesting : in_locals linked ls ≡ n
 
-pub record AreFields (ts : List tree.Tree) (xs : List tree.Word) (is : List ℕ) (n : ℕ) (fs : Fields) : Type 0 where
+pub record AreFields (linked : Bool) (ts : List tree.Tree) (xs : List tree.Word) (is : List ℕ) (n : ℕ) (fs : Fields) : Type 0 where
   pub below : AllBelow (length ts) is
   pub names : labels fs ≡ xs
   pub trees : trees_at ts is ≡ field_trees fs
-  pub nesting : in_fields fs ≡ n
+  pub nesting : in_fields linked fs ≡ n
 
-pub record AreSettings (ts : List tree.Tree) (p : Place) (ps : List tree.Slot) (is : List ℕ) (n : ℕ) (ss : Settings) : Type 0 where
+pub record AreSettings (linked : Bool) (ts : List tree.Tree) (p : Place) (ps : List tree.Slot) (is : List ℕ) (n : ℕ) (ss : Settings) : Type 0 where
   pub below : AllBelow (length ts) is
   pub paths : slots p ss ≡ ps
   pub trees : trees_at ts is ≡ setting_trees ss
-  pub nesting : in_settings ss ≡ n
+  pub nesting : in_settings linked ss ≡ n
 
-pub record AreArms (ts : List tree.Tree) (b : Bool) (is : List ℕ) (n : ℕ) (xs : Arms) : Type 0 where
+pub record AreArms (linked : Bool) (ts : List tree.Tree) (b : Bool) (is : List ℕ) (n : ℕ) (xs : Arms) : Type 0 where
   pub below : AllBelow (length ts) is
   pub other : has_other xs ≡ b
   pub trees : trees_at ts is ≡ arm_trees xs
-  pub nesting : in_arms xs ≡ n
+  pub nesting : in_arms linked xs ≡ n
 
 -- something is read that is told of, and these tokens are left
 pub record Reads {A : Type 0} (P : A → Type 0) (u : List Token) (o : Out A) : Type 0 where
@@ -107,9 +107,9 @@ Told P f (Ok x) o = Reads (P x) (f x) o
 Told P f (Err e) o = Fails e o
 
 -- items by columns: joined from the left, they are the tree of the number
-pub record AreItems (ts : List tree.Tree) (o : Op) (i : ℕ) (p : Place) (b : Boxes) (n : ℕ) (bs : Bullets) : Type 0 where
+pub record AreItems (linked : Bool) (ts : List tree.Tree) (o : Op) (i : ℕ) (p : Place) (b : Boxes) (n : ℕ) (bs : Bullets) : Type 0 where
   pub below : i < length ts
   pub tree : at ts i ≡ joined o bs
   pub first : first_bullet bs ≡ p
-  pub boxes : last_boxes bs ≡ b
-  pub nesting : in_bullets bs ≡ n
+  pub boxes : last_boxes linked bs ≡ b
+  pub nesting : in_bullets linked bs ≡ n

@@ -76,8 +76,24 @@ continues b s p o = not (is_prefix o) && (nat_lt b (rank o).0 && stands_left s p
 abbrev pub primary_shape : Place → ℕ → Shape
 primary_shape p n = record { head = at.Primary; start = p; short = true; ends_open = false; end_list = None; boxes = boxes.Never; chain = 0; links = 0; nesting = n }
 
-abbrev pub linked_shape : Shape → ℕ → Shape
-linked_shape s n = record { head = at.Primary; start = s.start; short = true; ends_open = false; end_list = None; boxes = boxes.Never; chain = 0; links = s.links + 1; nesting = max s.nesting (s.links + 1 + n) }
+-- of a primary with what is behind it: so many links at its end
+abbrev pub linked_shape : Shape → ℕ → ℕ → Shape
+linked_shape s l n = record { head = at.Primary; start = s.start; short = true; ends_open = false; end_list = None; boxes = boxes.Never; chain = 0; links = l; nesting = n }
+
+-- one more, where they count
+abbrev pub links_after : Bool → ℕ → ℕ
+links_after true n = n + 1
+links_after false n = 0
+
+abbrev pub apply_shape : Bool → Shape → ℕ → Shape
+apply_shape w s n = linked_shape s (links_after w s.links) (max s.nesting (s.links + 1 + n))
+
+abbrev pub field_nesting : Bool → Shape → ℕ
+field_nesting true s = max s.nesting (s.links + 1)
+field_nesting false s = s.nesting
+
+abbrev pub select_shape : Bool → Shape → Shape
+select_shape w s = linked_shape s (links_after w s.links) (field_nesting w s)
 
 abbrev pub open_shape : Place → Boxes → ℕ → Shape
 open_shape p b n = record { head = at.Open; start = p; short = false; ends_open = true; end_list = None; boxes = b; chain = 0; links = 0; nesting = n }
@@ -91,84 +107,84 @@ infix_shape s o t = record { head = at.Applied o; start = s.start; short = false
 abbrev pub prefix_shape : Place → Op → Shape → Shape
 prefix_shape p o s = record { head = at.Applied o; start = p; short = s.short; ends_open = s.ends_open; end_list = s.end_list; boxes = s.boxes; chain = 0; links = 0; nesting = 1 + s.nesting }
 
--- of lists: the most forms that are open in them
+-- of lists: the most forms that are open in them; w tells whether fields and closed applications count
 abbrev mutual
-  pub shape_of : Phrase → Shape
-  shape_of (number p n) = primary_shape p 0
-  shape_of (string p x) = primary_shape p 0
-  shape_of (constant p c) = primary_shape p 0
-  shape_of (name p x) = primary_shape p 0
-  shape_of (primed p x q) = primary_shape p 0
-  shape_of (call p x q xs r) = primary_shape p (1 + in_all xs)
-  shape_of (brackets p a q) = primary_shape p (1 + (shape_of a).nesting)
-  shape_of (no_set p q) = primary_shape p 1
-  shape_of (set_of p xs q) = primary_shape p (1 + in_all xs)
-  shape_of (filter p q x r s t a u) = primary_shape p (1 + max (shape_of s).nesting (shape_of a).nesting)
-  shape_of (image p a q bs r) = primary_shape p (1 + max (shape_of a).nesting (in_binds bs))
-  shape_of (no_tuple p q) = primary_shape p 1
-  shape_of (tuple p xs q) = primary_shape p (1 + in_all xs)
-  shape_of (fields p fs q) = primary_shape p (1 + in_fields fs)
-  shape_of (records p fs q) = primary_shape p (1 + in_fields fs)
-  shape_of (function p bs q a r) = primary_shape p (1 + max (in_binds bs) (shape_of a).nesting)
-  shape_of (functions p a q b r) = primary_shape p (1 + max (shape_of a).nesting (shape_of b).nesting)
-  shape_of (except p a q ss r) = primary_shape p (1 + max (shape_of a).nesting (in_settings ss))
-  shape_of (apply a p xs q) = linked_shape (shape_of a) (in_all xs)
-  shape_of (select a p f) = linked_shape (shape_of a) 0
-  shape_of (list o bs) = list_shape o (first_bullet bs) (last_boxes bs) (in_bullets bs)
-  shape_of (quantified b p bs q a) = open_shape p (shape_of a).boxes (1 + max (in_binds bs) (shape_of a).nesting)
-  shape_of (if_then_else p a q b r c) = open_shape p (shape_of c).boxes (1 + max (max (shape_of a).nesting (shape_of b).nesting) (shape_of c).nesting)
-  shape_of (cases p xs) = open_shape p boxes.Always (1 + in_arms xs)
-  shape_of (local p ls q a) = open_shape p (shape_of a).boxes (1 + max (in_locals ls) (shape_of a).nesting)
-  shape_of (infix_of a p o b) = infix_shape (shape_of a) o (shape_of b)
-  shape_of (prefix_of p o a) = prefix_shape p o (shape_of a)
+  pub shape_of : Bool → Phrase → Shape
+  shape_of w (number p n) = primary_shape p 0
+  shape_of w (string p x) = primary_shape p 0
+  shape_of w (constant p c) = primary_shape p 0
+  shape_of w (name p x) = primary_shape p 0
+  shape_of w (primed p x q) = primary_shape p 0
+  shape_of w (call p x q xs r) = primary_shape p (1 + in_all w xs)
+  shape_of w (brackets p a q) = primary_shape p (1 + (shape_of w a).nesting)
+  shape_of w (no_set p q) = primary_shape p 1
+  shape_of w (set_of p xs q) = primary_shape p (1 + in_all w xs)
+  shape_of w (filter p q x r s t a u) = primary_shape p (1 + max (shape_of w s).nesting (shape_of w a).nesting)
+  shape_of w (image p a q bs r) = primary_shape p (1 + max (shape_of w a).nesting (in_binds w bs))
+  shape_of w (no_tuple p q) = primary_shape p 1
+  shape_of w (tuple p xs q) = primary_shape p (1 + in_all w xs)
+  shape_of w (fields p fs q) = primary_shape p (1 + in_fields w fs)
+  shape_of w (records p fs q) = primary_shape p (1 + in_fields w fs)
+  shape_of w (function p bs q a r) = primary_shape p (1 + max (in_binds w bs) (shape_of w a).nesting)
+  shape_of w (functions p a q b r) = primary_shape p (1 + max (shape_of w a).nesting (shape_of w b).nesting)
+  shape_of w (except p a q ss r) = primary_shape p (1 + max (shape_of w a).nesting (in_settings w ss))
+  shape_of w (apply a p xs q) = apply_shape w (shape_of w a) (in_all w xs)
+  shape_of w (select a p f) = select_shape w (shape_of w a)
+  shape_of w (list o bs) = list_shape o (first_bullet bs) (last_boxes w bs) (in_bullets w bs)
+  shape_of w (quantified b p bs q a) = open_shape p (shape_of w a).boxes (1 + max (in_binds w bs) (shape_of w a).nesting)
+  shape_of w (if_then_else p a q b r c) = open_shape p (shape_of w c).boxes (1 + max (max (shape_of w a).nesting (shape_of w b).nesting) (shape_of w c).nesting)
+  shape_of w (cases p xs) = open_shape p boxes.Always (1 + in_arms w xs)
+  shape_of w (local p ls q a) = open_shape p (shape_of w a).boxes (1 + max (in_locals w ls) (shape_of w a).nesting)
+  shape_of w (infix_of a p o b) = infix_shape (shape_of w a) o (shape_of w b)
+  shape_of w (prefix_of p o a) = prefix_shape p o (shape_of w a)
 
-  pub in_all : Phrases → ℕ
-  in_all (last a) = (shape_of a).nesting
-  in_all (more a p xs) = max (shape_of a).nesting (in_all xs)
+  pub in_all : Bool → Phrases → ℕ
+  in_all w (last a) = (shape_of w a).nesting
+  in_all w (more a p xs) = max (shape_of w a).nesting (in_all w xs)
 
-  pub in_binds : Binds → ℕ
-  in_binds (last_bind p x q a) = (shape_of a).nesting
-  in_binds (bind p x q a r bs) = max (shape_of a).nesting (in_binds bs)
-  in_binds (share p x q bs) = in_binds bs
+  pub in_binds : Bool → Binds → ℕ
+  in_binds w (last_bind p x q a) = (shape_of w a).nesting
+  in_binds w (bind p x q a r bs) = max (shape_of w a).nesting (in_binds w bs)
+  in_binds w (share p x q bs) = in_binds w bs
 
-  pub in_fields : Fields → ℕ
-  in_fields (last_field f p a) = (shape_of a).nesting
-  in_fields (field f p a q fs) = max (shape_of a).nesting (in_fields fs)
+  pub in_fields : Bool → Fields → ℕ
+  in_fields w (last_field f p a) = (shape_of w a).nesting
+  in_fields w (field f p a q fs) = max (shape_of w a).nesting (in_fields w fs)
 
-  pub in_settings : Settings → ℕ
-  in_settings (last_setting p path q a) = max (in_path path) (shape_of a).nesting
-  in_settings (setting p path q a r ss) = max (max (in_path path) (shape_of a).nesting) (in_settings ss)
+  pub in_settings : Bool → Settings → ℕ
+  in_settings w (last_setting p path q a) = max (in_path w path) (shape_of w a).nesting
+  in_settings w (setting p path q a r ss) = max (max (in_path w path) (shape_of w a).nesting) (in_settings w ss)
 
-  pub in_path : Path → ℕ
-  in_path path_end = 0
-  in_path (index p xs q path) = max (1 + in_all xs) (in_path path)
-  in_path (at_field p f path) = in_path path
+  pub in_path : Bool → Path → ℕ
+  in_path w path_end = 0
+  in_path w (index p xs q path) = max (1 + in_all w xs) (in_path w path)
+  in_path w (at_field p f path) = in_path w path
 
   -- each further bullet is open besides those before it
-  pub in_bullets : Bullets → ℕ
-  in_bullets (last_bullet p a) = 1 + (shape_of a).nesting
-  in_bullets (bullet p a bs) = 1 + max (shape_of a).nesting (in_bullets bs)
+  pub in_bullets : Bool → Bullets → ℕ
+  in_bullets w (last_bullet p a) = 1 + (shape_of w a).nesting
+  in_bullets w (bullet p a bs) = 1 + max (shape_of w a).nesting (in_bullets w bs)
 
-  pub last_boxes : Bullets → Boxes
-  last_boxes (last_bullet p a) = (shape_of a).boxes
-  last_boxes (bullet p a bs) = last_boxes bs
+  pub last_boxes : Bool → Bullets → Boxes
+  last_boxes w (last_bullet p a) = (shape_of w a).boxes
+  last_boxes w (bullet p a bs) = last_boxes w bs
 
-  pub in_arms : Arms → ℕ
-  in_arms (last_arm a p b) = max (shape_of a).nesting (shape_of b).nesting
-  in_arms (other_arm a p b q r s c) = max (max (shape_of a).nesting (shape_of b).nesting) (shape_of c).nesting
-  in_arms (arm a p b q xs) = max (max (shape_of a).nesting (shape_of b).nesting) (in_arms xs)
+  pub in_arms : Bool → Arms → ℕ
+  in_arms w (last_arm a p b) = max (shape_of w a).nesting (shape_of w b).nesting
+  in_arms w (other_arm a p b q r s c) = max (max (shape_of w a).nesting (shape_of w b).nesting) (shape_of w c).nesting
+  in_arms w (arm a p b q xs) = max (max (shape_of w a).nesting (shape_of w b).nesting) (in_arms w xs)
 
-  pub in_locals : Locals → ℕ
-  in_locals (last_local p x q a) = (shape_of a).nesting
-  in_locals (more_locals p x q a ls) = max (shape_of a).nesting (in_locals ls)
+  pub in_locals : Bool → Locals → ℕ
+  in_locals w (last_local p x q a) = (shape_of w a).nesting
+  in_locals w (more_locals p x q a ls) = max (shape_of w a).nesting (in_locals w ls)
 
 -- ---- what is open at an operator behind `x \in`
 -- the shape of a phrase, or none
-abbrev pub may_have : Option Shape → Option Phrase → Type 0
-may_have (Some s) (Some a) = shape_of a ≡ s
-may_have (Some s) None = ⊥
-may_have None (Some a) = ⊥
-may_have None None = Unit {0}
+abbrev pub may_have : Bool → Option Shape → Option Phrase → Type 0
+may_have w (Some s) (Some a) = shape_of w a ≡ s
+may_have w (Some s) None = ⊥
+may_have w None (Some a) = ⊥
+may_have w None None = Unit {0}
 
 abbrev pub element_chain : ℕ → Option Shape → Place → Op → Option ℕ
 element_chain b (Some s) p o = if not (nat_lt (rank op.In).1 (rank o).0) && (stands_left s p o && nat_le s.nesting b) then Some s.chain else None

@@ -1,6 +1,6 @@
 //! How many forms may still open where an operator goes on.
 
-ghost use Rattle.std.specs.Prelude.{◌≡◌, nat_le, Option, Some};
+ghost use Rattle.std.specs.Prelude.{◌≡◌, nat_le, Bool, Option, Some};
 ghost use Rattle.tla_tree.specs.Tree.{Word};
 ghost use Rattle.tla_tree.specs.Spelling.{Phrase};
 ghost use Rattle.tla_tree.specs.Reader as reader;
@@ -13,7 +13,7 @@ use tla_tree::{Op, rank};
 
 /// Whether an expression may be read where so many forms may open.
 pub fn fits(shape: Shape, left: u32) -> bool
-    ensures { (f : Limit → Readers) (a : Phrase) → shape_of a ≡ shape → result ≡ (room f (Some left)).fits 0 a }
+    ensures { (w : Bool) (f : Limit → Readers) (a : Phrase) → shape_of w a ≡ shape → result ≡ (room w f (Some left)).fits 0 a }
 {
     is_within(shape, left)
 }
@@ -56,7 +56,7 @@ fn element_chain(left: u32, element: Option<Shape>, place: Place, op: Op) -> Opt
 /// Behind `x \in` after `{` or `[`: the fewest operators that an operator goes on from, of those of the expression so far and of
 /// its element, where so many forms may open; none where all of them are too deep.
 pub fn least(left: u32, shape: Shape, element: Option<Shape>, place: Place, op: Op) -> Option<u32>
-    ensures { (f : Limit → Readers) (a : Phrase) (p q : Place) (x : Word) → shape_of a ≡ shape → may_have element (element_of p x q a) → result ≡ reader.so_far (room f (Some left)) (behind p x q) a place op }
+    ensures { (w : Bool) (f : Limit → Readers) (a : Phrase) (p q : Place) (x : Word) → shape_of w a ≡ shape → may_have w element (element_of p x q a) → result ≡ reader.so_far (room w f (Some left)) (behind p x q) a place op }
 {
     least_of(left, shape, element, place, op)
 }

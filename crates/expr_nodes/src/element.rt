@@ -1,6 +1,6 @@
 //! `x \in` put in front of the largest left part of an expression that may stand to the right of `\in`.
 
-ghost use Rattle.std.specs.Prelude.{◌≡◌, ◌<◌, ◌+◌, ◌^◌, IfOk, MatchOption, Option, false, length};
+ghost use Rattle.std.specs.Prelude.{◌≡◌, ◌<◌, ◌+◌, ◌^◌, IfOk, MatchOption, Option, Bool, false, length};
 ghost use Rattle.tla_tree.specs.Tree as tree;
 ghost use Rattle.tla_tree.specs.Pool.{Keeps};
 ghost use Rattle.tla_tree.specs.Rank.{is_prefix as is_prefix_of};
@@ -31,7 +31,7 @@ pub fn element_of_operand(
     requires name_in { name.id < length pool.old }
     requires a_in { a.id < length pool.old }
     requires small { name.shape.chain + 1 + a.shape.nesting < 2 ^ 32 }
-    ensures read { IfOk result (λ o. (i : Phrase) (p q : Place) (x : tree.Word) → chain_of i ≡ 0 → IsIn pool.old name (spelled.name p x) → IsIn pool.old a i → MayBeIn pool.new o (element p x q i)) }
+    ensures read { IfOk result (λ o. (w : Bool) (i : Phrase) (p q : Place) (x : tree.Word) → chain_of i ≡ 0 → IsIn w pool.old name (spelled.name p x) → IsIn w pool.old a i → MayBeIn w pool.new o (element p x q i)) }
     ensures kept { Keeps pool.old pool.new }
 {
     if can_be_right(Op::In, a.shape) {
@@ -63,7 +63,7 @@ pub fn element_of_infix(
     requires whole_in { whole.id < length pool.old }
     requires left_in { MatchOption left (Unit {0}) (λ e. (e.id < length pool.old) × (e.shape.chain + 1 + right.shape.nesting < 2 ^ 32)) }
     requires small { name.shape.chain + 1 + whole.shape.nesting < 2 ^ 32 }
-    ensures read { IfOk result (λ o. (i j : Phrase) (p q : Place) (x : tree.Word) → IsIn pool.old name (spelled.name p x) → MayBeIn pool.old left (element p x q i) → IsIn pool.old right j → IsIn pool.old whole (spelled.infix_of i place op j) → MayBeIn pool.new o (element p x q (spelled.infix_of i place op j))) }
+    ensures read { IfOk result (λ o. (w : Bool) (i j : Phrase) (p q : Place) (x : tree.Word) → IsIn w pool.old name (spelled.name p x) → MayBeIn w pool.old left (element p x q i) → IsIn w pool.old right j → IsIn w pool.old whole (spelled.infix_of i place op j) → MayBeIn w pool.new o (element p x q (spelled.infix_of i place op j))) }
     ensures kept { Keeps pool.old pool.new }
 {
     if can_be_right(Op::In, whole.shape) {
@@ -86,7 +86,7 @@ fn element_on_left(
     requires between { is_prefix_of op ≡ false }
     requires right_in { right.id < length pool.old }
     requires left_in { MatchOption left (Unit {0}) (λ e. (e.id < length pool.old) × (e.shape.chain + 1 + right.shape.nesting < 2 ^ 32)) }
-    ensures read { IfOk result (λ o. (e : Option Phrase) (j : Phrase) → MayBeIn pool.old left e → IsIn pool.old right j → MayBeIn pool.new o (on_left e place op j)) }
+    ensures read { IfOk result (λ o. (w : Bool) (e : Option Phrase) (j : Phrase) → MayBeIn w pool.old left e → IsIn w pool.old right j → MayBeIn w pool.new o (on_left e place op j)) }
     ensures kept { Keeps pool.old pool.new }
 {
     match left {

@@ -1,6 +1,6 @@
 //! Forms over lists that were read: binders, fields, settings, arms, definitions, items by columns.
 
-ghost use Rattle.std.specs.Prelude.{◌≡◌, ◌<◌, ◌≤◌, ◌+◌, ◌^◌, ◌++◌, ◌∷◌, IfOk, true, false, [], suc, max, length, List, ℕ};
+ghost use Rattle.std.specs.Prelude.{◌≡◌, ◌<◌, ◌≤◌, ◌+◌, ◌^◌, ◌++◌, ◌∷◌, IfOk, Bool, true, false, [], suc, max, length, List, ℕ};
 ghost use Rattle.tla_token.specs.TokensSeen.{span_bytes};
 ghost use Rattle.tla_tree.specs.Pool.{at, trees_at, AllBelow, Keeps};
 ghost use Rattle.tla_tree.specs.Tree.{node, binding as binding_of};
@@ -80,7 +80,7 @@ pub fn filter(
     requires test_in { test.id < length pool.old }
     requires set_small { 1 + set.shape.nesting < 2 ^ 32 }
     requires test_small { 1 + test.shape.nesting < 2 ^ 32 }
-    ensures read { IfOk result (λ x. (i j : Phrase) (r t u : Place) → IsIn pool.old set i → IsIn pool.old test j → IsIn pool.new x (spelled.filter place word.place (span_bytes tokens.now.bytes.items word.span) r i t j u)) }
+    ensures read { IfOk result (λ x. (w : Bool) (i j : Phrase) (r t u : Place) → IsIn w pool.old set i → IsIn w pool.old test j → IsIn w pool.new x (spelled.filter place word.place (span_bytes tokens.now.bytes.items word.span) r i t j u)) }
     ensures shape { IfOk result (λ x. x.shape ≡ primary_shape_of place (1 + max set.shape.nesting test.shape.nesting)) }
     ensures within { IfOk result (λ x. x.id < length pool.new) }
     ensures kept { Keeps pool.old pool.new }
@@ -112,7 +112,7 @@ pub fn image(
     requires shaped { BinderShaped binder.Image (groups_of groups.items) (suc (length sets.items)) }
     requires body_small { 1 + body.shape.nesting < 2 ^ 32 }
     requires small { 1 + nesting < 2 ^ 32 }
-    ensures read { IfOk result (λ x. (i : Phrase) (bs : Binds) (q r : Place) → IsIn pool.old body i → AreBound pool.old (groups_of groups.items) sets.items nesting bs → IsIn pool.new x (spelled.image place i q bs r)) }
+    ensures read { IfOk result (λ x. (w : Bool) (i : Phrase) (bs : Binds) (q r : Place) → IsIn w pool.old body i → AreBound w pool.old (groups_of groups.items) sets.items nesting bs → IsIn w pool.new x (spelled.image place i q bs r)) }
     ensures shape { IfOk result (λ x. x.shape ≡ primary_shape_of place (1 + max body.shape.nesting nesting)) }
     ensures within { IfOk result (λ x. x.id < length pool.new) }
     ensures kept { Keeps pool.old pool.new }
@@ -139,7 +139,7 @@ pub fn function(
     requires shaped { BinderShaped binder.Function (groups_of groups.items) (suc (length sets.items)) }
     requires body_small { 1 + body.shape.nesting < 2 ^ 32 }
     requires small { 1 + nesting < 2 ^ 32 }
-    ensures read { IfOk result (λ x. (i : Phrase) (bs : Binds) (q r : Place) → IsIn pool.old body i → AreBound pool.old (groups_of groups.items) sets.items nesting bs → IsIn pool.new x (spelled.function place bs q i r)) }
+    ensures read { IfOk result (λ x. (w : Bool) (i : Phrase) (bs : Binds) (q r : Place) → IsIn w pool.old body i → AreBound w pool.old (groups_of groups.items) sets.items nesting bs → IsIn w pool.new x (spelled.function place bs q i r)) }
     ensures shape { IfOk result (λ x. x.shape ≡ primary_shape_of place (1 + max nesting body.shape.nesting)) }
     ensures within { IfOk result (λ x. x.id < length pool.new) }
     ensures kept { Keeps pool.old pool.new }
@@ -166,7 +166,7 @@ pub fn for_all(
     requires shaped { BinderShaped binder.ForAll (groups_of groups.items) (suc (length sets.items)) }
     requires body_small { 1 + body.shape.nesting < 2 ^ 32 }
     requires small { 1 + nesting < 2 ^ 32 }
-    ensures read { IfOk result (λ x. (i : Phrase) (bs : Binds) (q : Place) → IsIn pool.old body i → AreBound pool.old (groups_of groups.items) sets.items nesting bs → IsIn pool.new x (spelled.quantified true place bs q i)) }
+    ensures read { IfOk result (λ x. (w : Bool) (i : Phrase) (bs : Binds) (q : Place) → IsIn w pool.old body i → AreBound w pool.old (groups_of groups.items) sets.items nesting bs → IsIn w pool.new x (spelled.quantified true place bs q i)) }
     ensures shape { IfOk result (λ x. x.shape ≡ open_shape_of place body.shape.boxes (1 + max nesting body.shape.nesting)) }
     ensures within { IfOk result (λ x. x.id < length pool.new) }
     ensures kept { Keeps pool.old pool.new }
@@ -194,7 +194,7 @@ pub fn exists(
     requires shaped { BinderShaped binder.Exists (groups_of groups.items) (suc (length sets.items)) }
     requires body_small { 1 + body.shape.nesting < 2 ^ 32 }
     requires small { 1 + nesting < 2 ^ 32 }
-    ensures read { IfOk result (λ x. (i : Phrase) (bs : Binds) (q : Place) → IsIn pool.old body i → AreBound pool.old (groups_of groups.items) sets.items nesting bs → IsIn pool.new x (spelled.quantified false place bs q i)) }
+    ensures read { IfOk result (λ x. (w : Bool) (i : Phrase) (bs : Binds) (q : Place) → IsIn w pool.old body i → AreBound w pool.old (groups_of groups.items) sets.items nesting bs → IsIn w pool.new x (spelled.quantified false place bs q i)) }
     ensures shape { IfOk result (λ x. x.shape ≡ open_shape_of place body.shape.boxes (1 + max nesting body.shape.nesting)) }
     ensures within { IfOk result (λ x. x.id < length pool.new) }
     ensures kept { Keeps pool.old pool.new }
@@ -223,7 +223,7 @@ pub fn local(
     requires as_many { length right_sides.items ≡ length names.items }
     requires body_small { 1 + body.shape.nesting < 2 ^ 32 }
     requires small { 1 + nesting < 2 ^ 32 }
-    ensures read { IfOk result (λ x. (i : Phrase) (ls : Locals) (q : Place) → IsIn pool.old body i → AreLocals pool.old names.items right_sides.items nesting ls → IsIn pool.new x (spelled.local place ls q i)) }
+    ensures read { IfOk result (λ x. (w : Bool) (i : Phrase) (ls : Locals) (q : Place) → IsIn w pool.old body i → AreLocals w pool.old names.items right_sides.items nesting ls → IsIn w pool.new x (spelled.local place ls q i)) }
     ensures shape { IfOk result (λ x. x.shape ≡ open_shape_of place body.shape.boxes (1 + max nesting body.shape.nesting)) }
     ensures within { IfOk result (λ x. x.id < length pool.new) }
     ensures kept { Keeps pool.old pool.new }
@@ -253,7 +253,7 @@ pub fn fields(
     requires some { 1 ≤ length ids.items }
     requires as_many { length ids.items ≡ length labels }
     requires small { 1 + nesting < 2 ^ 32 }
-    ensures read { IfOk result (λ x. (fs : Fields) (q : Place) → AreFields pool.old labels ids.items nesting fs → IsIn pool.new x (spelled.fields place fs q)) }
+    ensures read { IfOk result (λ x. (w : Bool) (fs : Fields) (q : Place) → AreFields w pool.old labels ids.items nesting fs → IsIn w pool.new x (spelled.fields place fs q)) }
     ensures shape { IfOk result (λ x. x.shape ≡ primary_shape_of place (1 + nesting)) }
     ensures within { IfOk result (λ x. x.id < length pool.new) }
     ensures kept { Keeps pool.old pool.new }
@@ -284,7 +284,7 @@ pub fn records(
     requires some { 1 ≤ length ids.items }
     requires as_many { length ids.items ≡ length labels }
     requires small { 1 + nesting < 2 ^ 32 }
-    ensures read { IfOk result (λ x. (fs : Fields) (q : Place) → AreFields pool.old labels ids.items nesting fs → IsIn pool.new x (spelled.records place fs q)) }
+    ensures read { IfOk result (λ x. (w : Bool) (fs : Fields) (q : Place) → AreFields w pool.old labels ids.items nesting fs → IsIn w pool.new x (spelled.records place fs q)) }
     ensures shape { IfOk result (λ x. x.shape ≡ primary_shape_of place (1 + nesting)) }
     ensures within { IfOk result (λ x. x.id < length pool.new) }
     ensures kept { Keeps pool.old pool.new }
@@ -318,7 +318,7 @@ pub fn except(
     requires as_many { length parts.items ≡ suc (settings_of (slots_of slots.items)) }
     requires f_small { 1 + f.shape.nesting < 2 ^ 32 }
     requires small { 1 + nesting < 2 ^ 32 }
-    ensures read { IfOk result (λ x. (i : Phrase) (ss : Settings) (is : List ℕ) (q r : Place) → parts.items ≡ f.id ∷ is → IsIn pool.old f i → AreSettings pool.old place (slots_of slots.items) is nesting ss → IsIn pool.new x (spelled.except place i q ss r)) }
+    ensures read { IfOk result (λ x. (w : Bool) (i : Phrase) (ss : Settings) (is : List ℕ) (q r : Place) → parts.items ≡ f.id ∷ is → IsIn w pool.old f i → AreSettings w pool.old place (slots_of slots.items) is nesting ss → IsIn w pool.new x (spelled.except place i q ss r)) }
     ensures shape { IfOk result (λ x. x.shape ≡ primary_shape_of place (1 + max f.shape.nesting nesting)) }
     ensures within { IfOk result (λ x. x.id < length pool.new) }
     ensures kept { Keeps pool.old pool.new }
@@ -350,7 +350,7 @@ pub fn cases(
     requires below { AllBelow (length pool.old) ids.items }
     requires shaped { CaseShaped other (length ids.items) }
     requires small { 1 + nesting < 2 ^ 32 }
-    ensures read { IfOk result (λ x. (xs : Arms) → AreArms pool.old other ids.items nesting xs → IsIn pool.new x (spelled.cases place xs)) }
+    ensures read { IfOk result (λ x. (w : Bool) (xs : Arms) → AreArms w pool.old other ids.items nesting xs → IsIn w pool.new x (spelled.cases place xs)) }
     ensures shape { IfOk result (λ x. x.shape ≡ open_shape_of place boxes.Always (1 + nesting)) }
     ensures within { IfOk result (λ x. x.id < length pool.new) }
     ensures kept { Keeps pool.old pool.new }

@@ -1,6 +1,6 @@
 //! Expressions that are put into a pool as they are read: a node for each form, and its shape.
 
-ghost use Rattle.std.specs.Prelude.{◌≡◌, ◌<◌, ◌≤◌, ◌+◌, ◌^◌, IfOk, unwrap_or, true, false, [], length, max, List};
+ghost use Rattle.std.specs.Prelude.{◌≡◌, ◌<◌, ◌≤◌, ◌+◌, ◌^◌, IfOk, unwrap_or, Bool, true, false, [], length, max, List};
 ghost use Rattle.tla_token.specs.Limits.{past_numbers};
 ghost use Rattle.tla_token.specs.TokensSeen.{span_bytes};
 ghost use Rattle.tla_token.specs.Lexemes.{unquoted as unquoted_of};
@@ -11,7 +11,7 @@ ghost use Rattle.tla_tree.specs.Shapes.{Shaped};
 ghost use Rattle.tla_tree.specs.Rank.{is_prefix as is_prefix_of};
 ghost use Rattle.tla_tree.specs.Spelling as spelled;
 ghost use Rattle.tla_tree.specs.Spelling.{Phrase, Phrases, operation as operation_of};
-ghost use Rattle.expr_nodes.specs.ShapeOf.{primary_shape as primary_shape_of, linked_shape as linked_shape_of, open_shape as open_shape_of, infix_shape as infix_shape_of, prefix_shape as prefix_shape_of};
+ghost use Rattle.expr_nodes.specs.ShapeOf.{primary_shape as primary_shape_of, apply_shape as apply_shape_of, select_shape as select_shape_of, open_shape as open_shape_of, infix_shape as infix_shape_of, prefix_shape as prefix_shape_of};
 ghost use Rattle.expr_nodes.specs.ViewSeen.{constant_seen};
 ghost use Rattle.expr_nodes.specs.ReadIn.{IsIn, AreIn, field_seen};
 ghost use Rattle.expr_nodes.specs.Subscripts.{subscript_tree};
@@ -19,7 +19,7 @@ ghost use Rattle.expr_nodes.specs.Subscripts.{subscript_tree};
 use crate::cursor::{FieldName, Word};
 use crate::quote::unquoted;
 use crate::shape::{
-    Shape, infix_shape, larger, linked_shape, open_shape, prefix_shape, primary_shape,
+    Shape, apply_shape, infix_shape, larger, open_shape, prefix_shape, primary_shape, select_shape,
 };
 use crate::view::Constant;
 use std::alloc::{AllocError, Global};
@@ -102,7 +102,7 @@ pub fn operation(op: Op) -> Form
 #[tactic(auto, using(crate::proofs::MakeLemmas::number_in))]
 pub fn number(alloc: Global, pool: &mut Pool, place: Place, n: u128) -> Result<Read, AllocError>
     requires { n < past_numbers }
-    ensures read { IfOk result (λ x. IsIn pool.new x (spelled.number place n)) }
+    ensures read { IfOk result (λ x. (w : Bool) → IsIn w pool.new x (spelled.number place n)) }
     ensures shape { IfOk result (λ x. x.shape ≡ primary_shape_of place 0) }
     ensures within { IfOk result (λ x. x.id < length pool.new) }
     ensures kept { Keeps pool.old pool.new }
@@ -129,7 +129,7 @@ pub fn string(
     place: Place,
     span: Span,
 ) -> Result<Read, AllocError>
-    ensures read { IfOk result (λ x. IsIn pool.new x (spelled.string place (unwrap_or (unquoted_of (span_bytes tokens.now.bytes.items span)) []))) }
+    ensures read { IfOk result (λ x. (w : Bool) → IsIn w pool.new x (spelled.string place (unwrap_or (unquoted_of (span_bytes tokens.now.bytes.items span)) []))) }
     ensures shape { IfOk result (λ x. x.shape ≡ primary_shape_of place 0) }
     ensures within { IfOk result (λ x. x.id < length pool.new) }
     ensures kept { Keeps pool.old pool.new }
@@ -150,7 +150,7 @@ pub fn constant(
     place: Place,
     c: Constant,
 ) -> Result<Read, AllocError>
-    ensures read { IfOk result (λ x. IsIn pool.new x (spelled.constant place (constant_seen c))) }
+    ensures read { IfOk result (λ x. (w : Bool) → IsIn w pool.new x (spelled.constant place (constant_seen c))) }
     ensures shape { IfOk result (λ x. x.shape ≡ primary_shape_of place 0) }
     ensures within { IfOk result (λ x. x.id < length pool.new) }
     ensures kept { Keeps pool.old pool.new }
@@ -170,7 +170,7 @@ pub fn constant(
 /// Only for want of memory.
 #[tactic(auto, using(crate::proofs::MakeLemmas::name_in))]
 pub fn name(alloc: Global, pool: &mut Pool, tokens: &Tokens, word: Word) -> Result<Read, AllocError>
-    ensures read { IfOk result (λ x. IsIn pool.new x (spelled.name word.place (span_bytes tokens.now.bytes.items word.span))) }
+    ensures read { IfOk result (λ x. (w : Bool) → IsIn w pool.new x (spelled.name word.place (span_bytes tokens.now.bytes.items word.span))) }
     ensures shape { IfOk result (λ x. x.shape ≡ primary_shape_of word.place 0) }
     ensures within { IfOk result (λ x. x.id < length pool.new) }
     ensures kept { Keeps pool.old pool.new }
@@ -192,7 +192,7 @@ pub fn primed(
     tokens: &Tokens,
     word: Word,
 ) -> Result<Read, AllocError>
-    ensures read { IfOk result (λ x. (q : Place) → IsIn pool.new x (spelled.primed word.place (span_bytes tokens.now.bytes.items word.span) q)) }
+    ensures read { IfOk result (λ x. (w : Bool) (q : Place) → IsIn w pool.new x (spelled.primed word.place (span_bytes tokens.now.bytes.items word.span) q)) }
     ensures shape { IfOk result (λ x. x.shape ≡ primary_shape_of word.place 0) }
     ensures within { IfOk result (λ x. x.id < length pool.new) }
     ensures kept { Keeps pool.old pool.new }
@@ -206,7 +206,7 @@ pub fn primed(
 #[tactic(auto, using(crate::proofs::MakeLemmas::brackets_in))]
 pub fn brackets(place: Place, a: Read) -> Read
     requires { 1 + a.shape.nesting < 2 ^ 32 }
-    ensures read { (ts : List Tree) (i : Phrase) (q : Place) → IsIn ts a i → IsIn ts result (spelled.brackets place i q) }
+    ensures read { (w : Bool) (ts : List Tree) (i : Phrase) (q : Place) → IsIn w ts a i → IsIn w ts result (spelled.brackets place i q) }
     ensures shape { result.shape ≡ primary_shape_of place (1 + a.shape.nesting) }
 {
     Read {
@@ -222,7 +222,7 @@ pub fn brackets(place: Place, a: Read) -> Read
 /// Only for want of memory.
 #[tactic(auto, using(crate::proofs::MakeLemmas::no_set_in))]
 pub fn empty_set(alloc: Global, pool: &mut Pool, place: Place) -> Result<Read, AllocError>
-    ensures read { IfOk result (λ x. (q : Place) → IsIn pool.new x (spelled.no_set place q)) }
+    ensures read { IfOk result (λ x. (w : Bool) (q : Place) → IsIn w pool.new x (spelled.no_set place q)) }
     ensures shape { IfOk result (λ x. x.shape ≡ primary_shape_of place 1) }
     ensures within { IfOk result (λ x. x.id < length pool.new) }
     ensures kept { Keeps pool.old pool.new }
@@ -238,7 +238,7 @@ pub fn empty_set(alloc: Global, pool: &mut Pool, place: Place) -> Result<Read, A
 /// Only for want of memory.
 #[tactic(auto, using(crate::proofs::MakeLemmas::no_tuple_in))]
 pub fn empty_tuple(alloc: Global, pool: &mut Pool, place: Place) -> Result<Read, AllocError>
-    ensures read { IfOk result (λ x. (q : Place) → IsIn pool.new x (spelled.no_tuple place q)) }
+    ensures read { IfOk result (λ x. (w : Bool) (q : Place) → IsIn w pool.new x (spelled.no_tuple place q)) }
     ensures shape { IfOk result (λ x. x.shape ≡ primary_shape_of place 1) }
     ensures within { IfOk result (λ x. x.id < length pool.new) }
     ensures kept { Keeps pool.old pool.new }
@@ -264,7 +264,7 @@ pub fn functions(
     requires b_in { b.id < length pool.old }
     requires a_small { 1 + a.shape.nesting < 2 ^ 32 }
     requires b_small { 1 + b.shape.nesting < 2 ^ 32 }
-    ensures read { IfOk result (λ x. (i j : Phrase) (q s : Place) → IsIn pool.old a i → IsIn pool.old b j → IsIn pool.new x (spelled.functions place i q j s)) }
+    ensures read { IfOk result (λ x. (w : Bool) (i j : Phrase) (q s : Place) → IsIn w pool.old a i → IsIn w pool.old b j → IsIn w pool.new x (spelled.functions place i q j s)) }
     ensures shape { IfOk result (λ x. x.shape ≡ primary_shape_of place (1 + max a.shape.nesting b.shape.nesting)) }
     ensures within { IfOk result (λ x. x.id < length pool.new) }
     ensures kept { Keeps pool.old pool.new }
@@ -286,7 +286,7 @@ pub fn functions(
 pub fn set_of(pool: &mut Pool, place: Place, ids: Vec<NodeId>, row: Row) -> Result<Read, AllocError>
     requires below { AllBelow (length pool.old) ids.items }
     requires small { 1 + row.nesting < 2 ^ 32 }
-    ensures read { IfOk result (λ x. (xs : Phrases) (q : Place) → AreIn pool.old ids.items row xs → IsIn pool.new x (spelled.set_of place xs q)) }
+    ensures read { IfOk result (λ x. (w : Bool) (xs : Phrases) (q : Place) → AreIn w pool.old ids.items row xs → IsIn w pool.new x (spelled.set_of place xs q)) }
     ensures shape { IfOk result (λ x. x.shape ≡ primary_shape_of place (1 + row.nesting)) }
     ensures within { IfOk result (λ x. x.id < length pool.new) }
     ensures kept { Keeps pool.old pool.new }
@@ -305,7 +305,7 @@ pub fn set_of(pool: &mut Pool, place: Place, ids: Vec<NodeId>, row: Row) -> Resu
 pub fn tuple(pool: &mut Pool, place: Place, ids: Vec<NodeId>, row: Row) -> Result<Read, AllocError>
     requires below { AllBelow (length pool.old) ids.items }
     requires small { 1 + row.nesting < 2 ^ 32 }
-    ensures read { IfOk result (λ x. (xs : Phrases) (q : Place) → AreIn pool.old ids.items row xs → IsIn pool.new x (spelled.tuple place xs q)) }
+    ensures read { IfOk result (λ x. (w : Bool) (xs : Phrases) (q : Place) → AreIn w pool.old ids.items row xs → IsIn w pool.new x (spelled.tuple place xs q)) }
     ensures shape { IfOk result (λ x. x.shape ≡ primary_shape_of place (1 + row.nesting)) }
     ensures within { IfOk result (λ x. x.id < length pool.new) }
     ensures kept { Keeps pool.old pool.new }
@@ -332,7 +332,7 @@ pub fn call(
     requires below { AllBelow (length pool.old) ids.items }
     requires some { 1 ≤ length ids.items }
     requires small { 1 + row.nesting < 2 ^ 32 }
-    ensures read { IfOk result (λ x. (xs : Phrases) (q s : Place) → AreIn pool.old ids.items row xs → IsIn pool.new x (spelled.call word.place (span_bytes tokens.now.bytes.items word.span) q xs s)) }
+    ensures read { IfOk result (λ x. (w : Bool) (xs : Phrases) (q s : Place) → AreIn w pool.old ids.items row xs → IsIn w pool.new x (spelled.call word.place (span_bytes tokens.now.bytes.items word.span) q xs s)) }
     ensures shape { IfOk result (λ x. x.shape ≡ primary_shape_of word.place (1 + row.nesting)) }
     ensures within { IfOk result (λ x. x.id < length pool.new) }
     ensures kept { Keeps pool.old pool.new }
@@ -361,7 +361,7 @@ pub fn subscript(pool: &mut Pool, ids: Vec<NodeId>, first: Place) -> Result<Node
     pool.put(Form::Strict(Strict::Tuple), first, ids)
 }
 
-/// `f[a, b]`
+/// `f[a, b]`; linked tells whether closed applications and fields count.
 ///
 /// # Errors
 ///
@@ -373,24 +373,25 @@ pub fn apply(
     f: Read,
     ids: Vec<NodeId>,
     row: Row,
+    linked: bool,
 ) -> Result<Read, AllocError>
     requires f_in { f.id < length pool.old }
     requires below { AllBelow (length pool.old) ids.items }
     requires some { 1 ≤ length ids.items }
     requires small { f.shape.links + 1 + row.nesting < 2 ^ 32 }
-    ensures read { IfOk result (λ x. (a : Phrase) (xs : Phrases) (p q : Place) → IsIn pool.old f a → AreIn pool.old ids.items row xs → IsIn pool.new x (spelled.apply a p xs q)) }
-    ensures shape { IfOk result (λ x. x.shape ≡ linked_shape_of f.shape row.nesting) }
+    ensures read { IfOk result (λ x. (a : Phrase) (xs : Phrases) (p q : Place) → IsIn linked pool.old f a → AreIn linked pool.old ids.items row xs → IsIn linked pool.new x (spelled.apply a p xs q)) }
+    ensures shape { IfOk result (λ x. x.shape ≡ apply_shape_of linked f.shape row.nesting) }
     ensures within { IfOk result (λ x. x.id < length pool.new) }
     ensures kept { Keeps pool.old pool.new }
 {
     let index = subscript(pool, ids, row.first)?;
     let parts = Vec::from_array(alloc, [f.id, index])?;
     let form = Form::Strict(Strict::Apply);
-    let shape = linked_shape(f.shape, row.nesting);
+    let shape = apply_shape(linked, f.shape, row.nesting);
     put(pool, form, f.shape.start, parts, shape)
 }
 
-/// `r.a`
+/// `r.a`; linked tells whether closed applications and fields count.
 ///
 /// # Errors
 ///
@@ -402,17 +403,19 @@ pub fn select(
     tokens: &Tokens,
     r: Read,
     field: FieldName,
+    linked: bool,
 ) -> Result<Read, AllocError>
     requires r_in { r.id < length pool.old }
     requires small { r.shape.links + 1 < 2 ^ 32 }
-    ensures read { IfOk result (λ x. (a : Phrase) (p : Place) → IsIn pool.old r a → IsIn pool.new x (spelled.select a p (field_seen tokens.now.bytes.items field))) }
-    ensures shape { IfOk result (λ x. x.shape ≡ linked_shape_of r.shape 0) }
+    ensures read { IfOk result (λ x. (a : Phrase) (p : Place) → IsIn linked pool.old r a → IsIn linked pool.new x (spelled.select a p (field_seen tokens.now.bytes.items field))) }
+    ensures shape { IfOk result (λ x. x.shape ≡ select_shape_of linked r.shape) }
     ensures within { IfOk result (λ x. x.id < length pool.new) }
     ensures kept { Keeps pool.old pool.new }
 {
     let form = Form::Strict(Strict::Select(name_of(alloc, tokens, field.span)?));
     let parts = Vec::from_array(alloc, [r.id])?;
-    put(pool, form, r.shape.start, parts, linked_shape(r.shape, 0))
+    let shape = select_shape(linked, r.shape);
+    put(pool, form, r.shape.start, parts, shape)
 }
 
 // ---- operators
@@ -428,7 +431,7 @@ pub fn infix(alloc: Global, pool: &mut Pool, a: Read, op: Op, b: Read) -> Result
     requires a_in { a.id < length pool.old }
     requires b_in { b.id < length pool.old }
     requires small { a.shape.chain + 1 + b.shape.nesting < 2 ^ 32 }
-    ensures read { IfOk result (λ x. (i j : Phrase) (p : Place) → IsIn pool.old a i → IsIn pool.old b j → IsIn pool.new x (spelled.infix_of i p op j)) }
+    ensures read { IfOk result (λ x. (w : Bool) (i j : Phrase) (p : Place) → IsIn w pool.old a i → IsIn w pool.old b j → IsIn w pool.new x (spelled.infix_of i p op j)) }
     ensures shape { IfOk result (λ x. x.shape ≡ infix_shape_of a.shape op b.shape) }
     ensures within { IfOk result (λ x. x.id < length pool.new) }
     ensures kept { Keeps pool.old pool.new }
@@ -454,7 +457,7 @@ pub fn prefix(
     requires before { is_prefix_of op ≡ true }
     requires a_in { a.id < length pool.old }
     requires small { 1 + a.shape.nesting < 2 ^ 32 }
-    ensures read { IfOk result (λ x. (i : Phrase) → IsIn pool.old a i → IsIn pool.new x (spelled.prefix_of place op i)) }
+    ensures read { IfOk result (λ x. (w : Bool) (i : Phrase) → IsIn w pool.old a i → IsIn w pool.new x (spelled.prefix_of place op i)) }
     ensures shape { IfOk result (λ x. x.shape ≡ prefix_shape_of place op a.shape) }
     ensures within { IfOk result (λ x. x.id < length pool.new) }
     ensures kept { Keeps pool.old pool.new }
@@ -484,7 +487,7 @@ pub fn choice(
     requires a_small { 1 + a.shape.nesting < 2 ^ 32 }
     requires b_small { 1 + b.shape.nesting < 2 ^ 32 }
     requires c_small { 1 + c.shape.nesting < 2 ^ 32 }
-    ensures read { IfOk result (λ x. (i j k : Phrase) (q r : Place) → IsIn pool.old a i → IsIn pool.old b j → IsIn pool.old c k → IsIn pool.new x (spelled.if_then_else place i q j r k)) }
+    ensures read { IfOk result (λ x. (w : Bool) (i j k : Phrase) (q r : Place) → IsIn w pool.old a i → IsIn w pool.old b j → IsIn w pool.old c k → IsIn w pool.new x (spelled.if_then_else place i q j r k)) }
     ensures shape { IfOk result (λ x. x.shape ≡ open_shape_of place c.shape.boxes (1 + max (max a.shape.nesting b.shape.nesting) c.shape.nesting)) }
     ensures within { IfOk result (λ x. x.id < length pool.new) }
     ensures kept { Keeps pool.old pool.new }

@@ -1,13 +1,13 @@
 //! What reading goes by of an expression that was read: how it is spelled outermost and at its end, and what it opens.
 
-ghost use Rattle.std.specs.Prelude.{◌≡◌, ◌<◌, ◌+◌, ◌^◌, max, IsTrue, false};
+ghost use Rattle.std.specs.Prelude.{◌≡◌, ◌<◌, ◌+◌, ◌^◌, max, IsTrue, Bool, false};
 ghost use Rattle.tla_tree.specs.Rank as pure;
 ghost use Rattle.tla_tree.specs.Rank.{same_op as same_op_of};
 ghost use Rattle.tla_tree.specs.Spelling.{Phrase};
 ghost use Rattle.tla_tree.specs.Spelling as spelling;
 ghost use Rattle.tla_tree.specs.Nesting as nesting;
 ghost use Rattle.tla_tree.specs.Reader as reader;
-ghost use Rattle.expr_nodes.specs.ShapeOf.{is_above as is_above_of, is_applied as is_applied_of, is_primary as is_primary_of, is_open as is_open_of, is_behind as is_behind_of, is_left as is_left_of, takes as takes_of, right_of as right_of_of, shape_of, infix_shape as infix_shape_of, prefix_shape as prefix_shape_of, open_shape as open_shape_of, list_shape as list_shape_of, linked_shape as linked_shape_of, primary_shape as primary_shape_of, context_seen, stands_left as stands_left_of, stands_right as stands_right_of, stands_at_head as stands_at_head_of, continues as continues_of, stands_under as stands_under_of};
+ghost use Rattle.expr_nodes.specs.ShapeOf.{is_above as is_above_of, is_applied as is_applied_of, is_primary as is_primary_of, is_open as is_open_of, is_behind as is_behind_of, is_left as is_left_of, takes as takes_of, right_of as right_of_of, shape_of, infix_shape as infix_shape_of, prefix_shape as prefix_shape_of, open_shape as open_shape_of, list_shape as list_shape_of, apply_shape as apply_shape_of, select_shape as select_shape_of, links_after as links_after_of, field_nesting as field_nesting_of, primary_shape as primary_shape_of, context_seen, stands_left as stands_left_of, stands_right as stands_right_of, stands_at_head as stands_at_head_of, continues as continues_of, stands_under as stands_under_of};
 
 use tla_token::Place;
 use tla_tree::{Op, rank};
@@ -54,7 +54,7 @@ pub struct Shape {
     pub boxes: Boxes,
     /// How many infix operators it groups from the left.
     pub chain: u32,
-    /// How many fields and applications follow one another at its end.
+    /// How many fields and applications follow one another at its end, where these count.
     pub links: u32,
     /// The most forms that are open at a token of it.
     pub nesting: u32,
@@ -255,7 +255,7 @@ pub fn larger(m: u32, n: u32) -> u32
 
 /// Whether it may stand to the left of an operator at a place.
 pub fn can_be_left(shape: Shape, place: Place, op: Op) -> bool
-    ensures { (a : Phrase) → shape_of a ≡ shape → result ≡ spelling.can_be_left a place op }
+    ensures { (w : Bool) (a : Phrase) → shape_of w a ≡ shape → result ≡ spelling.can_be_left a place op }
 {
     stands_left(shape, place, op)
 }
@@ -269,7 +269,7 @@ pub(crate) fn stands_left(shape: Shape, place: Place, op: Op) -> bool
 
 /// Whether it may stand to the right of an operator.
 pub fn can_be_right(op: Op, shape: Shape) -> bool
-    ensures { (a : Phrase) → shape_of a ≡ shape → result ≡ spelling.can_be_right op a }
+    ensures { (w : Bool) (a : Phrase) → shape_of w a ≡ shape → result ≡ spelling.can_be_right op a }
 {
     stands_right(op, shape)
 }
@@ -282,7 +282,7 @@ fn stands_right(op: Op, shape: Shape) -> bool
 
 /// Whether `[` or `.` at a place may follow it.
 pub fn can_be_head(shape: Shape, place: Place) -> bool
-    ensures { (a : Phrase) → shape_of a ≡ shape → result ≡ spelling.can_be_head a place }
+    ensures { (w : Bool) (a : Phrase) → shape_of w a ≡ shape → result ≡ spelling.can_be_head a place }
 {
     stands_at_head(shape, place)
 }
@@ -305,14 +305,14 @@ fn is_left(list: Option<Bullet>, place: Place) -> bool
 
 /// Whether a `[]` in this column, after it, belongs to a `CASE` in it.
 pub fn takes_box(col: u32, shape: Shape) -> bool
-    ensures { (a : Phrase) → shape_of a ≡ shape → result ≡ spelling.takes_box col a }
+    ensures { (w : Bool) (a : Phrase) → shape_of w a ≡ shape → result ≡ spelling.takes_box col a }
 {
     takes(col, shape.boxes)
 }
 
 /// Whether an operator at a place goes on from it, above a rank.
 pub fn goes_on(above: u8, shape: Shape, place: Place, op: Op) -> bool
-    ensures phrase { (a : Phrase) → shape_of a ≡ shape → result ≡ reader.goes_on above a place op }
+    ensures phrase { (w : Bool) (a : Phrase) → shape_of w a ≡ shape → result ≡ reader.goes_on above a place op }
     ensures between { IsTrue result → pure.is_prefix op ≡ false }
 {
     continues(above, shape, place, op)
@@ -326,7 +326,7 @@ fn continues(above: u8, shape: Shape, place: Place, op: Op) -> bool
 
 /// Whether it may stand under a prefix operator.
 pub fn can_be_under(op: Op, shape: Shape) -> bool
-    ensures { (a : Phrase) → shape_of a ≡ shape → result ≡ spelling.can_be_under op a }
+    ensures { (w : Bool) (a : Phrase) → shape_of w a ≡ shape → result ≡ spelling.can_be_under op a }
 {
     stands_under(op, shape)
 }
@@ -341,28 +341,28 @@ fn stands_under(op: Op, shape: Shape) -> bool
 
 /// How many infix operators it groups from the left.
 pub fn chain(shape: Shape) -> u32
-    ensures { (a : Phrase) → shape_of a ≡ shape → result ≡ nesting.chain a }
+    ensures { (w : Bool) (a : Phrase) → shape_of w a ≡ shape → result ≡ nesting.chain a }
 {
     shape.chain
 }
 
-/// How many fields and applications follow one another at its end.
+/// How many fields and applications follow one another at its end, where these count.
 pub fn links(shape: Shape) -> u32
-    ensures { (a : Phrase) → shape_of a ≡ shape → result ≡ nesting.links a }
+    ensures { (w : Bool) (a : Phrase) → shape_of w a ≡ shape → result ≡ nesting.before w a }
 {
     shape.links
 }
 
 /// The most forms that are open at a token of it.
 pub fn text_nesting(shape: Shape) -> u32
-    ensures { (a : Phrase) → shape_of a ≡ shape → result ≡ nesting.text_nesting a }
+    ensures { (w : Bool) (a : Phrase) → shape_of w a ≡ shape → result ≡ nesting.nesting_in w a }
 {
     shape.nesting
 }
 
 /// The place of its first token.
 pub fn start(shape: Shape) -> Place
-    ensures { (a : Phrase) → shape_of a ≡ shape → result ≡ spelling.start a }
+    ensures { (w : Bool) (a : Phrase) → shape_of w a ≡ shape → result ≡ spelling.start a }
 {
     shape.start
 }
@@ -386,17 +386,49 @@ pub fn primary_shape(start: Place, nesting: u32) -> Shape
     }
 }
 
-/// That of an application or field of a primary, with so many forms open behind the primary.
-pub fn linked_shape(primary: Shape, behind: u32) -> Shape
+// How many links are there with one more, where they count.
+fn links_after(linked: bool, links: u32) -> u32
+    requires { links + 1 < 2 ^ 32 }
+    ensures { result ≡ links_after_of linked links }
+{
+    if linked { links + 1 } else { 0 }
+}
+
+// The most forms that are open at a token of a field of a primary.
+fn field_nesting(linked: bool, primary: Shape) -> u32
+    requires { primary.links + 1 < 2 ^ 32 }
+    ensures { result ≡ field_nesting_of linked primary }
+{
+    if linked {
+        larger(primary.nesting, primary.links + 1)
+    } else {
+        primary.nesting
+    }
+}
+
+/// That of an application of a primary, with so many forms open in its arguments; linked tells whether closed applications
+/// and fields count.
+pub fn apply_shape(linked: bool, primary: Shape, behind: u32) -> Shape
     requires { primary.links + 1 + behind < 2 ^ 32 }
-    ensures { result ≡ linked_shape_of primary behind }
+    ensures { result ≡ apply_shape_of linked primary behind }
 {
     Shape {
-        links: primary.links + 1,
+        links: links_after(linked, primary.links),
         ..primary_shape(
             primary.start,
             larger(primary.nesting, primary.links + 1 + behind),
         )
+    }
+}
+
+/// That of a field of a primary; linked tells whether closed applications and fields count.
+pub fn select_shape(linked: bool, primary: Shape) -> Shape
+    requires { primary.links + 1 < 2 ^ 32 }
+    ensures { result ≡ select_shape_of linked primary }
+{
+    Shape {
+        links: links_after(linked, primary.links),
+        ..primary_shape(primary.start, field_nesting(linked, primary))
     }
 }
 

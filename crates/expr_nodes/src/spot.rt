@@ -14,12 +14,14 @@ use crate::view::{Key, Mark, View, view_of};
 use tla_token::{Place, Rule, Tokens};
 use tla_tree::Op;
 
-/// Where reading goes on: at this token, with all that is read to the right of the edge, and so many forms that may open.
+/// Where reading goes on: at this token, with all that is read to the right of the edge, and so many forms that may open;
+/// linked tells whether fields and closed applications count as open forms.
 #[derive(Clone, Copy)]
 pub struct Spot {
     pub at: usize,
     pub edge: u32,
     pub left: u32,
+    pub linked: bool,
 }
 
 /// The next token, if it is to the right of the edge, and else one that goes with nothing.
@@ -103,6 +105,7 @@ pub fn deeper(tokens: &Tokens, s: Spot, besides: u32) -> Result<Spot, Halt>
     ensures left { IfOk result (λ d. d.left + suc besides ≡ s.left) }
     ensures at { IfOk result (λ d. d.at ≡ s.at) }
     ensures edge { IfOk result (λ d. d.edge ≡ s.edge) }
+    ensures linked { IfOk result (λ d. d.linked ≡ s.linked) }
     ensures deep { OnErr result (s.left ≤ besides) }
     ensures refused { IfErr result (λ e. e ≡ halt.Refused rule.TooDeep (length (ahead tokens.now s.at))) }
 {

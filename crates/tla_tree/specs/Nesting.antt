@@ -135,6 +135,10 @@ nesting_in w a = greatest (counts_in w 0 a [])
 abbrev pub text_nesting : Phrase → ℕ
 text_nesting a = nesting_in true a
 
+-- how many forms may be open at a token of a module's translation, where fields and closed applications don't count
+abbrev pub deepest_in_module : ℕ
+deepest_in_module = 1200
+
 -- ---- on the tree: each form counts one in each of its parts, and a name has none
 abbrev pub form_nesting : Form → ℕ → ℕ
 form_nesting (name x) n = 0

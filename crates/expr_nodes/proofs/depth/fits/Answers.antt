@@ -4,4 +4,4 @@ use Rattle.expr_nodes.proofs.DepthLemmas.{fits_is}
 use Rattle.expr_nodes.proofs.depth.fits.Goals as goal
 
 pub returns : goal.returns
-returns c = λ f a e. c.is_within.ensures ∙ fits_is c.args.shape c.args.left a e
+returns c = λ w f a e. c.is_within.ensures ∙ fits_is w c.args.shape c.args.left a e

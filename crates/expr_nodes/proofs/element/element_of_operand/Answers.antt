@@ -6,5 +6,5 @@ use Rattle.expr_nodes.proofs.ElementLemmas.{element_yes}
 use Rattle.expr_nodes.proofs.element.element_of_operand.Goals as goal
 
 pub returns-in_ok-whole-clause-read : goal.returns-in_ok-whole-clause-read
-returns-in_ok-whole-clause-read c = λ i p q x z n a.
-    subst (λ (e : Option Phrase). MayBeIn c.infix.new.pool (Some c.in_ok-whole.whole) e) (sym (element_yes i p q x (sym (c.can_be_right.ensures i a.shape) ∙ c.if-can_be_right.true))) (c.in_ok-whole.ensures.read _ i q n a)
+returns-in_ok-whole-clause-read c = λ w i p q x z n a.
+    subst (λ (e : Option Phrase). MayBeIn w c.infix.new.pool (Some c.in_ok-whole.whole) e) (sym (element_yes i p q x (sym (c.can_be_right.ensures w i a.shape) ∙ c.if-can_be_right.true))) (c.in_ok-whole.ensures.read w _ i q n a)

@@ -8,4 +8,4 @@ use Rattle.expr_nodes.proofs.make.apply.Goals as goal
 
 pub returns-clause-read : goal.returns-clause-read
 returns-clause-read c = ok_three c.put.result c.put.ensures.within c.put.ensures.tree c.put.ensures.shape (λ x l t s a xs p q g h.
-    apply_in c.in_ok-index.index p q c.in_ok-index.ensures.kept l (t ∙ ap (λ (is : List ℕ). node (pure.strict pure.apply) c.args.f.shape.start (trees_at c.subscript.new.pool is)) c.in_ok-parts.ensures.items) (c.in_ok-index.ensures.tree ∙ subscript_in h) (s ∙ c.linked_shape-shape.ensures) g h)
+    apply_in c.in_ok-index.index p q c.in_ok-index.ensures.kept l (t ∙ ap (λ (is : List ℕ). node (pure.strict pure.apply) c.args.f.shape.start (trees_at c.subscript.new.pool is)) c.in_ok-parts.ensures.items) (c.in_ok-index.ensures.tree ∙ subscript_in h) (s ∙ c.apply_shape-shape.ensures) g h)

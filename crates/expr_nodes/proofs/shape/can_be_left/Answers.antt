@@ -3,4 +3,4 @@ use Rattle.expr_nodes.proofs.ShapeLemmas.{left_is}
 use Rattle.expr_nodes.proofs.shape.can_be_left.Goals as goal
 
 pub returns : goal.returns
-returns c = λ a e. left_is _ _ _ _ a c.stands_left.ensures e
+returns c = λ w a e. left_is w _ _ _ _ a c.stands_left.ensures e

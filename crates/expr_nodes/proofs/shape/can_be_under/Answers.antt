@@ -3,4 +3,4 @@ use Rattle.expr_nodes.proofs.ShapeLemmas.{under_is}
 use Rattle.expr_nodes.proofs.shape.can_be_under.Goals as goal
 
 pub returns : goal.returns
-returns c = λ a e. under_is _ _ _ a c.stands_under.ensures e
+returns c = λ w a e. under_is w _ _ _ a c.stands_under.ensures e

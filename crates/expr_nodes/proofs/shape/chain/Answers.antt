@@ -5,4 +5,4 @@ use Rattle.expr_nodes.proofs.ShapeLemmas.{chain_is}
 use Rattle.expr_nodes.proofs.shape.chain.Goals as goal
 
 pub returns : goal.returns
-returns c = λ a e. sym (ap (λ (s : Shape). s.chain) e) ∙ chain_is a
+returns c = λ w a e. sym (ap (λ (s : Shape). s.chain) e) ∙ chain_is w a

@@ -5,4 +5,4 @@ use Rattle.expr_nodes.proofs.ShapeLemmas.{links_is}
 use Rattle.expr_nodes.proofs.shape.links.Goals as goal
 
 pub returns : goal.returns
-returns c = λ a e. sym (ap (λ (s : Shape). s.links) e) ∙ links_is a
+returns c = λ w a e. sym (ap (λ (s : Shape). s.links) e) ∙ links_is w a

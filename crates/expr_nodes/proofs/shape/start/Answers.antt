@@ -5,4 +5,4 @@ use Rattle.expr_nodes.proofs.ShapeLemmas.{start_is}
 use Rattle.expr_nodes.proofs.shape.start.Goals as goal
 
 pub returns : goal.returns
-returns c = λ a e. sym (ap (λ (s : Shape). s.start) e) ∙ start_is a
+returns c = λ w a e. sym (ap (λ (s : Shape). s.start) e) ∙ start_is w a

@@ -5,4 +5,4 @@ use Rattle.expr_nodes.proofs.ShapeLemmas.{nesting_is}
 use Rattle.expr_nodes.proofs.shape.text_nesting.Goals as goal
 
 pub returns : goal.returns
-returns c = λ a e. sym (ap (λ (s : Shape). s.nesting) e) ∙ nesting_is a
+returns c = λ w a e. sym (ap (λ (s : Shape). s.nesting) e) ∙ nesting_is w a
