@@ -39,6 +39,7 @@ fn past_word_inside(tokens: &Tokens, at: usize) -> Result<(Word, usize), Halt>
                 at,
                 edge: 0,
                 left: 0,
+                linked: true,
             },
         );
         if let View::Word(span) = t.view {
@@ -75,6 +76,7 @@ fn subscripted(
             at: end,
             edge: 0,
             left: 0,
+            linked: true,
         },
         Mark::CloseSquare,
     )?;
@@ -107,6 +109,7 @@ fn selected(
             at,
             edge: 0,
             left: 0,
+            linked: true,
         },
     )?;
     let form = Form::Strict(Strict::Select(name_of(alloc, tokens, field.span)?));
@@ -137,6 +140,7 @@ fn link(
         at,
         edge: 0,
         left: 0,
+        linked: true,
     };
     if let Some(next) = after_mark(tokens, s, Mark::OpenSquare) {
         let x = subscripted(alloc, tokens, pool, next, place, left)?;

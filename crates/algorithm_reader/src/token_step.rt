@@ -31,6 +31,7 @@ fn spot(at: usize) -> Spot
         at,
         edge: 0,
         left: 0,
+        linked: true,
     }
 }
 

@@ -1,5 +1,5 @@
 -- What is known of binds that were read by their numbers alone.
-use Rattle.std.proofs.Common.{◌≡◌, ℕ, suc, ◌+◌, ◌≤◌, List, [], ◌∷◌, length, map, refl, sym, ap, ◌∙◌, subst, arith}
+use Rattle.std.proofs.Common.{Bool, ◌≡◌, ℕ, suc, ◌+◌, ◌≤◌, List, [], ◌∷◌, length, map, refl, sym, ap, ◌∙◌, subst, arith}
 use Rattle.std.proofs.lemmas.List.{append-nil}
 use Rattle.tla_tree.specs.Tree.{Tree, Trees, no_trees, Name}
 use Rattle.tla_tree.specs.TreeOf.{trees_from}
@@ -32,10 +32,10 @@ count_sets (last_bind p x q a) ts = (let e : suc (count ts) ≡ 1 + count ts = o
 count_sets (bind p x q a r bs) ts = (let e : suc (count (sets_before bs ts)) ≡ suc (length (groups bs)) + count ts = omega (arith, count_sets bs ts) in e)
 count_sets (share p x q bs) ts = count_sets bs ts ∙ ap (λ (n : ℕ). n + count ts) (sym (shared_many (named p x) (groups bs) (have_names bs)))
 
-pub bound_names : {ts : List Tree} {gs : List (List Name)} {is : List ℕ} {n : ℕ} {bs : Binds} → AreBound ts gs is n bs → HaveNames gs
-bound_names {ts} {gs} {is} {n} {bs} h = subst HaveNames h.names (have_names bs)
+pub bound_names : {linked : Bool} {ts : List Tree} {gs : List (List Name)} {is : List ℕ} {n : ℕ} {bs : Binds} → AreBound linked ts gs is n bs → HaveNames gs
+bound_names {linked} {ts} {gs} {is} {n} {bs} h = subst HaveNames h.names (have_names bs)
 
-pub bound_many : {ts : List Tree} {gs : List (List Name)} {is : List ℕ} {n : ℕ} {bs : Binds} → AreBound ts gs is n bs → length is ≡ length gs
-bound_many {ts} {gs} {is} {n} {bs} h =
+pub bound_many : {linked : Bool} {ts : List Tree} {gs : List (List Name)} {is : List ℕ} {n : ℕ} {bs : Binds} → AreBound linked ts gs is n bs → length is ≡ length gs
+bound_many {linked} {ts} {gs} {is} {n} {bs} h =
     let all : count (sets_before bs no_trees) ≡ length is = ap count (h.sets []) ∙ ap (λ (us : List Tree). count (trees_from us)) (append-nil (map (at ts) is)) ∙ count_at ts is in
     omega (arith, all, count_sets bs no_trees, ap (λ (gs : List (List Name)). length gs) h.names)

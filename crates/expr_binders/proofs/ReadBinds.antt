@@ -1,5 +1,5 @@
 -- Binds, as the code reads them: what was read goes before what is still to come.
-use Rattle.std.proofs.Common.{◌≡◌, ℕ, max, true, false, List, [], ◌∷◌, ◌++◌, length, Ok, Some, refl, sym, ap, ◌∙◌, subst, arith}
+use Rattle.std.proofs.Common.{Bool, ◌≡◌, ℕ, max, true, false, List, [], ◌∷◌, ◌++◌, length, Ok, Some, refl, sym, ap, ◌∙◌, subst, arith}
 use Rattle.std.proofs.lemmas.List.{append_assoc}
 use Rattle.tla_token.specs.declared.place.Place.{Place}
 use Rattle.tla_token.specs.declared.token.Tokens.{Tokens}
@@ -11,7 +11,7 @@ use Rattle.tla_tree.specs.Lexical.{TokenView, Token}
 use Rattle.tla_tree.specs.Lexical as tk
 use Rattle.tla_tree.specs.Spelling.{Phrase, Binds, last_bind, bind, share, named, in_first, groups, sets_before}
 use Rattle.tla_tree.specs.Reader.{Out, Reader, then_read, ◌>>=◌, gives, peek, next, tail, free, is_mark, is_sign, place_if, took, a_word, a_sign, binds_by, bind_rest}
-use Rattle.tla_tree.specs.Whole.{whole}
+use Rattle.tla_tree.specs.Whole.{whole_in}
 use Rattle.tla_tree.proofs.Whole.{binds_is}
 use Rattle.tla_tree.proofs.SoundTokens.{mark_is}
 use Rattle.tla_tree.proofs.PoolNumbers.{Keeps-then, AllBelow-more, map_at-kept}
@@ -45,8 +45,8 @@ onto_more xs x [] = refl
 onto_more xs x (g ∷ gs) = ap (λ (ys : List Name). ys ∷ gs) (sym (append_assoc xs (x ∷ []) g))
 
 -- ---- in a pool that grew
-pub kept_bound : {old new : List Tree} {gs : List (List Name)} {is : List ℕ} {n : ℕ} {bs : Binds} → Keeps old new → AreBound old gs is n bs → AreBound new gs is n bs
-kept_bound {old} {new} {gs} {is} {n} {bs} k h = record {
+pub kept_bound : {linked : Bool} {old new : List Tree} {gs : List (List Name)} {is : List ℕ} {n : ℕ} {bs : Binds} → Keeps old new → AreBound linked old gs is n bs → AreBound linked new gs is n bs
+kept_bound {linked} {old} {new} {gs} {is} {n} {bs} k h = record {
   below = AllBelow-more (length old) (length new) is k.longer h.below;
   names = h.names;
   sets = (λ us. h.sets us ∙ ap (λ (ts : List Tree). trees_from (ts ++ us)) (sym (map_at-kept old new is k h.below)));
@@ -54,17 +54,17 @@ kept_bound {old} {new} {gs} {is} {n} {bs} k h = record {
 }
 
 -- ---- one bind, and one before others
-pub one_bound : {ts : List Tree} {x : Read} {a : Phrase} (p : Place) (w : Word) (q : Place) → IsIn ts x a → AreBound ts ((named p w ∷ []) ∷ []) (x.id ∷ []) x.shape.nesting (last_bind p w q a)
-one_bound p w q h = record {
+pub one_bound : {linked : Bool} {ts : List Tree} {x : Read} {a : Phrase} (p : Place) (w : Word) (q : Place) → IsIn linked ts x a → AreBound linked ts ((named p w ∷ []) ∷ []) (x.id ∷ []) x.shape.nesting (last_bind p w q a)
+one_bound {linked} p w q h = record {
   below = (h.below, tt);
   names = refl;
   sets = (λ us. ap (λ (t : Tree). tree t (trees_from us)) (sym h.tree));
   nesting = ap (λ (s : Shape). s.nesting) h.shape;
 }
 
-pub bound_before : {ts : List Tree} {x : Read} {a : Phrase} {gs : List (List Name)} {is : List ℕ} {n : ℕ} {bs : Binds} (p : Place) (w : Word) (q r : Place) → IsIn ts x a → AreBound ts gs is n bs
-    → AreBound ts ((named p w ∷ []) ∷ gs) (x.id ∷ is) (max x.shape.nesting n) (bind p w q a r bs)
-bound_before p w q r h g = record {
+pub bound_before : {linked : Bool} {ts : List Tree} {x : Read} {a : Phrase} {gs : List (List Name)} {is : List ℕ} {n : ℕ} {bs : Binds} (p : Place) (w : Word) (q r : Place) → IsIn linked ts x a → AreBound linked ts gs is n bs
+    → AreBound linked ts ((named p w ∷ []) ∷ gs) (x.id ∷ is) (max x.shape.nesting n) (bind p w q a r bs)
+bound_before {linked} p w q r h g = record {
   below = (h.below, g.below);
   names = ap (λ (gs : List (List Name)). (named p w ∷ []) ∷ gs) g.names;
   sets = (λ us y. tree (sym h.tree y) (g.sets us y));
@@ -72,51 +72,51 @@ bound_before p w q r h g = record {
 }
 
 -- ---- the readers' steps
-module _ (b e : ℕ) (p : Place) (x : Word) (ts : List Token) where
+module _ (linked : Bool) (b e : ℕ) (p : Place) (x : Word) (ts : List Token) where
   comma_next : is_mark tk.comma (next e ts).kind ≡ true
-      → (whole (Some b)).binds e p x ts ≡ then_read (a_word e (tail ts)) (λ y. (whole (Some b)).binds e y.0 y.1 >>= λ bs. gives (share p x (next e ts).place bs))
-  comma_next h = binds_is (Some b) e p x ts ∙ ap (λ (k : TokenView). binds_by (whole (Some b)) e p x (next e ts).place k ts) (mark_is tk.comma (next e ts).kind h)
+      → (whole_in linked (Some b)).binds e p x ts ≡ then_read (a_word e (tail ts)) (λ y. (whole_in linked (Some b)).binds e y.0 y.1 >>= λ bs. gives (share p x (next e ts).place bs))
+  comma_next h = binds_is linked (Some b) e p x ts ∙ ap (λ (k : TokenView). binds_by (whole_in linked (Some b)) e p x (next e ts).place k ts) (mark_is tk.comma (next e ts).kind h)
 
   sign_next : is_mark tk.comma (next e ts).kind ≡ false
-      → (whole (Some b)).binds e p x ts ≡ then_read (a_sign e op.In ts) (λ q. (whole (Some b)).expr e free >>= λ a. peek e (bind_rest (whole (Some b)) e p x q a))
-  sign_next h = binds_is (Some b) e p x ts ∙ by (next e ts).place (next e ts).kind h
+      → (whole_in linked (Some b)).binds e p x ts ≡ then_read (a_sign e op.In ts) (λ q. (whole_in linked (Some b)).expr e free >>= λ a. peek e (bind_rest (whole_in linked (Some b)) e p x q a))
+  sign_next h = binds_is linked (Some b) e p x ts ∙ by (next e ts).place (next e ts).kind h
     where
       by : (s : Place) (k : TokenView) → is_mark tk.comma k ≡ false
-          → binds_by (whole (Some b)) e p x s k ts ≡ then_read (took (place_if (is_sign op.In) s k) ts) (λ q. (whole (Some b)).expr e free >>= λ a. peek e (bind_rest (whole (Some b)) e p x q a))
+          → binds_by (whole_in linked (Some b)) e p x s k ts ≡ then_read (took (place_if (is_sign op.In) s k) ts) (λ q. (whole_in linked (Some b)).expr e free >>= λ a. peek e (bind_rest (whole_in linked (Some b)) e p x q a))
       by s (tk.mark tk.comma) h = (let no : true ≡ false = h in absurd cc)
       by s (tk.sign op.In) h = refl
       by s k h = refl
 
 -- after a set
-module _ (b e : ℕ) (p : Place) (x : Word) (q : Place) (a : Phrase) (ts : List Token) where
-  pub rest_none : is_mark tk.comma (next e ts).kind ≡ false → peek e (bind_rest (whole (Some b)) e p x q a) ts ≡ Ok (last_bind p x q a, ts)
+module _ (linked : Bool) (b e : ℕ) (p : Place) (x : Word) (q : Place) (a : Phrase) (ts : List Token) where
+  pub rest_none : is_mark tk.comma (next e ts).kind ≡ false → peek e (bind_rest (whole_in linked (Some b)) e p x q a) ts ≡ Ok (last_bind p x q a, ts)
   rest_none h = by (next e ts).kind h
     where
-      by : (k : TokenView) → is_mark tk.comma k ≡ false → bind_rest (whole (Some b)) e p x q a (next e ts).place k ts ≡ Ok (last_bind p x q a, ts)
+      by : (k : TokenView) → is_mark tk.comma k ≡ false → bind_rest (whole_in linked (Some b)) e p x q a (next e ts).place k ts ≡ Ok (last_bind p x q a, ts)
       by (tk.mark tk.comma) h = (let no : true ≡ false = h in absurd cc)
       by k h = refl
 
   rest_comma : is_mark tk.comma (next e ts).kind ≡ true
-      → peek e (bind_rest (whole (Some b)) e p x q a) ts ≡ then_read (a_word e (tail ts)) (λ y. (whole (Some b)).binds e y.0 y.1 >>= λ bs. gives (bind p x q a (next e ts).place bs))
-  rest_comma h = ap (λ (k : TokenView). bind_rest (whole (Some b)) e p x q a (next e ts).place k ts) (mark_is tk.comma (next e ts).kind h)
+      → peek e (bind_rest (whole_in linked (Some b)) e p x q a) ts ≡ then_read (a_word e (tail ts)) (λ y. (whole_in linked (Some b)).binds e y.0 y.1 >>= λ bs. gives (bind p x q a (next e ts).place bs))
+  rest_comma h = ap (λ (k : TokenView). bind_rest (whole_in linked (Some b)) e p x q a (next e ts).place k ts) (mark_is tk.comma (next e ts).kind h)
 
   -- past a comma, by the number of the token behind it
   module _ (c : is_mark tk.comma (next e ts).kind ≡ true) (us : List Token) (t : us ≡ tail ts) where
-    past_comma : peek e (bind_rest (whole (Some b)) e p x q a) ts ≡ then_read (a_word e us) (λ y. (whole (Some b)).binds e y.0 y.1 >>= λ bs. gives (bind p x q a (next e ts).place bs))
-    past_comma = rest_comma c ∙ ap (λ (us : List Token). then_read (a_word e us) (λ y. (whole (Some b)).binds e y.0 y.1 >>= λ bs. gives (bind p x q a (next e ts).place bs))) (sym t)
+    past_comma : peek e (bind_rest (whole_in linked (Some b)) e p x q a) ts ≡ then_read (a_word e us) (λ y. (whole_in linked (Some b)).binds e y.0 y.1 >>= λ bs. gives (bind p x q a (next e ts).place bs))
+    past_comma = rest_comma c ∙ ap (λ (us : List Token). then_read (a_word e us) (λ y. (whole_in linked (Some b)).binds e y.0 y.1 >>= λ bs. gives (bind p x q a (next e ts).place bs))) (sym t)
 
-    pub rest_lost : (w : Halt) → Fails w (a_word e us) → Fails w (peek e (bind_rest (whole (Some b)) e p x q a) ts)
+    pub rest_lost : (w : Halt) → Fails w (a_word e us) → Fails w (peek e (bind_rest (whole_in linked (Some b)) e p x q a) ts)
     rest_lost w h = subst (Fails w) (sym past_comma) (fails_then w (a_word e us) _ h)
 
     module _ (y : Place × Word) (vs : List Token) (k : a_word e us ≡ Ok (y, vs)) where
-      past_word : peek e (bind_rest (whole (Some b)) e p x q a) ts ≡ then_read ((whole (Some b)).binds e y.0 y.1 vs) (λ bs. gives (bind p x q a (next e ts).place bs))
-      past_word = past_comma ∙ ap (λ (o : Out (Place × Word)). then_read o (λ y. (whole (Some b)).binds e y.0 y.1 >>= λ bs. gives (bind p x q a (next e ts).place bs))) k
+      past_word : peek e (bind_rest (whole_in linked (Some b)) e p x q a) ts ≡ then_read ((whole_in linked (Some b)).binds e y.0 y.1 vs) (λ bs. gives (bind p x q a (next e ts).place bs))
+      past_word = past_comma ∙ ap (λ (o : Out (Place × Word)). then_read o (λ y. (whole_in linked (Some b)).binds e y.0 y.1 >>= λ bs. gives (bind p x q a (next e ts).place bs))) k
 
-      pub rest_later : (w : Halt) → Fails w ((whole (Some b)).binds e y.0 y.1 vs) → Fails w (peek e (bind_rest (whole (Some b)) e p x q a) ts)
-      rest_later w h = subst (Fails w) (sym past_word) (fails_then w ((whole (Some b)).binds e y.0 y.1 vs) _ h)
+      pub rest_later : (w : Halt) → Fails w ((whole_in linked (Some b)).binds e y.0 y.1 vs) → Fails w (peek e (bind_rest (whole_in linked (Some b)) e p x q a) ts)
+      rest_later w h = subst (Fails w) (sym past_word) (fails_then w ((whole_in linked (Some b)).binds e y.0 y.1 vs) _ h)
 
-      pub rest_all : {old new : List Tree} {set : Read} {gs : List (List Name)} {is : List ℕ} {n : ℕ} {ws : List Token} → IsIn old set a → Keeps old new → Reads (AreBound new gs is n) ws ((whole (Some b)).binds e y.0 y.1 vs)
-          → Reads (AreBound new ((named p x ∷ []) ∷ gs) (set.id ∷ is) (max set.shape.nesting n)) ws (peek e (bind_rest (whole (Some b)) e p x q a) ts)
+      pub rest_all : {old new : List Tree} {set : Read} {gs : List (List Name)} {is : List ℕ} {n : ℕ} {ws : List Token} → IsIn linked old set a → Keeps old new → Reads (AreBound linked new gs is n) ws ((whole_in linked (Some b)).binds e y.0 y.1 vs)
+          → Reads (AreBound linked new ((named p x ∷ []) ∷ gs) (set.id ∷ is) (max set.shape.nesting n)) ws (peek e (bind_rest (whole_in linked (Some b)) e p x q a) ts)
       rest_all i l h = record {
         what = bind p x q a (next e ts).place h.what;
         is = past_word ∙ ap (λ (o : Out Binds). then_read o (λ bs. gives (bind p x q a (next e ts).place bs))) h.is;
@@ -124,39 +124,39 @@ module _ (b e : ℕ) (p : Place) (x : Word) (q : Place) (a : Phrase) (ts : List 
       }
 
 -- ---- the names of a group so far, reading being behind the last of them
-pub record NamesSoFar (v : Tokens) (b e i : ℕ) (names : List Name) (o : Out Binds) : Type 0 where
+pub record NamesSoFar (linked : Bool) (v : Tokens) (b e i : ℕ) (names : List Name) (o : Out Binds) : Type 0 where
   pub others : List Name
   pub place : Place
   pub word : Word
   pub all : names ≡ others ++ named place word ∷ []
   pub before : Binds → Binds
-  pub is : o ≡ then_read ((whole (Some b)).binds e place word (ahead v i)) (λ bs. gives (before bs))
+  pub is : o ≡ then_read ((whole_in linked (Some b)).binds e place word (ahead v i)) (λ bs. gives (before bs))
   pub grouped : (bs : Binds) → groups (before bs) ≡ onto others (groups bs)
   pub set_trees : (bs : Binds) (ts : Trees) → sets_before (before bs) ts ≡ sets_before bs ts
-  pub opens : (bs : Binds) → in_binds (before bs) ≡ in_binds bs
+  pub opens : (bs : Binds) → in_binds linked (before bs) ≡ in_binds linked bs
 
-module _ (v : Tokens) (b e : ℕ) where
-  pub names_first : (i : ℕ) (p : Place) (x : Word) → NamesSoFar v b e i (named p x ∷ []) ((whole (Some b)).binds e p x (ahead v i))
+module _ {linked : Bool} (v : Tokens) (b e : ℕ) where
+  pub names_first : (i : ℕ) (p : Place) (x : Word) → NamesSoFar linked v b e i (named p x ∷ []) ((whole_in linked (Some b)).binds e p x (ahead v i))
   names_first i p x = record {
     others = [];
     place = p;
     word = x;
     all = refl;
     before = (λ bs. bs);
-    is = sym (then_gives ((whole (Some b)).binds e p x (ahead v i)));
+    is = sym (then_gives ((whole_in linked (Some b)).binds e p x (ahead v i)));
     grouped = onto_none;
     set_trees = (λ bs ts. refl);
     opens = (λ bs. refl);
   }
 
-  pub names_next : {i : ℕ} {names : List Name} {o : Out Binds} (j k : ℕ) (y : Place × Word) → NamesSoFar v b e i names o → is_mark tk.comma (next e (ahead v i)).kind ≡ true → ahead v j ≡ tail (ahead v i)
-      → a_word e (ahead v j) ≡ Ok (y, ahead v k) → NamesSoFar v b e k (names ++ named y.0 y.1 ∷ []) o
+  pub names_next : {i : ℕ} {names : List Name} {o : Out Binds} (j k : ℕ) (y : Place × Word) → NamesSoFar linked v b e i names o → is_mark tk.comma (next e (ahead v i)).kind ≡ true → ahead v j ≡ tail (ahead v i)
+      → a_word e (ahead v j) ≡ Ok (y, ahead v k) → NamesSoFar linked v b e k (names ++ named y.0 y.1 ∷ []) o
   names_next {i} {names} {o} j k y s c t h =
       let q = (next e (ahead v i)).place in
-      let on : (whole (Some b)).binds e s.place s.word (ahead v i) ≡ then_read ((whole (Some b)).binds e y.0 y.1 (ahead v k)) (λ bs. gives (share s.place s.word q bs)) =
-      comma_next b e s.place s.word (ahead v i) c
-      ∙ ap (λ (ts : List Token). then_read (a_word e ts) (λ y. (whole (Some b)).binds e y.0 y.1 >>= λ bs. gives (share s.place s.word q bs))) (sym t)
-      ∙ ap (λ (o : Out (Place × Word)). then_read o (λ y. (whole (Some b)).binds e y.0 y.1 >>= λ bs. gives (share s.place s.word q bs))) h in
+      let on : (whole_in linked (Some b)).binds e s.place s.word (ahead v i) ≡ then_read ((whole_in linked (Some b)).binds e y.0 y.1 (ahead v k)) (λ bs. gives (share s.place s.word q bs)) =
+      comma_next _ b e s.place s.word (ahead v i) c
+      ∙ ap (λ (ts : List Token). then_read (a_word e ts) (λ y. (whole_in linked (Some b)).binds e y.0 y.1 >>= λ bs. gives (share s.place s.word q bs))) (sym t)
+      ∙ ap (λ (o : Out (Place × Word)). then_read o (λ y. (whole_in linked (Some b)).binds e y.0 y.1 >>= λ bs. gives (share s.place s.word q bs))) h in
       record {
         others = names;
         place = y.0;
@@ -169,26 +169,26 @@ module _ (v : Tokens) (b e : ℕ) where
         opens = (λ bs. s.opens (share s.place s.word q bs));
       }
 
-  pub name_lost : {i : ℕ} {names : List Name} {o : Out Binds} (j : ℕ) (w : Halt) → NamesSoFar v b e i names o → is_mark tk.comma (next e (ahead v i)).kind ≡ true → ahead v j ≡ tail (ahead v i) → Fails w (a_word e (ahead v j)) → Fails w o
+  pub name_lost : {i : ℕ} {names : List Name} {o : Out Binds} (j : ℕ) (w : Halt) → NamesSoFar linked v b e i names o → is_mark tk.comma (next e (ahead v i)).kind ≡ true → ahead v j ≡ tail (ahead v i) → Fails w (a_word e (ahead v j)) → Fails w o
   name_lost {i} {names} {o} j w s c t h =
-      put_fails w s.before _ s.is (subst (Fails w) (sym (comma_next b e s.place s.word (ahead v i) c)) (fails_then w (a_word e (tail (ahead v i))) _ (subst (λ (ts : List Token). Fails w (a_word e ts)) t h)))
+      put_fails w s.before _ s.is (subst (Fails w) (sym (comma_next _ b e s.place s.word (ahead v i) c)) (fails_then w (a_word e (tail (ahead v i))) _ (subst (λ (ts : List Token). Fails w (a_word e ts)) t h)))
 
-  pub sign_lost : {i : ℕ} {names : List Name} {o : Out Binds} (w : Halt) → NamesSoFar v b e i names o → is_mark tk.comma (next e (ahead v i)).kind ≡ false → Fails w (a_sign e op.In (ahead v i)) → Fails w o
-  sign_lost {i} {names} {o} w s c h = put_fails w s.before _ s.is (subst (Fails w) (sym (sign_next b e s.place s.word (ahead v i) c)) (fails_then w (a_sign e op.In (ahead v i)) _ h))
+  pub sign_lost : {i : ℕ} {names : List Name} {o : Out Binds} (w : Halt) → NamesSoFar linked v b e i names o → is_mark tk.comma (next e (ahead v i)).kind ≡ false → Fails w (a_sign e op.In (ahead v i)) → Fails w o
+  sign_lost {i} {names} {o} w s c h = put_fails w s.before _ s.is (subst (Fails w) (sym (sign_next _ b e s.place s.word (ahead v i) c)) (fails_then w (a_sign e op.In (ahead v i)) _ h))
 
-  pub set_lost : {i : ℕ} {names : List Name} {o : Out Binds} (j : ℕ) (q : Place) (w : Halt) → NamesSoFar v b e i names o → is_mark tk.comma (next e (ahead v i)).kind ≡ false → a_sign e op.In (ahead v i) ≡ Ok (q, ahead v j)
-      → Fails w ((whole (Some b)).expr e free (ahead v j)) → Fails w o
+  pub set_lost : {i : ℕ} {names : List Name} {o : Out Binds} (j : ℕ) (q : Place) (w : Halt) → NamesSoFar linked v b e i names o → is_mark tk.comma (next e (ahead v i)).kind ≡ false → a_sign e op.In (ahead v i) ≡ Ok (q, ahead v j)
+      → Fails w ((whole_in linked (Some b)).expr e free (ahead v j)) → Fails w o
   set_lost {i} {names} {o} j q w s c f h =
-      put_fails w s.before _ s.is (subst (Fails w) (sym (sign_next b e s.place s.word (ahead v i) c)) (fails_on w (a_sign e op.In (ahead v i)) _ (q, ahead v j) f (fails_then w ((whole (Some b)).expr e free (ahead v j)) _ h)))
+      put_fails w s.before _ s.is (subst (Fails w) (sym (sign_next _ b e s.place s.word (ahead v i) c)) (fails_on w (a_sign e op.In (ahead v i)) _ (q, ahead v j) f (fails_then w ((whole_in linked (Some b)).expr e free (ahead v j)) _ h)))
 
-  pub group_end : {i : ℕ} {names : List Name} {o : Out Binds} {us : List Tree} {set : Read} (j k : ℕ) (q : Place) → NamesSoFar v b e i names o → is_mark tk.comma (next e (ahead v i)).kind ≡ false → a_sign e op.In (ahead v i) ≡ Ok (q, ahead v j)
-      → Reads (IsIn us set) (ahead v k) ((whole (Some b)).expr e free (ahead v j)) → Grouped v us (whole (Some b)) e names set k o
+  pub group_end : {i : ℕ} {names : List Name} {o : Out Binds} {us : List Tree} {set : Read} (j k : ℕ) (q : Place) → NamesSoFar linked v b e i names o → is_mark tk.comma (next e (ahead v i)).kind ≡ false → a_sign e op.In (ahead v i) ≡ Ok (q, ahead v j)
+      → Reads (IsIn linked us set) (ahead v k) ((whole_in linked (Some b)).expr e free (ahead v j)) → Grouped linked v us (whole_in linked (Some b)) e names set k o
   group_end {i} {names} {o} {us} {set} j k q s c f h =
       let a = h.what in
-      let rest : Place → Phrase → Reader Binds = λ q a. peek e (bind_rest (whole (Some b)) e s.place s.word q a) in
-      let on : (whole (Some b)).binds e s.place s.word (ahead v i) ≡ rest q a (ahead v k) =
-      sign_next b e s.place s.word (ahead v i) c
-      ∙ ap (λ (o : Out Place). then_read o (λ q. (whole (Some b)).expr e free >>= λ a. rest q a)) f
+      let rest : Place → Phrase → Reader Binds = λ q a. peek e (bind_rest (whole_in linked (Some b)) e s.place s.word q a) in
+      let on : (whole_in linked (Some b)).binds e s.place s.word (ahead v i) ≡ rest q a (ahead v k) =
+      sign_next _ b e s.place s.word (ahead v i) c
+      ∙ ap (λ (o : Out Place). then_read o (λ q. (whole_in linked (Some b)).expr e free >>= λ a. rest q a)) f
       ∙ ap (λ (o : Out Phrase). then_read o (λ a. rest q a)) h.is in
       record {
         place = s.place;
@@ -212,45 +212,45 @@ module _ (v : Tokens) (b e : ℕ) where
       }
 
 -- ---- the groups so far, reading being behind the first name of the next one
-pub record BindsSoFar (v : Tokens) (ts : List Tree) (b e i : ℕ) (gs : List (List Name)) (sets : List ℕ) (n : ℕ) (p : Place) (x : Word) (o : Out Binds) : Type 0 where
+pub record BindsSoFar (linked : Bool) (v : Tokens) (ts : List Tree) (b e i : ℕ) (gs : List (List Name)) (sets : List ℕ) (n : ℕ) (p : Place) (x : Word) (o : Out Binds) : Type 0 where
   pub before : Binds → Binds
-  pub is : o ≡ then_read ((whole (Some b)).binds e p x (ahead v i)) (λ bs. gives (before bs))
-  pub others : (us : List Tree) (hs : List (List Name)) (js : List ℕ) (m : ℕ) (bs : Binds) → Keeps ts us → AreBound us hs js m bs → AreBound us (gs ++ hs) (sets ++ js) (max n m) (before bs)
+  pub is : o ≡ then_read ((whole_in linked (Some b)).binds e p x (ahead v i)) (λ bs. gives (before bs))
+  pub others : (us : List Tree) (hs : List (List Name)) (js : List ℕ) (m : ℕ) (bs : Binds) → Keeps ts us → AreBound linked us hs js m bs → AreBound linked us (gs ++ hs) (sets ++ js) (max n m) (before bs)
 
-module _ (v : Tokens) (b e : ℕ) where
-  pub binds_first : (ts : List Tree) (i : ℕ) (p : Place) (x : Word) → BindsSoFar v ts b e i [] [] 0 p x ((whole (Some b)).binds e p x (ahead v i))
+module _ {linked : Bool} (v : Tokens) (b e : ℕ) where
+  pub binds_first : (ts : List Tree) (i : ℕ) (p : Place) (x : Word) → BindsSoFar linked v ts b e i [] [] 0 p x ((whole_in linked (Some b)).binds e p x (ahead v i))
   binds_first ts i p x = record {
     before = (λ bs. bs);
-    is = sym (then_gives ((whole (Some b)).binds e p x (ahead v i)));
-    others = (λ us hs js m bs k g. (let z : m ≡ max 0 m = omega arith in subst (λ (l : ℕ). AreBound us hs js l bs) z g));
+    is = sym (then_gives ((whole_in linked (Some b)).binds e p x (ahead v i)));
+    others = (λ us hs js m bs k g. (let z : m ≡ max 0 m = omega arith in subst (λ (l : ℕ). AreBound linked us hs js l bs) z g));
   }
 
-  pub group_lost : {ts : List Tree} {i : ℕ} {gs : List (List Name)} {sets : List ℕ} {n : ℕ} {p : Place} {x : Word} {o : Out Binds} (w : Halt) → BindsSoFar v ts b e i gs sets n p x o → Fails w ((whole (Some b)).binds e p x (ahead v i)) → Fails w o
+  pub group_lost : {ts : List Tree} {i : ℕ} {gs : List (List Name)} {sets : List ℕ} {n : ℕ} {p : Place} {x : Word} {o : Out Binds} (w : Halt) → BindsSoFar linked v ts b e i gs sets n p x o → Fails w ((whole_in linked (Some b)).binds e p x (ahead v i)) → Fails w o
   group_lost w s h = put_fails w s.before _ s.is h
 
-  module _ {ts us : List Tree} {i : ℕ} {gs : List (List Name)} {sets : List ℕ} {n : ℕ} {p : Place} {x : Word} {o : Out Binds} {names : List Name} {set : Read} (k : ℕ) (s : BindsSoFar v ts b e i gs sets n p x o) where
-    module _ (l : Keeps ts us) (g : Grouped v us (whole (Some b)) e names set k ((whole (Some b)).binds e p x (ahead v i))) where
-      pub binds_end : is_mark tk.comma (next e (ahead v k)).kind ≡ false → Reads (AreBound us (gs ++ names ∷ []) (sets ++ set.id ∷ []) (max n set.shape.nesting)) (ahead v k) o
+  module _ {ts us : List Tree} {i : ℕ} {gs : List (List Name)} {sets : List ℕ} {n : ℕ} {p : Place} {x : Word} {o : Out Binds} {names : List Name} {set : Read} (k : ℕ) (s : BindsSoFar linked v ts b e i gs sets n p x o) where
+    module _ (l : Keeps ts us) (g : Grouped linked v us (whole_in linked (Some b)) e names set k ((whole_in linked (Some b)).binds e p x (ahead v i))) where
+      pub binds_end : is_mark tk.comma (next e (ahead v k)).kind ≡ false → Reads (AreBound linked us (gs ++ names ∷ []) (sets ++ set.id ∷ []) (max n set.shape.nesting)) (ahead v k) o
       binds_end c = record {
         what = s.before (g.before (last_bind g.place g.word g.sign g.what));
-        is = put_on s.before g.before _ s.is g.is ∙ ap (λ (p : Out Binds). then_read p (λ bs. gives (s.before (g.before bs)))) (rest_none b e g.place g.word g.sign g.what (ahead v k) c);
+        is = put_on s.before g.before _ s.is g.is ∙ ap (λ (p : Out Binds). then_read p (λ bs. gives (s.before (g.before bs)))) (rest_none _ b e g.place g.word g.sign g.what (ahead v k) c);
         told = s.others us _ _ _ _ l g.alone;
       }
 
       pub next_lost : (j : ℕ) (w : Halt) → is_mark tk.comma (next e (ahead v k)).kind ≡ true → ahead v j ≡ tail (ahead v k) → Fails w (a_word e (ahead v j)) → Fails w o
       next_lost j w c t h =
           put_fails w (λ bs. s.before (g.before bs)) _ (put_on s.before g.before _ s.is g.is)
-          (subst (Fails w) (sym (rest_comma b e g.place g.word g.sign g.what (ahead v k) c)) (fails_then w (a_word e (tail (ahead v k))) _ (subst (λ (ts : List Token). Fails w (a_word e ts)) t h)))
+          (subst (Fails w) (sym (rest_comma _ b e g.place g.word g.sign g.what (ahead v k) c)) (fails_then w (a_word e (tail (ahead v k))) _ (subst (λ (ts : List Token). Fails w (a_word e ts)) t h)))
 
       pub binds_next : (j m : ℕ) (y : Place × Word) → is_mark tk.comma (next e (ahead v k)).kind ≡ true → ahead v j ≡ tail (ahead v k) → a_word e (ahead v j) ≡ Ok (y, ahead v m)
-          → BindsSoFar v us b e m (gs ++ names ∷ []) (sets ++ set.id ∷ []) (max n set.shape.nesting) y.0 y.1 o
+          → BindsSoFar linked v us b e m (gs ++ names ∷ []) (sets ++ set.id ∷ []) (max n set.shape.nesting) y.0 y.1 o
       binds_next j m y c t h =
           let q = (next e (ahead v k)).place in
           let more : Binds → Binds = bind g.place g.word g.sign g.what q in
-          let on : peek e (bind_rest (whole (Some b)) e g.place g.word g.sign g.what) (ahead v k) ≡ then_read ((whole (Some b)).binds e y.0 y.1 (ahead v m)) (λ bs. gives (more bs)) =
-          rest_comma b e g.place g.word g.sign g.what (ahead v k) c
-          ∙ ap (λ (ts : List Token). then_read (a_word e ts) (λ y. (whole (Some b)).binds e y.0 y.1 >>= λ bs. gives (more bs))) (sym t)
-          ∙ ap (λ (o : Out (Place × Word)). then_read o (λ y. (whole (Some b)).binds e y.0 y.1 >>= λ bs. gives (more bs))) h in
+          let on : peek e (bind_rest (whole_in linked (Some b)) e g.place g.word g.sign g.what) (ahead v k) ≡ then_read ((whole_in linked (Some b)).binds e y.0 y.1 (ahead v m)) (λ bs. gives (more bs)) =
+          rest_comma _ b e g.place g.word g.sign g.what (ahead v k) c
+          ∙ ap (λ (ts : List Token). then_read (a_word e ts) (λ y. (whole_in linked (Some b)).binds e y.0 y.1 >>= λ bs. gives (more bs))) (sym t)
+          ∙ ap (λ (o : Out (Place × Word)). then_read o (λ y. (whole_in linked (Some b)).binds e y.0 y.1 >>= λ bs. gives (more bs))) h in
           record {
             before = (λ bs. s.before (g.before (more bs)));
             is = put_on (λ bs. s.before (g.before bs)) more _ (put_on s.before g.before _ s.is g.is) on;

@@ -1,5 +1,5 @@
 -- Worked rows: names with their sets, and functions behind their first name.
-use Rattle.std.proofs.Common.{◌≡◌, ℕ, max, List, [], ◌∷◌, Ok, Err, refl, sym, ap}
+use Rattle.std.proofs.Common.{Bool, ◌≡◌, ℕ, max, List, [], ◌∷◌, Ok, Err, refl, sym, ap}
 use Rattle.tla_token.specs.declared.place.Place.{Place}
 use Rattle.tla_token.specs.declared.rule.Rule.TheVariants.{Syntax}
 use Rattle.tla_token.specs.declared.token.Tokens.{Tokens}
@@ -23,8 +23,8 @@ abbrev here : Place
 here = record { line = 1; col = 3 }
 
 -- a name with its set: alone, or before others
-one_group : (v : Tokens) (ts : List Tree) (d : Readers) (e i : ℕ) (set : Read) (p q : Place) (x : Word) (a : Phrase) → IsIn ts set a → Grouped v ts d e (named p x ∷ []) set i (peek e (bind_rest d e p x q a) (ahead v i))
-one_group v ts d e i set p q x a h = record {
+one_group : {linked : Bool} (v : Tokens) (ts : List Tree) (d : Readers) (e i : ℕ) (set : Read) (p q : Place) (x : Word) (a : Phrase) → IsIn linked ts set a → Grouped linked v ts d e (named p x ∷ []) set i (peek e (bind_rest d e p x q a) (ahead v i))
+one_group {linked} v ts d e i set p q x a h = record {
   place = p;
   word = x;
   sign = q;
@@ -40,8 +40,8 @@ one_group v ts d e i set p q x a h = record {
   });
 }
 
-refused_group : (v : Tokens) (ts : List Tree) (d : Readers) → GroupRead v ts d 0 (Err (halt.Refused Syntax 0)) (Err (Syntax, []))
-refused_group v ts d = (refl, refl)
+refused_group : (linked : Bool) (v : Tokens) (ts : List Tree) (d : Readers) → GroupRead linked v ts d 0 (Err (halt.Refused Syntax 0)) (Err (Syntax, []))
+refused_group linked v ts d = (refl, refl)
 
 -- a reader that always reads these binds and this phrase, and takes nothing
 abbrev binds_and : Binds → Phrase → Readers

@@ -8,7 +8,7 @@ ghost use Rattle.tla_tree.specs.Shapes.{HaveNames};
 ghost use Rattle.tla_tree.specs.Reader as reader;
 ghost use Rattle.tla_tree.specs.Spelling as spelled;
 ghost use Rattle.tla_tree.specs.Spelling.{Phrase};
-ghost use Rattle.tla_tree.specs.Whole.{whole};
+ghost use Rattle.tla_tree.specs.Whole.{whole_in};
 ghost use Rattle.tla_pool.specs.FormOf.{groups_of};
 ghost use Rattle.expr_nodes.specs.Ahead.{ahead};
 ghost use Rattle.expr_nodes.specs.ReadIn.{AreBound, IsIn, Told};
@@ -110,7 +110,7 @@ pub fn group<F: Fn(&mut Pool, Context, Spot) -> Result<(Read, usize), Halt>>(
     first: Word,
 ) -> Result<(Vec<PlacedName>, Read, usize), Halt>
     requires given { MayRead tokens.now s (suc s.left) (F.pre inner.now) (F.post inner.now) }
-    ensures read { GroupRead tokens.now pool.new (whole (Some s.left)) s.edge result ((whole (Some s.left)).binds s.edge first.place (span_bytes tokens.now.bytes.items first.span) (ahead tokens.now s.at)) }
+    ensures read { GroupRead s.linked tokens.now pool.new (whole_in s.linked (Some s.left)) s.edge result ((whole_in s.linked (Some s.left)).binds s.edge first.place (span_bytes tokens.now.bytes.items first.span) (ahead tokens.now s.at)) }
     ensures kept { Keeps pool.old pool.new }
     ensures small { IfOk result (λ x. x.1.shape.nesting ≤ s.left) }
     ensures inside { IfOk result (λ x. x.2 ≤ length tokens.now.items.items) }
@@ -143,7 +143,7 @@ pub fn binds<F: Fn(&mut Pool, Context, Spot) -> Result<(Read, usize), Halt>>(
     first: Word,
 ) -> Result<(Bound, usize), Halt>
     requires given { MayRead tokens.now s (suc s.left) (F.pre inner.now) (F.post inner.now) }
-    ensures read { Told (λ x bs. AreBound pool.new (groups_of x.0.groups.items) x.0.sets.items x.0.nesting bs) (λ x. ahead tokens.now x.1) result ((whole (Some s.left)).binds s.edge first.place (span_bytes tokens.now.bytes.items first.span) (ahead tokens.now s.at)) }
+    ensures read { Told (λ x bs. AreBound s.linked pool.new (groups_of x.0.groups.items) x.0.sets.items x.0.nesting bs) (λ x. ahead tokens.now x.1) result ((whole_in s.linked (Some s.left)).binds s.edge first.place (span_bytes tokens.now.bytes.items first.span) (ahead tokens.now s.at)) }
     ensures kept { Keeps pool.old pool.new }
     ensures below { IfOk result (λ x. AllBelow (length pool.new) x.0.sets.items) }
     ensures named { IfOk result (λ x. HaveNames (groups_of x.0.groups.items)) }
@@ -188,7 +188,7 @@ pub fn binds_on<F: Fn(&mut Pool, Context, Spot) -> Result<(Read, usize), Halt>>(
     requires given { MayRead tokens.now s (suc s.left) (F.pre inner.now) (F.post inner.now) }
     requires set_in { set.id < length pool.old }
     requires set_small { set.shape.nesting ≤ s.left }
-    ensures read { (i : Phrase) (q : Place) → IsIn pool.old set i → Told (λ x bs. AreBound pool.new (groups_of x.0.groups.items) x.0.sets.items x.0.nesting bs) (λ x. ahead tokens.now x.1) result (reader.peek s.edge (reader.bind_rest (whole (Some s.left)) s.edge word.place (span_bytes tokens.now.bytes.items word.span) q i) (ahead tokens.now s.at)) }
+    ensures read { (i : Phrase) (q : Place) → IsIn s.linked pool.old set i → Told (λ x bs. AreBound s.linked pool.new (groups_of x.0.groups.items) x.0.sets.items x.0.nesting bs) (λ x. ahead tokens.now x.1) result (reader.peek s.edge (reader.bind_rest (whole_in s.linked (Some s.left)) s.edge word.place (span_bytes tokens.now.bytes.items word.span) q i) (ahead tokens.now s.at)) }
     ensures kept { Keeps pool.old pool.new }
     ensures below { IfOk result (λ x. AllBelow (length pool.new) x.0.sets.items) }
     ensures named { IfOk result (λ x. HaveNames (groups_of x.0.groups.items)) }

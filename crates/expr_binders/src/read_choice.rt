@@ -3,7 +3,7 @@
 ghost use Rattle.std.specs.Prelude.{suc, Some};
 ghost use Rattle.tla_tree.specs.Lexical as tk;
 ghost use Rattle.tla_tree.specs.Reader as reader;
-ghost use Rattle.tla_tree.specs.Whole.{whole};
+ghost use Rattle.tla_tree.specs.Whole.{whole_in};
 ghost use Rattle.expr_nodes.specs.Ahead.{ahead};
 ghost use Rattle.expr_rows.specs.HasRead.{HasRead};
 ghost use Rattle.expr_rows.specs.MayRead.{MayRead};
@@ -31,7 +31,7 @@ pub fn choice_from<F: Fn(&mut Pool, Context, Spot) -> Result<(Read, usize), Halt
     place: Place,
 ) -> Result<(Read, usize), Halt>
     requires given { MayRead tokens.now s (suc s.left) (F.pre inner.now) (F.post inner.now) }
-    ensures { HasRead tokens.now pool.old pool.new s.at (suc s.left) result (reader.choice_from (whole (Some s.left)) s.edge place (ahead tokens.now s.at)) }
+    ensures { HasRead s.linked tokens.now pool.old pool.new s.at (suc s.left) result (reader.choice_from (whole_in s.linked (Some s.left)) s.edge place (ahead tokens.now s.at)) }
 {
     let (a, at) = inner(pool, Context::Free, s)?;
     let (_, at) = past_key(tokens, Spot { at, ..s }, Key::Then)?;
@@ -56,9 +56,20 @@ pub fn if_then_else<F: Fn(&mut Pool, Context, Spot) -> Result<(Read, usize), Hal
     place: Place,
 ) -> Result<(Read, usize), Halt>
     requires given { MayRead tokens.now s s.left (F.pre inner.now) (F.post inner.now) }
-    ensures { HasRead tokens.now pool.old pool.new s.at s.left result (reader.keyed (reader.room whole (Some s.left)) s.edge place tk.if_key (ahead tokens.now s.at)) }
+    ensures { HasRead s.linked tokens.now pool.old pool.new s.at s.left result (reader.keyed (reader.room s.linked (whole_in s.linked) (Some s.left)) s.edge place tk.if_key (ahead tokens.now s.at)) }
 {
     let d = deeper(tokens, s, 0)?;
     let from = after(tokens, s);
-    choice_from(alloc, tokens, inner, pool, Spot { at: from, ..d }, place)
+    choice_from(
+        alloc,
+        tokens,
+        inner,
+        pool,
+        Spot {
+            at: from,
+            left: d.left,
+            ..s
+        },
+        place,
+    )
 }

@@ -6,7 +6,7 @@ ghost use Rattle.tla_tree.specs.Pool.{AllBelow, Keeps};
 ghost use Rattle.tla_tree.specs.Shapes.{HaveNames};
 ghost use Rattle.tla_tree.specs.Reader as reader;
 ghost use Rattle.tla_tree.specs.Spelling.{Binds, Phrase};
-ghost use Rattle.tla_tree.specs.Whole.{whole};
+ghost use Rattle.tla_tree.specs.Whole.{whole_in};
 ghost use Rattle.tla_pool.specs.FormOf.{groups_of};
 ghost use Rattle.expr_nodes.specs.Ahead.{ahead};
 ghost use Rattle.expr_nodes.specs.ReadIn.{AreBound, IsIn, Told};
@@ -43,7 +43,7 @@ pub fn function_in<F: Fn(&mut Pool, Context, Spot) -> Result<(Read, usize), Halt
     requires named { HaveNames (groups_of bound.groups.items) }
     requires as_many { length bound.sets.items ≡ length (groups_of bound.groups.items) }
     requires small { bound.nesting ≤ s.left }
-    ensures read { (bs : Binds) → AreBound pool.old (groups_of bound.groups.items) bound.sets.items bound.nesting bs → Told (λ x j. IsIn pool.new x.0 j) (λ x. ahead tokens.now x.1) result (reader.function_rest (whole (Some s.left)) s.edge place bs (ahead tokens.now s.at)) }
+    ensures read { (bs : Binds) → AreBound s.linked pool.old (groups_of bound.groups.items) bound.sets.items bound.nesting bs → Told (λ x j. IsIn s.linked pool.new x.0 j) (λ x. ahead tokens.now x.1) result (reader.function_rest (whole_in s.linked (Some s.left)) s.edge place bs (ahead tokens.now s.at)) }
     ensures kept { Keeps pool.old pool.new }
     ensures stands { IfOk result (λ x. Stands tokens.now pool.new s.at (suc s.left) x) }
 {
@@ -74,7 +74,7 @@ pub fn function_from<F: Fn(&mut Pool, Context, Spot) -> Result<(Read, usize), Ha
     word: Word,
 ) -> Result<(Read, usize), Halt>
     requires given { MayRead tokens.now s (suc s.left) (F.pre inner.now) (F.post inner.now) }
-    ensures { HasRead tokens.now pool.old pool.new s.at (suc s.left) result (function_of (whole (Some s.left)) s.edge place word.place (span_bytes tokens.now.bytes.items word.span) (ahead tokens.now s.at)) }
+    ensures { HasRead s.linked tokens.now pool.old pool.new s.at (suc s.left) result (function_of (whole_in s.linked (Some s.left)) s.edge place word.place (span_bytes tokens.now.bytes.items word.span) (ahead tokens.now s.at)) }
 {
     let (bound, at) = binds(alloc, tokens, inner, pool, s, word)?;
     function_in(tokens, inner, pool, Spot { at, ..s }, place, bound)
@@ -98,7 +98,7 @@ pub fn function_on<F: Fn(&mut Pool, Context, Spot) -> Result<(Read, usize), Halt
     requires given { MayRead tokens.now s (suc s.left) (F.pre inner.now) (F.post inner.now) }
     requires set_in { set.id < length pool.old }
     requires set_small { set.shape.nesting ≤ s.left }
-    ensures read { (i : Phrase) (q : Place) → IsIn pool.old set i → Told (λ x j. IsIn pool.new x.0 j) (λ x. ahead tokens.now x.1) result (function_behind (whole (Some s.left)) s.edge place word.place (span_bytes tokens.now.bytes.items word.span) q i (ahead tokens.now s.at)) }
+    ensures read { (i : Phrase) (q : Place) → IsIn s.linked pool.old set i → Told (λ x j. IsIn s.linked pool.new x.0 j) (λ x. ahead tokens.now x.1) result (function_behind (whole_in s.linked (Some s.left)) s.edge place word.place (span_bytes tokens.now.bytes.items word.span) q i (ahead tokens.now s.at)) }
     ensures kept { Keeps pool.old pool.new }
     ensures stands { IfOk result (λ x. Stands tokens.now pool.new s.at (suc s.left) x) }
 {

@@ -1,13 +1,13 @@
 //! Reading quantifiers, over a reader of the expressions in them.
 
-ghost use Rattle.std.specs.Prelude.{◌≡◌, ◌<◌, ◌≤◌, ◌+◌, max, suc, length, IfOk, Some};
-ghost use Rattle.tla_token.specs.Limits.{deepest_expression};
+ghost use Rattle.std.specs.Prelude.{Bool, ◌≡◌, ◌<◌, ◌≤◌, ◌+◌, max, suc, length, IfOk, Some};
+ghost use Rattle.tla_tree.specs.Nesting.{deepest_in_module};
 ghost use Rattle.tla_tree.specs.Pool.{AllBelow, Keeps};
 ghost use Rattle.tla_tree.specs.Shapes.{HaveNames};
 ghost use Rattle.tla_tree.specs.Reader as reader;
 ghost use Rattle.tla_tree.specs.Spelling as spelled;
 ghost use Rattle.tla_tree.specs.Spelling.{Phrase, Binds};
-ghost use Rattle.tla_tree.specs.Whole.{whole};
+ghost use Rattle.tla_tree.specs.Whole.{whole_in};
 ghost use Rattle.tla_pool.specs.FormOf.{groups_of};
 ghost use Rattle.expr_nodes.specs.Ahead.{ahead};
 ghost use Rattle.expr_nodes.specs.ReadIn.{AreBound, IsIn};
@@ -38,9 +38,9 @@ fn quantified(
     requires body_in { body.id < length pool.old }
     requires named { HaveNames (groups_of bound.groups.items) }
     requires as_many { length bound.sets.items ≡ length (groups_of bound.groups.items) }
-    requires body_small { body.shape.nesting ≤ deepest_expression }
-    requires small { bound.nesting ≤ deepest_expression }
-    ensures read { IfOk result (λ x. (i : Phrase) (bs : Binds) (q : Place) → IsIn pool.old body i → AreBound pool.old (groups_of bound.groups.items) bound.sets.items bound.nesting bs → IsIn pool.new x (spelled.quantified every place bs q i)) }
+    requires body_small { body.shape.nesting ≤ deepest_in_module }
+    requires small { bound.nesting ≤ deepest_in_module }
+    ensures read { IfOk result (λ x. (w : Bool) (i : Phrase) (bs : Binds) (q : Place) → IsIn w pool.old body i → AreBound w pool.old (groups_of bound.groups.items) bound.sets.items bound.nesting bs → IsIn w pool.new x (spelled.quantified every place bs q i)) }
     ensures shape { IfOk result (λ x. x.shape ≡ open_shape_of place body.shape.boxes (1 + max bound.nesting body.shape.nesting)) }
     ensures within { IfOk result (λ x. x.id < length pool.new) }
     ensures kept { Keeps pool.old pool.new }
@@ -72,7 +72,7 @@ pub fn quantifier_in<F: Fn(&mut Pool, Context, Spot) -> Result<(Read, usize), Ha
     every: bool,
 ) -> Result<(Read, usize), Halt>
     requires given { MayRead tokens.now s (suc s.left) (F.pre inner.now) (F.post inner.now) }
-    ensures { HasRead tokens.now pool.old pool.new s.at (suc s.left) result (reader.quantifier (whole (Some s.left)) s.edge every place (ahead tokens.now s.at)) }
+    ensures { HasRead s.linked tokens.now pool.old pool.new s.at (suc s.left) result (reader.quantifier (whole_in s.linked (Some s.left)) s.edge every place (ahead tokens.now s.at)) }
 {
     let (word, at) = past_word(tokens, s)?;
     let (bound, at) = binds(alloc, tokens, inner, pool, Spot { at, ..s }, word)?;
@@ -97,7 +97,7 @@ pub fn quantifier<F: Fn(&mut Pool, Context, Spot) -> Result<(Read, usize), Halt>
     every: bool,
 ) -> Result<(Read, usize), Halt>
     requires given { MayRead tokens.now s s.left (F.pre inner.now) (F.post inner.now) }
-    ensures { HasRead tokens.now pool.old pool.new s.at s.left result (reader.keyed (reader.room whole (Some s.left)) s.edge place (spelled.quantifier every) (ahead tokens.now s.at)) }
+    ensures { HasRead s.linked tokens.now pool.old pool.new s.at s.left result (reader.keyed (reader.room s.linked (whole_in s.linked) (Some s.left)) s.edge place (spelled.quantifier every) (ahead tokens.now s.at)) }
 {
     let d = deeper(tokens, s, 0)?;
     let from = after(tokens, s);
@@ -106,7 +106,11 @@ pub fn quantifier<F: Fn(&mut Pool, Context, Spot) -> Result<(Read, usize), Halt>
         tokens,
         inner,
         pool,
-        Spot { at: from, ..d },
+        Spot {
+            at: from,
+            left: d.left,
+            ..s
+        },
         place,
         every,
     )

@@ -1,5 +1,5 @@
 -- What is known of fields and settings that were read by their numbers alone.
-use Rattle.std.proofs.Common.{◌≡◌, ℕ, suc, ◌+◌, ◌≤◌, List, [], ◌∷◌, length, refl, sym, ap, ◌∙◌, arith}
+use Rattle.std.proofs.Common.{Bool, ◌≡◌, ℕ, suc, ◌+◌, ◌≤◌, List, [], ◌∷◌, length, refl, sym, ap, ◌∙◌, arith}
 use Rattle.tla_token.specs.declared.place.Place.{Place}
 use Rattle.tla_tree.specs.Tree.{Tree, Trees, no_trees, tree, Word, Slot}
 use Rattle.tla_tree.specs.Shapes as shapes
@@ -16,11 +16,11 @@ some_fields : (fs : Fields) → 1 ≤ length (labels fs)
 some_fields (last_field f p a) = (let one : 1 ≤ length (f.text ∷ []) = omega arith in one)
 some_fields (field f p a q fs) = (let one : 1 ≤ length (f.text ∷ labels fs) = omega arith in one)
 
-pub fields_many : {ts : List Tree} {xs : List Word} {is : List ℕ} {n : ℕ} {fs : Fields} → AreFields ts xs is n fs → length is ≡ length xs
-fields_many {ts} {xs} {is} {n} {fs} h = sym (count_at ts is) ∙ ap count h.trees ∙ count_fields fs ∙ ap (λ (xs : List Word). length xs) h.names
+pub fields_many : {linked : Bool} {ts : List Tree} {xs : List Word} {is : List ℕ} {n : ℕ} {fs : Fields} → AreFields linked ts xs is n fs → length is ≡ length xs
+fields_many {linked} {ts} {xs} {is} {n} {fs} h = sym (count_at ts is) ∙ ap count h.trees ∙ count_fields fs ∙ ap (λ (xs : List Word). length xs) h.names
 
-pub fields_some : {ts : List Tree} {xs : List Word} {is : List ℕ} {n : ℕ} {fs : Fields} → AreFields ts xs is n fs → 1 ≤ length is
-fields_some {ts} {xs} {is} {n} {fs} h = omega (arith, fields_many h, some_fields fs, ap (λ (xs : List Word). length xs) h.names)
+pub fields_some : {linked : Bool} {ts : List Tree} {xs : List Word} {is : List ℕ} {n : ℕ} {fs : Fields} → AreFields linked ts xs is n fs → 1 ≤ length is
+fields_some {linked} {ts} {xs} {is} {n} {fs} h = omega (arith, fields_many h, some_fields fs, ap (λ (xs : List Word). length xs) h.names)
 
 -- ---- settings
 count_path : (p : Path) (ts : Trees) → count (subscripts p ts) ≡ shapes.subscripts (steps p) + count ts
@@ -32,5 +32,5 @@ count_settings : (p : Place) (ss : Settings) → count (setting_trees ss) ≡ sh
 count_settings at (last_setting p path q a) = count_path path (tree (tree_of a) no_trees)
 count_settings at (setting p path q a r ss) = count_path path (tree (tree_of a) (setting_trees ss)) ∙ ap (λ (n : ℕ). shapes.subscripts (steps path) + suc n) (count_settings at ss)
 
-pub settings_many : {ts : List Tree} {p : Place} {ps : List Slot} {is : List ℕ} {n : ℕ} {ss : Settings} → AreSettings ts p ps is n ss → length is ≡ shapes.settings ps
-settings_many {ts} {p} {ps} {is} {n} {ss} h = sym (count_at ts is) ∙ ap count h.trees ∙ count_settings p ss ∙ ap (λ (ps : List Slot). shapes.settings ps) h.paths
+pub settings_many : {linked : Bool} {ts : List Tree} {p : Place} {ps : List Slot} {is : List ℕ} {n : ℕ} {ss : Settings} → AreSettings linked ts p ps is n ss → length is ≡ shapes.settings ps
+settings_many {linked} {ts} {p} {ps} {is} {n} {ss} h = sym (count_at ts is) ∙ ap count h.trees ∙ count_settings p ss ∙ ap (λ (ps : List Slot). shapes.settings ps) h.paths

@@ -1,5 +1,5 @@
 -- Worked rows: paths and their subscripts, records, sets of records, and what comes behind `EXCEPT`.
-use Rattle.std.proofs.Common.{◌≡◌, false, List, [], ◌∷◌, Ok, Err, refl, arith}
+use Rattle.std.proofs.Common.{Bool, ◌≡◌, false, List, [], ◌∷◌, Ok, Err, refl, arith}
 use Rattle.tla_token.specs.declared.place.Place.{Place}
 use Rattle.tla_token.specs.declared.rule.Rule.TheVariants.{Syntax}
 use Rattle.tla_tree.specs.Tree.{Tree, field}
@@ -18,15 +18,15 @@ abbrev x_field : Field
 x_field = record { place = here; is_reserved = false; text = 120 ∷ [] }
 
 -- ---- paths
-no_path : (ts : List Tree) → IsPath ts [] [] 0 path_end
-no_path ts = record { below = tt; steps = refl; subscripts = λ us. refl; nesting = refl }
+no_path : {linked : Bool} (ts : List Tree) → IsPath linked ts [] [] 0 path_end
+no_path {linked} ts = record { below = tt; steps = refl; subscripts = λ us. refl; nesting = refl }
 
-field_path : (ts : List Tree) (p : Place) → IsPath ts (field (120 ∷ []) ∷ []) [] 0 (at_field p x_field path_end)
-field_path ts p = record { below = tt; steps = refl; subscripts = λ us. refl; nesting = refl }
+field_path : {linked : Bool} (ts : List Tree) (p : Place) → IsPath linked ts (field (120 ∷ []) ∷ []) [] 0 (at_field p x_field path_end)
+field_path {linked} ts p = record { below = tt; steps = refl; subscripts = λ us. refl; nesting = refl }
 
 -- ---- subscripts
-one_subscript : (t : Tree) (a : Phrase) → t ≡ tree_of a → IsSubscript (t ∷ []) 0 (in_all (last a)) (last a)
-one_subscript t a h = record { below = omega arith; tree = h; nesting = refl }
+one_subscript : {linked : Bool} (t : Tree) (a : Phrase) → t ≡ tree_of a → IsSubscript linked (t ∷ []) 0 (in_all linked (last a)) (last a)
+one_subscript {linked} t a h = record { below = omega arith; tree = h; nesting = refl }
 
 -- a reader that always reads these lists, and takes nothing
 abbrev lists : Phrases → Fields → Settings → Readers

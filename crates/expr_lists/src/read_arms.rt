@@ -4,7 +4,7 @@ ghost use Rattle.std.specs.Prelude.{◌<◌, ◌≤◌, suc, length, IfOk, Some}
 ghost use Rattle.tla_tree.specs.Pool.{AllBelow, Keeps};
 ghost use Rattle.tla_tree.specs.Shapes.{CaseShaped};
 ghost use Rattle.tla_tree.specs.Spelling.{Phrase};
-ghost use Rattle.tla_tree.specs.Whole.{whole};
+ghost use Rattle.tla_tree.specs.Whole.{whole_in};
 ghost use Rattle.expr_nodes.specs.Ahead.{ahead};
 ghost use Rattle.expr_nodes.specs.ReadIn.{AreArms, IsIn, Told};
 ghost use Rattle.expr_rows.specs.HasRead.{one_arm};
@@ -45,7 +45,7 @@ fn next_arm<F: Fn(&mut Pool, Context, Spot) -> Result<(Read, usize), Halt>>(
     s: Spot,
 ) -> Result<(Arm, usize), Halt>
     requires given { MayRead tokens.now s (suc s.left) (F.pre inner.now) (F.post inner.now) }
-    ensures read { Told (λ x (y : Phrase × Place × Phrase). IsIn pool.new x.0.test y.0 × IsIn pool.new x.0.value y.2) (λ x. ahead tokens.now x.1) result (one_arm (whole (Some s.left)) s.edge (ahead tokens.now s.at)) }
+    ensures read { Told (λ x (y : Phrase × Place × Phrase). IsIn s.linked pool.new x.0.test y.0 × IsIn s.linked pool.new x.0.value y.2) (λ x. ahead tokens.now x.1) result (one_arm (whole_in s.linked (Some s.left)) s.edge (ahead tokens.now s.at)) }
     ensures kept { Keeps pool.old pool.new }
     ensures test_small { IfOk result (λ x. x.0.test.shape.nesting ≤ s.left) }
     ensures value_small { IfOk result (λ x. x.0.value.shape.nesting ≤ s.left) }
@@ -71,7 +71,7 @@ pub fn arms<F: Fn(&mut Pool, Context, Spot) -> Result<(Read, usize), Halt>>(
     s: Spot,
 ) -> Result<(ManyArms, usize), Halt>
     requires given { MayRead tokens.now s (suc s.left) (F.pre inner.now) (F.post inner.now) }
-    ensures read { Told (λ x xs. AreArms pool.new x.0.other x.0.ids.items x.0.nesting xs) (λ x. ahead tokens.now x.1) result ((whole (Some s.left)).arms s.edge (ahead tokens.now s.at)) }
+    ensures read { Told (λ x xs. AreArms s.linked pool.new x.0.other x.0.ids.items x.0.nesting xs) (λ x. ahead tokens.now x.1) result ((whole_in s.linked (Some s.left)).arms s.edge (ahead tokens.now s.at)) }
     ensures kept { Keeps pool.old pool.new }
     ensures shaped { IfOk result (λ x. CaseShaped x.0.other (length x.0.ids.items)) }
     ensures below { IfOk result (λ x. AllBelow (length pool.new) x.0.ids.items) }

@@ -3,7 +3,7 @@
 ghost use Rattle.std.specs.Prelude.{◌<◌, suc, IfOk, Some};
 ghost use Rattle.tla_tree.specs.Pool.{Keeps};
 ghost use Rattle.tla_tree.specs.Spelling.{Phrase};
-ghost use Rattle.tla_tree.specs.Whole.{whole};
+ghost use Rattle.tla_tree.specs.Whole.{whole_in};
 ghost use Rattle.expr_nodes.specs.ViewSeen.{mark_seen};
 ghost use Rattle.expr_nodes.specs.Ahead.{ahead};
 ghost use Rattle.expr_nodes.specs.ReadIn.{IsIn, Told};
@@ -31,7 +31,7 @@ pub fn behind<F: Fn(&mut Pool, Context, Spot) -> Result<(Read, usize), Halt>>(
     mark: Mark,
 ) -> Result<(Read, usize), Halt>
     requires given { MayRead tokens.now s (suc s.left) (F.pre inner.now) (F.post inner.now) }
-    ensures read { Told (λ x (y : Place × Phrase). IsIn pool.new x.0 y.1) (λ x. ahead tokens.now x.1) result (behind_mark (whole (Some s.left)) s.edge (mark_seen mark) (ahead tokens.now s.at)) }
+    ensures read { Told (λ x (y : Place × Phrase). IsIn s.linked pool.new x.0 y.1) (λ x. ahead tokens.now x.1) result (behind_mark (whole_in s.linked (Some s.left)) s.edge (mark_seen mark) (ahead tokens.now s.at)) }
     ensures kept { Keeps pool.old pool.new }
     ensures stands { IfOk result (λ x. Stands tokens.now pool.new s.at s.left x) }
 {

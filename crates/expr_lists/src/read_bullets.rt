@@ -4,7 +4,7 @@ ghost use Rattle.std.specs.Prelude.{◌≡◌, ◌<◌, ◌≤◌, suc, true, le
 ghost use Rattle.tla_tree.specs.Pool.{Keeps};
 ghost use Rattle.tla_tree.specs.Rank.{is_bullet as is_bullet_of};
 ghost use Rattle.tla_tree.specs.Spelling.{Phrase};
-ghost use Rattle.tla_tree.specs.Whole.{whole};
+ghost use Rattle.tla_tree.specs.Whole.{whole_in};
 ghost use Rattle.expr_nodes.specs.Ahead.{ahead};
 ghost use Rattle.expr_nodes.specs.ReadIn.{AreItems, IsIn, Told};
 ghost use Rattle.expr_rows.specs.HasRead.{one_item};
@@ -47,7 +47,7 @@ fn next_item<F: Fn(&mut Pool, Context, Spot) -> Result<(Read, usize), Halt>>(
     col: u32,
 ) -> Result<(Item, usize), Halt>
     requires given { MayRead tokens.now s (suc s.left) (F.pre inner.now) (F.post inner.now) }
-    ensures read { Told (λ x (y : Place × Phrase). (y.0 ≡ x.0.place) × IsIn pool.new x.0.read y.1) (λ x. ahead tokens.now x.1) result (one_item (whole (Some s.left)) s.edge op col (ahead tokens.now s.at)) }
+    ensures read { Told (λ x (y : Place × Phrase). (y.0 ≡ x.0.place) × IsIn s.linked pool.new x.0.read y.1) (λ x. ahead tokens.now x.1) result (one_item (whole_in s.linked (Some s.left)) s.edge op col (ahead tokens.now s.at)) }
     ensures kept { Keeps pool.old pool.new }
     ensures within { IfOk result (λ x. x.0.read.id < length pool.new) }
     ensures small { IfOk result (λ x. x.0.read.shape.nesting ≤ s.left) }
@@ -76,7 +76,7 @@ pub fn bullets<F: Fn(&mut Pool, Context, Spot) -> Result<(Read, usize), Halt>>(
 ) -> Result<(Items, usize), Halt>
     requires given { MayRead tokens.now s s.left (F.pre inner.now) (F.post inner.now) }
     requires bullet { is_bullet_of op ≡ true }
-    ensures read { Told (λ x bs. AreItems pool.new op x.0.id x.0.first x.0.boxes x.0.nesting bs) (λ x. ahead tokens.now x.1) result ((whole (Some s.left)).bullets s.edge op col (ahead tokens.now s.at)) }
+    ensures read { Told (λ x bs. AreItems s.linked pool.new op x.0.id x.0.first x.0.boxes x.0.nesting bs) (λ x. ahead tokens.now x.1) result ((whole_in s.linked (Some s.left)).bullets s.edge op col (ahead tokens.now s.at)) }
     ensures kept { Keeps pool.old pool.new }
     ensures below { IfOk result (λ x. x.0.id < length pool.new) }
     ensures small { IfOk result (λ x. x.0.nesting ≤ s.left) }

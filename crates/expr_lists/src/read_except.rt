@@ -3,7 +3,7 @@
 ghost use Rattle.std.specs.Prelude.{◌<◌, ◌≤◌, suc, length, IfOk, Some};
 ghost use Rattle.tla_tree.specs.Pool.{Keeps};
 ghost use Rattle.tla_tree.specs.Spelling.{Phrase};
-ghost use Rattle.tla_tree.specs.Whole.{whole};
+ghost use Rattle.tla_tree.specs.Whole.{whole_in};
 ghost use Rattle.expr_nodes.specs.Ahead.{ahead};
 ghost use Rattle.expr_nodes.specs.ReadIn.{IsIn, Told};
 ghost use Rattle.expr_rows.specs.HasRead.{Stands};
@@ -39,7 +39,7 @@ pub fn except_in<F: Fn(&mut Pool, Context, Spot) -> Result<(Read, usize), Halt>>
     requires given { MayRead tokens.now s (suc s.left) (F.pre inner.now) (F.post inner.now) }
     requires f_in { f.id < length pool.old }
     requires f_small { f.shape.nesting ≤ s.left }
-    ensures read { (i : Phrase) (q : Place) → IsIn pool.old f i → Told (λ x j. IsIn pool.new x.0 j) (λ x. ahead tokens.now x.1) result (changed (whole (Some s.left)) s.edge place i q (ahead tokens.now s.at)) }
+    ensures read { (i : Phrase) (q : Place) → IsIn s.linked pool.old f i → Told (λ x j. IsIn s.linked pool.new x.0 j) (λ x. ahead tokens.now x.1) result (changed (whole_in s.linked (Some s.left)) s.edge place i q (ahead tokens.now s.at)) }
     ensures kept { Keeps pool.old pool.new }
     ensures stands { IfOk result (λ x. Stands tokens.now pool.new s.at (suc s.left) x) }
 {

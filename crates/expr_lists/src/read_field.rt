@@ -3,7 +3,7 @@
 ghost use Rattle.std.specs.Prelude.{◌≡◌, ◌<◌, ◌≤◌, ◌++◌, ◌∷◌, [], max, suc, length, IfOk, OnOk, Some};
 ghost use Rattle.tla_token.specs.TokensSeen.{span_bytes};
 ghost use Rattle.tla_tree.specs.Pool.{AllBelow, Keeps};
-ghost use Rattle.tla_tree.specs.Whole.{whole};
+ghost use Rattle.tla_tree.specs.Whole.{whole_in};
 ghost use Rattle.expr_nodes.specs.Ahead.{ahead};
 ghost use Rattle.expr_nodes.specs.ReadIn.{AreFields, Told, field_seen};
 ghost use Rattle.expr_nodes.specs.ViewSeen.{mark_seen};
@@ -61,7 +61,7 @@ pub fn fields<F: Fn(&mut Pool, Context, Spot) -> Result<(Read, usize), Halt>>(
     first: FieldName,
 ) -> Result<(Labelled, usize), Halt>
     requires given { MayRead tokens.now s (suc s.left) (F.pre inner.now) (F.post inner.now) }
-    ensures read { Told (λ x fs. AreFields pool.new x.0.labels x.0.ids.items x.0.nesting fs) (λ x. ahead tokens.now x.1) result ((whole (Some s.left)).fields s.edge (mark_seen mark) (field_seen tokens.now.bytes.items first) (ahead tokens.now s.at)) }
+    ensures read { Told (λ x fs. AreFields s.linked pool.new x.0.labels x.0.ids.items x.0.nesting fs) (λ x. ahead tokens.now x.1) result ((whole_in s.linked (Some s.left)).fields s.edge (mark_seen mark) (field_seen tokens.now.bytes.items first) (ahead tokens.now s.at)) }
     ensures kept { Keeps pool.old pool.new }
     ensures below { IfOk result (λ x. AllBelow (length pool.new) x.0.ids.items) }
     ensures some { IfOk result (λ x. 1 ≤ length x.0.ids.items) }

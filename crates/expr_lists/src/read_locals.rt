@@ -4,7 +4,7 @@ ghost use Rattle.std.specs.Prelude.{◌≡◌, ◌<◌, ◌≤◌, ◌++◌, ◌
 ghost use Rattle.tla_token.specs.TokensSeen.{span_bytes};
 ghost use Rattle.tla_tree.specs.Pool.{AllBelow, Keeps};
 ghost use Rattle.tla_tree.specs.Spelling.{named};
-ghost use Rattle.tla_tree.specs.Whole.{whole};
+ghost use Rattle.tla_tree.specs.Whole.{whole_in};
 ghost use Rattle.expr_nodes.specs.Ahead.{ahead};
 ghost use Rattle.expr_nodes.specs.ReadIn.{AreLocals, Told};
 ghost use Rattle.expr_rows.specs.MayRead.{MayRead};
@@ -62,7 +62,7 @@ pub fn locals<F: Fn(&mut Pool, Context, Spot) -> Result<(Read, usize), Halt>>(
     s: Spot,
 ) -> Result<(ManyLocals, usize), Halt>
     requires given { MayRead tokens.now s (suc s.left) (F.pre inner.now) (F.post inner.now) }
-    ensures read { Told (λ x ls. AreLocals pool.new x.0.names.items x.0.ids.items x.0.nesting ls) (λ x. ahead tokens.now x.1) result ((whole (Some s.left)).locals s.edge (ahead tokens.now s.at)) }
+    ensures read { Told (λ x ls. AreLocals s.linked pool.new x.0.names.items x.0.ids.items x.0.nesting ls) (λ x. ahead tokens.now x.1) result ((whole_in s.linked (Some s.left)).locals s.edge (ahead tokens.now s.at)) }
     ensures kept { Keeps pool.old pool.new }
     ensures some { IfOk result (λ x. 1 ≤ length x.0.names.items) }
     ensures as_many { IfOk result (λ x. length x.0.ids.items ≡ length x.0.names.items) }

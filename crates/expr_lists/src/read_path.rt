@@ -1,11 +1,11 @@
 //! Reading the path of a setting: `[a, b].c`.
 
 ghost use Rattle.std.specs.Prelude.{◌≡◌, ◌<◌, ◌≤◌, ◌+◌, ◌++◌, ◌∷◌, [], max, suc, length, IfOk, OnOk, Some};
-ghost use Rattle.tla_token.specs.Limits.{deepest_expression};
+ghost use Rattle.tla_tree.specs.Nesting.{deepest_in_module};
 ghost use Rattle.tla_token.specs.TokensSeen.{span_bytes};
 ghost use Rattle.tla_tree.specs.Pool.{Keeps};
 ghost use Rattle.tla_tree.specs.Tree.{index, field};
-ghost use Rattle.tla_tree.specs.Whole.{whole};
+ghost use Rattle.tla_tree.specs.Whole.{whole_in};
 ghost use Rattle.tla_pool.specs.FormOf.{steps_of};
 ghost use Rattle.expr_nodes.specs.Ahead.{ahead};
 ghost use Rattle.expr_nodes.specs.ReadIn.{Told};
@@ -46,7 +46,7 @@ pub fn subscript_in<F: Fn(&mut Pool, Context, Spot) -> Result<(Read, usize), Hal
     s: Spot,
 ) -> Result<(NodeId, u32, usize), Halt>
     requires given { MayRead tokens.now s (suc s.left) (F.pre inner.now) (F.post inner.now) }
-    ensures read { Told (λ x a. IsSubscript pool.new x.0 x.1 a.0) (λ x. ahead tokens.now x.2) result (indexed (whole (Some s.left)) s.edge (ahead tokens.now s.at)) }
+    ensures read { Told (λ x a. IsSubscript s.linked pool.new x.0 x.1 a.0) (λ x. ahead tokens.now x.2) result (indexed (whole_in s.linked (Some s.left)) s.edge (ahead tokens.now s.at)) }
     ensures kept { Keeps pool.old pool.new }
     ensures small { IfOk result (λ x. x.1 ≤ s.left) }
     ensures inside { IfOk result (λ x. x.2 ≤ length tokens.now.items.items) }
@@ -61,7 +61,7 @@ pub fn subscript_in<F: Fn(&mut Pool, Context, Spot) -> Result<(Read, usize), Hal
 
 // One more subscript, in which so many forms are open.
 fn indexed_by(route: &mut Route, id: NodeId, opened: u32) -> Result<(), AllocError>
-    requires { opened < deepest_expression }
+    requires { opened < deepest_in_module }
     ensures steps { OnOk result (steps_of route.new.steps.items ≡ steps_of route.old.steps.items ++ index ∷ []) }
     ensures ids { OnOk result (route.new.ids.items ≡ route.old.ids.items ++ id ∷ []) }
     ensures nesting { OnOk result (route.new.nesting ≡ max route.old.nesting (1 + opened)) }
@@ -101,7 +101,7 @@ pub fn path<F: Fn(&mut Pool, Context, Spot) -> Result<(Read, usize), Halt>>(
     s: Spot,
 ) -> Result<(Route, usize), Halt>
     requires given { MayRead tokens.now s s.left (F.pre inner.now) (F.post inner.now) }
-    ensures read { Told (λ x p. IsPath pool.new (steps_of x.0.steps.items) x.0.ids.items x.0.nesting p) (λ x. ahead tokens.now x.1) result ((whole (Some s.left)).path s.edge (ahead tokens.now s.at)) }
+    ensures read { Told (λ x p. IsPath s.linked pool.new (steps_of x.0.steps.items) x.0.ids.items x.0.nesting p) (λ x. ahead tokens.now x.1) result ((whole_in s.linked (Some s.left)).path s.edge (ahead tokens.now s.at)) }
     ensures kept { Keeps pool.old pool.new }
     ensures small { IfOk result (λ x. x.0.nesting ≤ s.left) }
     ensures inside { IfOk result (λ x. x.1 ≤ length tokens.now.items.items) }
@@ -116,7 +116,11 @@ pub fn path<F: Fn(&mut Pool, Context, Spot) -> Result<(Read, usize), Halt>>(
     loop {
         if let Some(from) = after_mark(tokens, Spot { at, ..s }, Mark::OpenSquare) {
             let d = deeper(tokens, Spot { at, ..s }, 0)?;
-            let d = Spot { at: from, ..d };
+            let d = Spot {
+                at: from,
+                left: d.left,
+                ..s
+            };
             let (id, opened, next) = subscript_in(alloc, tokens, inner, pool, d)?;
             indexed_by(&mut route, id, opened)?;
             at = next;

@@ -2,7 +2,7 @@
 
 ghost use Rattle.std.specs.Prelude.{◌<◌, suc, Some};
 ghost use Rattle.tla_tree.specs.Reader as reader;
-ghost use Rattle.tla_tree.specs.Whole.{whole};
+ghost use Rattle.tla_tree.specs.Whole.{whole_in};
 ghost use Rattle.expr_nodes.specs.Ahead.{ahead};
 ghost use Rattle.expr_nodes.specs.ReadIn.{field_seen};
 ghost use Rattle.expr_rows.specs.HasRead.{HasRead};
@@ -35,7 +35,7 @@ pub fn fields_in<F: Fn(&mut Pool, Context, Spot) -> Result<(Read, usize), Halt>>
     field: FieldName,
 ) -> Result<(Read, usize), Halt>
     requires given { MayRead tokens.now s (suc s.left) (F.pre inner.now) (F.post inner.now) }
-    ensures { HasRead tokens.now pool.old pool.new s.at (suc s.left) result (fields_of (whole (Some s.left)) s.edge place (field_seen tokens.now.bytes.items field) (ahead tokens.now s.at)) }
+    ensures { HasRead s.linked tokens.now pool.old pool.new s.at (suc s.left) result (fields_of (whole_in s.linked (Some s.left)) s.edge place (field_seen tokens.now.bytes.items field) (ahead tokens.now s.at)) }
 {
     let (all, at) = fields(alloc, tokens, inner, pool, s, Mark::Maps, field)?;
     let (_, at) = past_mark(tokens, Spot { at, ..s }, Mark::CloseSquare)?;
@@ -58,7 +58,7 @@ pub fn records_in<F: Fn(&mut Pool, Context, Spot) -> Result<(Read, usize), Halt>
     field: FieldName,
 ) -> Result<(Read, usize), Halt>
     requires given { MayRead tokens.now s (suc s.left) (F.pre inner.now) (F.post inner.now) }
-    ensures { HasRead tokens.now pool.old pool.new s.at (suc s.left) result (records_of (whole (Some s.left)) s.edge place (field_seen tokens.now.bytes.items field) (ahead tokens.now s.at)) }
+    ensures { HasRead s.linked tokens.now pool.old pool.new s.at (suc s.left) result (records_of (whole_in s.linked (Some s.left)) s.edge place (field_seen tokens.now.bytes.items field) (ahead tokens.now s.at)) }
 {
     let (all, at) = fields(alloc, tokens, inner, pool, s, Mark::Colon, field)?;
     let (_, at) = past_mark(tokens, Spot { at, ..s }, Mark::CloseSquare)?;
@@ -81,7 +81,7 @@ pub fn record_rest<F: Fn(&mut Pool, Context, Spot) -> Result<(Read, usize), Halt
     field: FieldName,
 ) -> Result<(Read, usize), Halt>
     requires given { MayRead tokens.now s (suc s.left) (F.pre inner.now) (F.post inner.now) }
-    ensures { HasRead tokens.now pool.old pool.new s.at (suc s.left) result (reader.peek s.edge (reader.field_rest (whole (Some s.left)) s.edge place (field_seen tokens.now.bytes.items field)) (ahead tokens.now s.at)) }
+    ensures { HasRead s.linked tokens.now pool.old pool.new s.at (suc s.left) result (reader.peek s.edge (reader.field_rest (whole_in s.linked (Some s.left)) s.edge place (field_seen tokens.now.bytes.items field)) (ahead tokens.now s.at)) }
 {
     let t = next_at(tokens, s);
     if is_mark(Mark::Maps, t.view) {

@@ -3,7 +3,7 @@
 ghost use Rattle.std.specs.Prelude.{◌≡◌, ◌<◌, ◌≤◌, ◌++◌, ◌∷◌, [], max, suc, length, IfOk, OnOk, Some};
 ghost use Rattle.tla_tree.specs.Pool.{AllBelow, Keeps};
 ghost use Rattle.tla_tree.specs.Shapes.{HavePaths, settings as settings_of};
-ghost use Rattle.tla_tree.specs.Whole.{whole};
+ghost use Rattle.tla_tree.specs.Whole.{whole_in};
 ghost use Rattle.tla_pool.specs.FormOf.{slots_of, steps_of};
 ghost use Rattle.expr_nodes.specs.Ahead.{ahead};
 ghost use Rattle.expr_nodes.specs.ReadIn.{AreSettings, Told};
@@ -60,7 +60,7 @@ pub fn settings<F: Fn(&mut Pool, Context, Spot) -> Result<(Read, usize), Halt>>(
     place: Place,
 ) -> Result<(Settled, usize), Halt>
     requires given { MayRead tokens.now s (suc s.left) (F.pre inner.now) (F.post inner.now) }
-    ensures read { Told (λ x ss. AreSettings pool.new place (slots_of x.0.slots.items) x.0.ids.items x.0.nesting ss) (λ x. ahead tokens.now x.1) result ((whole (Some s.left)).settings s.edge (ahead tokens.now s.at)) }
+    ensures read { Told (λ x ss. AreSettings s.linked pool.new place (slots_of x.0.slots.items) x.0.ids.items x.0.nesting ss) (λ x. ahead tokens.now x.1) result ((whole_in s.linked (Some s.left)).settings s.edge (ahead tokens.now s.at)) }
     ensures kept { Keeps pool.old pool.new }
     ensures below { IfOk result (λ x. AllBelow (length pool.new) x.0.ids.items) }
     ensures as_many { IfOk result (λ x. length x.0.ids.items ≡ settings_of (slots_of x.0.slots.items)) }

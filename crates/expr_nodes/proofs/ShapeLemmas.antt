@@ -11,7 +11,7 @@ use Rattle.tla_tree.specs.Rank.{rank, is_prefix}
 use Rattle.tla_tree.specs.Spelling as spelling
 use Rattle.tla_tree.specs.Reader as reader
 use Rattle.tla_tree.specs.Nesting.{chain, links, before, counts_in, all_in, binds_in, fields_in, settings_in, path_in, bullets_in, arms_in, locals_in, greatest, nesting_in}
-use Rattle.expr_nodes.specs.ShapeOf.{is_primary, is_open, is_above, is_applied, is_behind, takes, stands_left, stands_right, stands_under, stands_at_head, continues, right_of, shape_of, in_all, in_binds, in_fields, in_settings, in_path, in_bullets, in_arms, in_locals, last_boxes}
+use Rattle.expr_nodes.specs.ShapeOf.{is_primary, is_open, is_above, is_applied, is_behind, takes, stands_left, stands_right, stands_under, stands_at_head, continues, right_of, links_before, shape_of, in_all, in_binds, in_fields, in_settings, in_path, in_bullets, in_arms, in_locals, last_boxes}
 use Rattle.tla_tree.specs.Spelling.{first_bullet, Phrase, number, string, constant, name, primed, call, brackets, no_set, set_of, filter, image, no_tuple, tuple, fields, records, function, functions, except, apply, select, list, quantified, if_then_else, cases, local, infix_of, prefix_of, Phrases, last, more, Binds, last_bind, bind, share, Fields, last_field, field, Settings, last_setting, setting, Path, path_end, index, at_field, Bullets, last_bullet, bullet, Arms, last_arm, other_arm, arm, Locals, last_local, more_locals}
 
 -- ---- chains and links
@@ -26,6 +26,10 @@ links_is true a = refl
 links_is false (apply a p xs q) = refl
 links_is false (select a p f) = refl
 links_is false a = refl
+
+pub before_is : (linked : Bool) (a : Phrase) → links_before linked (shape_of linked a).links ≡ before linked a
+before_is true a = links_is true a
+before_is false a = refl
 
 -- ---- open forms
 mutual
@@ -48,7 +52,7 @@ mutual
   deep linked n (function p bs q a t) r = omega (arith, deep_binds linked (n + 1) bs ((n + 1) ∷ counts_in linked (n + 1) a ((n + 1) ∷ r)), deep linked (n + 1) a ((n + 1) ∷ r))
   deep linked n (functions p a q b t) r = omega (arith, deep linked (n + 1) a ((n + 1) ∷ counts_in linked (n + 1) b ((n + 1) ∷ r)), deep linked (n + 1) b ((n + 1) ∷ r))
   deep linked n (except p a q ss t) r = omega (arith, deep linked (n + 1) a ((n + 1) ∷ settings_in linked (n + 1) ss ((n + 1) ∷ r)), deep_settings linked (n + 1) ss ((n + 1) ∷ r))
-  deep linked n (apply a p xs q) r = omega (arith, links_is linked a, deep linked n a ((n + before linked a + 1) ∷ all_in linked (n + before linked a + 1) xs ((n + before linked a + 1) ∷ r)), deep_all linked (n + before linked a + 1) xs ((n + before linked a + 1) ∷ r))
+  deep linked n (apply a p xs q) r = omega (arith, before_is linked a, deep linked n a ((n + before linked a + 1) ∷ all_in linked (n + before linked a + 1) xs ((n + before linked a + 1) ∷ r)), deep_all linked (n + before linked a + 1) xs ((n + before linked a + 1) ∷ r))
   deep true n (select a p f) r = omega (arith, links_is true a, deep true n a ((n + links a + 1) ∷ (n + links a + 1) ∷ r))
   deep false n (select a p f) r = omega (arith, deep false n a (n ∷ n ∷ r))
   deep linked n (list o bs) r = deep_bullets linked n bs r
@@ -180,6 +184,9 @@ head_by linked a p = refl
 
 pub head_of_is : (linked : Bool) (x : Bool) (s : Shape) (p : Place) (a : Phrase) → x ≡ stands_at_head s p → shape_of linked a ≡ s → x ≡ spelling.can_be_head a p
 head_of_is linked x s p a d e = d ∙ subst (λ (s : Shape). stands_at_head s p ≡ spelling.can_be_head a p) e (head_by linked a p)
+
+pub alone_is : (linked x : Bool) (s : Shape) (a : Phrase) → x ≡ is_primary s.head → shape_of linked a ≡ s → x ≡ spelling.is_primary (spelling.head a)
+alone_is linked x s a d e = d ∙ ap (λ (s : Shape). is_primary s.head) (sym e) ∙ sym (primary_is (shape_of linked a).head) ∙ ap spelling.is_primary (head_is linked a)
 
 pub goes_is : (linked : Bool) (x : Bool) (s : Shape) (b : ℕ) (p : Place) (o : Op) (a : Phrase) → x ≡ continues b s p o → shape_of linked a ≡ s → x ≡ reader.goes_on b a p o
 goes_is linked x s b p o a d e = d ∙ ap (λ (l : Bool). not (is_prefix o) && (nat_lt b (rank o).0 && l)) (left_at linked s p o a e)

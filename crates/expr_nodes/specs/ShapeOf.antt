@@ -80,13 +80,22 @@ primary_shape p n = record { head = at.Primary; start = p; short = true; ends_op
 abbrev pub linked_shape : Shape → ℕ → ℕ → Shape
 linked_shape s l n = record { head = at.Primary; start = s.start; short = true; ends_open = false; end_list = None; boxes = boxes.Never; chain = 0; links = l; nesting = n }
 
--- one more, where they count
+-- those that count, and one more
+abbrev pub links_before : Bool → ℕ → ℕ
+links_before true n = n
+links_before false n = 0
+
 abbrev pub links_after : Bool → ℕ → ℕ
 links_after true n = n + 1
 links_after false n = 0
 
+-- what a field opens with those before it
+abbrev pub field_links : Bool → ℕ → ℕ
+field_links true n = n + 1
+field_links false n = 0
+
 abbrev pub apply_shape : Bool → Shape → ℕ → Shape
-apply_shape w s n = linked_shape s (links_after w s.links) (max s.nesting (s.links + 1 + n))
+apply_shape w s n = linked_shape s (links_after w s.links) (max s.nesting (links_before w s.links + 1 + n))
 
 abbrev pub field_nesting : Bool → Shape → ℕ
 field_nesting true s = max s.nesting (s.links + 1)

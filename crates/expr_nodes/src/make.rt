@@ -11,7 +11,7 @@ ghost use Rattle.tla_tree.specs.Shapes.{Shaped};
 ghost use Rattle.tla_tree.specs.Rank.{is_prefix as is_prefix_of};
 ghost use Rattle.tla_tree.specs.Spelling as spelled;
 ghost use Rattle.tla_tree.specs.Spelling.{Phrase, Phrases, operation as operation_of};
-ghost use Rattle.expr_nodes.specs.ShapeOf.{primary_shape as primary_shape_of, apply_shape as apply_shape_of, select_shape as select_shape_of, open_shape as open_shape_of, infix_shape as infix_shape_of, prefix_shape as prefix_shape_of};
+ghost use Rattle.expr_nodes.specs.ShapeOf.{primary_shape as primary_shape_of, links_before as links_before_of, apply_shape as apply_shape_of, select_shape as select_shape_of, open_shape as open_shape_of, infix_shape as infix_shape_of, prefix_shape as prefix_shape_of};
 ghost use Rattle.expr_nodes.specs.ViewSeen.{constant_seen};
 ghost use Rattle.expr_nodes.specs.ReadIn.{IsIn, AreIn, field_seen};
 ghost use Rattle.expr_nodes.specs.Subscripts.{subscript_tree};
@@ -378,7 +378,7 @@ pub fn apply(
     requires f_in { f.id < length pool.old }
     requires below { AllBelow (length pool.old) ids.items }
     requires some { 1 ≤ length ids.items }
-    requires small { f.shape.links + 1 + row.nesting < 2 ^ 32 }
+    requires small { links_before_of linked f.shape.links + 1 + row.nesting < 2 ^ 32 }
     ensures read { IfOk result (λ x. (a : Phrase) (xs : Phrases) (p q : Place) → IsIn linked pool.old f a → AreIn linked pool.old ids.items row xs → IsIn linked pool.new x (spelled.apply a p xs q)) }
     ensures shape { IfOk result (λ x. x.shape ≡ apply_shape_of linked f.shape row.nesting) }
     ensures within { IfOk result (λ x. x.id < length pool.new) }
@@ -406,7 +406,7 @@ pub fn select(
     linked: bool,
 ) -> Result<Read, AllocError>
     requires r_in { r.id < length pool.old }
-    requires small { r.shape.links + 1 < 2 ^ 32 }
+    requires small { links_before_of linked r.shape.links + 1 < 2 ^ 32 }
     ensures read { IfOk result (λ x. (a : Phrase) (p : Place) → IsIn linked pool.old r a → IsIn linked pool.new x (spelled.select a p (field_seen tokens.now.bytes.items field))) }
     ensures shape { IfOk result (λ x. x.shape ≡ select_shape_of linked r.shape) }
     ensures within { IfOk result (λ x. x.id < length pool.new) }

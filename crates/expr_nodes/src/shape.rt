@@ -7,7 +7,7 @@ ghost use Rattle.tla_tree.specs.Spelling.{Phrase};
 ghost use Rattle.tla_tree.specs.Spelling as spelling;
 ghost use Rattle.tla_tree.specs.Nesting as nesting;
 ghost use Rattle.tla_tree.specs.Reader as reader;
-ghost use Rattle.expr_nodes.specs.ShapeOf.{is_above as is_above_of, is_applied as is_applied_of, is_primary as is_primary_of, is_open as is_open_of, is_behind as is_behind_of, is_left as is_left_of, takes as takes_of, right_of as right_of_of, shape_of, infix_shape as infix_shape_of, prefix_shape as prefix_shape_of, open_shape as open_shape_of, list_shape as list_shape_of, apply_shape as apply_shape_of, select_shape as select_shape_of, links_after as links_after_of, field_nesting as field_nesting_of, primary_shape as primary_shape_of, context_seen, stands_left as stands_left_of, stands_right as stands_right_of, stands_at_head as stands_at_head_of, continues as continues_of, stands_under as stands_under_of};
+ghost use Rattle.expr_nodes.specs.ShapeOf.{is_above as is_above_of, is_applied as is_applied_of, is_primary as is_primary_of, is_open as is_open_of, is_behind as is_behind_of, is_left as is_left_of, takes as takes_of, right_of as right_of_of, shape_of, infix_shape as infix_shape_of, prefix_shape as prefix_shape_of, open_shape as open_shape_of, list_shape as list_shape_of, apply_shape as apply_shape_of, select_shape as select_shape_of, links_before as links_before_of, links_after as links_after_of, field_nesting as field_nesting_of, primary_shape as primary_shape_of, context_seen, stands_left as stands_left_of, stands_right as stands_right_of, stands_at_head as stands_at_head_of, continues as continues_of, stands_under as stands_under_of};
 
 use tla_token::Place;
 use tla_tree::{Op, rank};
@@ -293,6 +293,13 @@ fn stands_at_head(shape: Shape, place: Place) -> bool
     is_primary(shape.head) && is_left(shape.end_list, place)
 }
 
+/// Whether it is a primary, so that it needs no brackets as an operand.
+pub fn stands_alone(shape: Shape) -> bool
+    ensures { (w : Bool) (a : Phrase) → shape_of w a ≡ shape → result ≡ spelling.is_primary (spelling.head a) }
+{
+    is_primary(shape.head)
+}
+
 // At the column of the list or left of it.
 fn is_left(list: Option<Bullet>, place: Place) -> bool
     ensures { result ≡ is_left_of list place }
@@ -386,9 +393,16 @@ pub fn primary_shape(start: Place, nesting: u32) -> Shape
     }
 }
 
+/// How many links are open at one more, besides that one.
+pub fn links_before(linked: bool, links: u32) -> u32
+    ensures { result ≡ links_before_of linked links }
+{
+    if linked { links } else { 0 }
+}
+
 // How many links are there with one more, where they count.
 fn links_after(linked: bool, links: u32) -> u32
-    requires { links + 1 < 2 ^ 32 }
+    requires { links_before_of linked links + 1 < 2 ^ 32 }
     ensures { result ≡ links_after_of linked links }
 {
     if linked { links + 1 } else { 0 }
@@ -396,7 +410,7 @@ fn links_after(linked: bool, links: u32) -> u32
 
 // The most forms that are open at a token of a field of a primary.
 fn field_nesting(linked: bool, primary: Shape) -> u32
-    requires { primary.links + 1 < 2 ^ 32 }
+    requires { links_before_of linked primary.links + 1 < 2 ^ 32 }
     ensures { result ≡ field_nesting_of linked primary }
 {
     if linked {
@@ -409,21 +423,19 @@ fn field_nesting(linked: bool, primary: Shape) -> u32
 /// That of an application of a primary, with so many forms open in its arguments; linked tells whether closed applications
 /// and fields count.
 pub fn apply_shape(linked: bool, primary: Shape, behind: u32) -> Shape
-    requires { primary.links + 1 + behind < 2 ^ 32 }
+    requires { links_before_of linked primary.links + 1 + behind < 2 ^ 32 }
     ensures { result ≡ apply_shape_of linked primary behind }
 {
+    let inside = links_before(linked, primary.links) + 1 + behind;
     Shape {
         links: links_after(linked, primary.links),
-        ..primary_shape(
-            primary.start,
-            larger(primary.nesting, primary.links + 1 + behind),
-        )
+        ..primary_shape(primary.start, larger(primary.nesting, inside))
     }
 }
 
 /// That of a field of a primary; linked tells whether closed applications and fields count.
 pub fn select_shape(linked: bool, primary: Shape) -> Shape
-    requires { primary.links + 1 < 2 ^ 32 }
+    requires { links_before_of linked primary.links + 1 < 2 ^ 32 }
     ensures { result ≡ select_shape_of linked primary }
 {
     Shape {

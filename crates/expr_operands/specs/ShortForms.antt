@@ -1,5 +1,5 @@
 -- Short forms, and the set behind `x \in` beside its element: what the code reads of them.
-use Rattle.std.specs.Prelude.{◌≡◌, ℕ, List, Result, Ok, Err, Option, Some, None}
+use Rattle.std.specs.Prelude.{◌≡◌, Bool, ℕ, List, Result, Ok, Err, Option, Some, None}
 use Rattle.tla_token.specs.declared.place.Place.{Place}
 use Rattle.tla_token.specs.declared.token.Tokens.{Tokens}
 use Rattle.tla_tree.specs.Tree.{Tree, Word}
@@ -20,34 +20,34 @@ under_short d e p q = d.short e >>= λ a. gives (prefix_of p q a)
 
 -- ---- behind `x \in` after `{` or `[`
 -- the name, the set, and the element that it may be instead
-pub record IsParted (ts : List Tree) (p : Place) (x : Word) (q : Place) (n : Read) (y : Parted) (a : Phrase) : Type 0 where
-  pub named : IsIn ts n (name p x)
-  pub set : IsIn ts y.set a
-  pub part : MayBeIn ts y.element (element p x q a)
+pub record IsParted (linked : Bool) (ts : List Tree) (p : Place) (x : Word) (q : Place) (n : Read) (y : Parted) (a : Phrase) : Type 0 where
+  pub named : IsIn linked ts n (name p x)
+  pub set : IsIn linked ts y.set a
+  pub part : MayBeIn linked ts y.element (element p x q a)
 
 -- the set and the element alone
-abbrev pub PartedIn : List Tree → Place → Word → Place → Parted → Phrase → Type 0
-PartedIn ts p x q y a = IsIn ts y.set a × MayBeIn ts y.element (element p x q a)
+abbrev pub PartedIn : Bool → List Tree → Place → Word → Place → Parted → Phrase → Type 0
+PartedIn linked ts p x q y a = IsIn linked ts y.set a × MayBeIn linked ts y.element (element p x q a)
 
 -- of some phrase
-pub record SomeParted (ts : List Tree) (n : Read) (y : Parted) : Type 0 where
+pub record SomeParted (linked : Bool) (ts : List Tree) (n : Read) (y : Parted) : Type 0 where
   pub place : Place
   pub word_of : Word
   pub sign : Place
   pub what : Phrase
-  pub told : IsParted ts place word_of sign n y what
+  pub told : IsParted linked ts place word_of sign n y what
 
 -- where it has grown to, and from where it is read on
-pub record PartsTo (v : Tokens) (new : List Tree) (p : Place) (x : Word) (q : Place) (n : Read) (y : Parted) (i : ℕ) (on : Phrase → Reader Phrase) (o : Out Phrase) : Type 0 where
+pub record PartsTo (linked : Bool) (v : Tokens) (new : List Tree) (p : Place) (x : Word) (q : Place) (n : Read) (y : Parted) (i : ℕ) (on : Phrase → Reader Phrase) (o : Out Phrase) : Type 0 where
   pub what : Phrase
-  pub told : IsParted new p x q n y what
+  pub told : IsParted linked new p x q n y what
   pub is : o ≡ on what (ahead v i)
 
 -- one step further, or none
-abbrev pub PartSteps : Tokens → List Tree → Place → Word → Place → Read → (Phrase → Reader Phrase) → Phrase → List Token → Result (Option (Parted × ℕ)) Halt → Out Phrase → Type 0
-PartSteps v new p x q n on a ts (Ok (Some y)) o = PartsTo v new p x q n y.0 y.1 on o
-PartSteps v new p x q n on a ts (Ok None) o = o ≡ Ok (a, ts)
-PartSteps v new p x q n on a ts (Err e) o = Fails e o
+abbrev pub PartSteps : Bool → Tokens → List Tree → Place → Word → Place → Read → (Phrase → Reader Phrase) → Phrase → List Token → Result (Option (Parted × ℕ)) Halt → Out Phrase → Type 0
+PartSteps linked v new p x q n on a ts (Ok (Some y)) o = PartsTo linked v new p x q n y.0 y.1 on o
+PartSteps linked v new p x q n on a ts (Ok None) o = o ≡ Ok (a, ts)
+PartSteps linked v new p x q n on a ts (Err e) o = Fails e o
 
 -- the shape of what was read, if it was
 abbrev pub shape_if : Option Read → Option Shape

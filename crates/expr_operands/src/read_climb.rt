@@ -3,7 +3,7 @@
 ghost use Rattle.std.specs.Prelude.{◌≡◌, ◌<◌, ◌≤◌, ◌+◌, length, IfOk, IfSome, Some};
 ghost use Rattle.tla_tree.specs.Pool.{Keeps};
 ghost use Rattle.tla_tree.specs.Spelling.{Phrase};
-ghost use Rattle.tla_tree.specs.Whole.{whole};
+ghost use Rattle.tla_tree.specs.Whole.{whole_in};
 ghost use Rattle.expr_nodes.specs.Ahead.{ahead};
 ghost use Rattle.expr_nodes.specs.ShapeOf.{context_seen};
 ghost use Rattle.expr_nodes.specs.ReadIn.{IsIn, Told};
@@ -32,7 +32,7 @@ fn operator<F: Fn(&mut Pool, Context, Spot) -> Result<(Read, usize), Halt>>(
     requires given { MayRead tokens.now s s.left (F.pre inner.now) (F.post inner.now) }
     requires a_in { a.id < length pool.old }
     requires a_small { a.shape.nesting ≤ s.left }
-    ensures read { (i : Phrase) → IsIn pool.old a i → Steps tokens.now pool.new (λ j. (whole (Some s.left)).climb s.edge (context_seen context) j) i (ahead tokens.now s.at) result ((whole (Some s.left)).climb s.edge (context_seen context) i (ahead tokens.now s.at)) }
+    ensures read { (i : Phrase) → IsIn s.linked pool.old a i → Steps s.linked tokens.now pool.new (λ j. (whole_in s.linked (Some s.left)).climb s.edge (context_seen context) j) i (ahead tokens.now s.at) result ((whole_in s.linked (Some s.left)).climb s.edge (context_seen context) i (ahead tokens.now s.at)) }
     ensures kept { Keeps pool.old pool.new }
     ensures stands { IfOk result (λ o. IfSome o (λ x. Stands tokens.now pool.new s.at s.left x)) }
     ensures longer { IfOk result (λ o. IfSome o (λ x. (x.0.shape.chain ≡ a.shape.chain + 1) × (a.shape.chain < s.left))) }
@@ -46,7 +46,15 @@ fn operator<F: Fn(&mut Pool, Context, Spot) -> Result<(Read, usize), Halt>>(
     }
     let d = deeper(tokens, s, a.shape.chain)?;
     let from = after(tokens, s);
-    let (b, at) = inner(pool, Context::RightOf(op), Spot { at: from, ..d })?;
+    let (b, at) = inner(
+        pool,
+        Context::RightOf(op),
+        Spot {
+            at: from,
+            left: d.left,
+            ..s
+        },
+    )?;
     let whole = infix(alloc, pool, a, op, b)?;
     Ok(Some((whole, at)))
 }
@@ -68,7 +76,7 @@ pub fn climb<F: Fn(&mut Pool, Context, Spot) -> Result<(Read, usize), Halt>>(
     requires given { MayRead tokens.now s s.left (F.pre inner.now) (F.post inner.now) }
     requires a_in { a.id < length pool.old }
     requires a_small { a.shape.nesting ≤ s.left }
-    ensures read { (i : Phrase) → IsIn pool.old a i → Told (λ x j. IsIn pool.new x.0 j) (λ x. ahead tokens.now x.1) result ((whole (Some s.left)).climb s.edge (context_seen context) i (ahead tokens.now s.at)) }
+    ensures read { (i : Phrase) → IsIn s.linked pool.old a i → Told (λ x j. IsIn s.linked pool.new x.0 j) (λ x. ahead tokens.now x.1) result ((whole_in s.linked (Some s.left)).climb s.edge (context_seen context) i (ahead tokens.now s.at)) }
     ensures kept { Keeps pool.old pool.new }
     ensures stands { IfOk result (λ x. Stands tokens.now pool.new s.at s.left x) }
 {

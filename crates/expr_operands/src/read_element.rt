@@ -1,6 +1,6 @@
 //! Reading the set behind `x \in` after `{` or `[`, beside the element that it may be instead.
 
-ghost use Rattle.std.specs.Prelude.{◌≡◌, ◌<◌, ◌≤◌, ◌+◌, ◌^◌, suc, length, IfOk, OnErr, IfErr, IfSome, MatchOption, Option, Some, false};
+ghost use Rattle.std.specs.Prelude.{Bool, ◌≡◌, ◌<◌, ◌≤◌, ◌+◌, ◌^◌, suc, length, IfOk, OnErr, IfErr, IfSome, MatchOption, Option, Some, false};
 ghost use Rattle.tla_token.specs.TokensSeen.{span_bytes};
 ghost use Rattle.tla_token.specs.declared.rule.Rule.TheVariants as rule;
 ghost use Rattle.tla_tree.specs.Tree as tree;
@@ -10,7 +10,7 @@ ghost use Rattle.tla_tree.specs.Spelling as spelled;
 ghost use Rattle.tla_tree.specs.Spelling.{Phrase};
 ghost use Rattle.tla_tree.specs.Reader as reader;
 ghost use Rattle.tla_tree.specs.Reader.{behind};
-ghost use Rattle.tla_tree.specs.Whole.{whole};
+ghost use Rattle.tla_tree.specs.Whole.{whole_in};
 ghost use Rattle.expr_nodes.specs.declared.cursor.Halt.TheVariants as halt;
 ghost use Rattle.expr_nodes.specs.ShapeOf.{infix_shape as infix_shape_of};
 ghost use Rattle.expr_nodes.specs.Ahead.{ahead};
@@ -63,12 +63,12 @@ fn grown(
     op: Op,
     b: Read,
 ) -> Result<Parted, AllocError>
-    requires some { SomeParted pool.old name a }
+    requires some { (w : Bool) × SomeParted w pool.old name a }
     requires between { is_prefix_of op ≡ false }
     requires b_in { b.id < length pool.old }
     requires chained { a.set.shape.chain + b.shape.nesting < 2 ^ 31 }
     requires small { a.set.shape.nesting < 2 ^ 31 }
-    ensures read { IfOk result (λ y. (i j : Phrase) (p q : Place) (x : tree.Word) → IsParted pool.old p x q name a i → IsIn pool.old b j → IsParted pool.new p x q name y (spelled.infix_of i place op j)) }
+    ensures read { IfOk result (λ y. (w : Bool) (i j : Phrase) (p q : Place) (x : tree.Word) → IsParted w pool.old p x q name a i → IsIn w pool.old b j → IsParted w pool.new p x q name y (spelled.infix_of i place op j)) }
     ensures shape { IfOk result (λ y. y.set.shape ≡ infix_shape_of a.set.shape op b.shape) }
     ensures kept { Keeps pool.old pool.new }
 {
@@ -101,9 +101,9 @@ fn operator<F: Fn(&mut Pool, Context, Spot) -> Result<(Read, usize), Halt>>(
     a: Parted,
 ) -> Result<Option<(Parted, usize)>, Halt>
     requires given { MayRead tokens.now s s.left (F.pre inner.now) (F.post inner.now) }
-    requires some { SomeParted pool.old name a }
+    requires some { SomeParted s.linked pool.old name a }
     requires small { a.set.shape.nesting ≤ s.left + s.left + s.left + 1 }
-    ensures read { (i : Phrase) (p q : Place) (x : tree.Word) → IsParted pool.old p x q name a i → PartSteps tokens.now pool.new p x q name (λ j. (whole (Some s.left)).climb s.edge (behind p x q) j) i (ahead tokens.now s.at) result ((whole (Some s.left)).climb s.edge (behind p x q) i (ahead tokens.now s.at)) }
+    ensures read { (i : Phrase) (p q : Place) (x : tree.Word) → IsParted s.linked pool.old p x q name a i → PartSteps s.linked tokens.now pool.new p x q name (λ j. (whole_in s.linked (Some s.left)).climb s.edge (behind p x q) j) i (ahead tokens.now s.at) result ((whole_in s.linked (Some s.left)).climb s.edge (behind p x q) i (ahead tokens.now s.at)) }
     ensures kept { Keeps pool.old pool.new }
     ensures small { IfOk result (λ o. IfSome o (λ y. y.0.set.shape.nesting ≤ s.left + s.left + s.left + 1)) }
     ensures longer { IfOk result (λ o. IfSome o (λ y. (y.0.set.shape.chain ≡ a.set.shape.chain + 1) × (a.set.shape.chain ≤ s.left + s.left))) }
@@ -120,7 +120,15 @@ fn operator<F: Fn(&mut Pool, Context, Spot) -> Result<(Read, usize), Halt>>(
     let k = least(s.left, a.set.shape, shape_in(a.element), t.place, op);
     let d = deeper_by(tokens, s, k)?;
     let from = after(tokens, s);
-    let (b, at) = inner(pool, Context::RightOf(op), Spot { at: from, ..d })?;
+    let (b, at) = inner(
+        pool,
+        Context::RightOf(op),
+        Spot {
+            at: from,
+            left: d.left,
+            ..s
+        },
+    )?;
     let y = grown(alloc, pool, name, a, t.place, op, b)?;
     Ok(Some((y, at)))
 }
@@ -140,9 +148,9 @@ pub fn climb<F: Fn(&mut Pool, Context, Spot) -> Result<(Read, usize), Halt>>(
     a: Parted,
 ) -> Result<(Parted, usize), Halt>
     requires given { MayRead tokens.now s s.left (F.pre inner.now) (F.post inner.now) }
-    requires some { SomeParted pool.old name a }
+    requires some { SomeParted s.linked pool.old name a }
     requires small { a.set.shape.nesting ≤ s.left }
-    ensures read { (i : Phrase) (p q : Place) (x : tree.Word) → IsParted pool.old p x q name a i → Told (λ y j. IsParted pool.new p x q name y.0 j) (λ y. ahead tokens.now y.1) result ((whole (Some s.left)).climb s.edge (behind p x q) i (ahead tokens.now s.at)) }
+    ensures read { (i : Phrase) (p q : Place) (x : tree.Word) → IsParted s.linked pool.old p x q name a i → Told (λ y j. IsParted s.linked pool.new p x q name y.0 j) (λ y. ahead tokens.now y.1) result ((whole_in s.linked (Some s.left)).climb s.edge (behind p x q) i (ahead tokens.now s.at)) }
     ensures kept { Keeps pool.old pool.new }
     ensures inside { IfOk result (λ y. y.1 ≤ length tokens.now.items.items) }
     ensures further { IfOk result (λ y. s.at ≤ y.1) }
@@ -173,7 +181,7 @@ fn first<F: Fn(&mut Pool, Context, Spot) -> Result<(Read, usize), Halt>>(
     s: Spot,
 ) -> Result<(Read, usize), Halt>
     requires given { MayRead tokens.now s (suc s.left) (F.pre inner.now) (F.post inner.now) }
-    ensures { HasRead tokens.now pool.old pool.new s.at s.left result (reader.peek s.edge (reader.operand (reader.room whole (Some s.left)) (whole (Some s.left)) s.edge reader.free) (ahead tokens.now s.at)) }
+    ensures { HasRead s.linked tokens.now pool.old pool.new s.at s.left result (reader.peek s.edge (reader.operand (reader.room s.linked (whole_in s.linked) (Some s.left)) (whole_in s.linked (Some s.left)) s.edge reader.free) (ahead tokens.now s.at)) }
 {
     let t = next_at(tokens, s);
     match t.view {
@@ -200,7 +208,7 @@ pub fn set_behind<F: Fn(&mut Pool, Context, Spot) -> Result<(Read, usize), Halt>
     sign: Place,
 ) -> Result<(Parted, usize), Halt>
     requires given { MayRead tokens.now s (suc s.left) (F.pre inner.now) (F.post inner.now) }
-    ensures read { Told (λ y j. PartedIn pool.new word.place (span_bytes tokens.now.bytes.items word.span) sign y.0 j) (λ y. ahead tokens.now y.1) result ((whole (Some s.left)).expr s.edge (behind word.place (span_bytes tokens.now.bytes.items word.span) sign) (ahead tokens.now s.at)) }
+    ensures read { Told (λ y j. PartedIn s.linked pool.new word.place (span_bytes tokens.now.bytes.items word.span) sign y.0 j) (λ y. ahead tokens.now y.1) result ((whole_in s.linked (Some s.left)).expr s.edge (behind word.place (span_bytes tokens.now.bytes.items word.span) sign) (ahead tokens.now s.at)) }
     ensures kept { Keeps pool.old pool.new }
     ensures inside { IfOk result (λ y. y.1 ≤ length tokens.now.items.items) }
     ensures further { IfOk result (λ y. s.at ≤ y.1) }

@@ -3,7 +3,7 @@
 ghost use Rattle.std.specs.Prelude.{Some};
 ghost use Rattle.tla_token.specs.TokensSeen.{span_bytes};
 ghost use Rattle.tla_tree.specs.Reader as reader;
-ghost use Rattle.tla_tree.specs.Whole.{whole};
+ghost use Rattle.tla_tree.specs.Whole.{whole_in};
 ghost use Rattle.expr_nodes.specs.Ahead.{ahead};
 ghost use Rattle.expr_rows.specs.HasRead.{HasRead};
 ghost use Rattle.expr_rows.specs.MayRead.{MayRead};
@@ -33,12 +33,16 @@ pub fn named<F: Fn(&mut Pool, Context, Spot) -> Result<(Read, usize), Halt>>(
     word: Word,
 ) -> Result<(Read, usize), Halt>
     requires given { MayRead tokens.now s s.left (F.pre inner.now) (F.post inner.now) }
-    ensures { HasRead tokens.now pool.old pool.new s.at s.left result (reader.peek s.edge (reader.named (reader.room whole (Some s.left)) s.edge word.place (span_bytes tokens.now.bytes.items word.span)) (ahead tokens.now s.at)) }
+    ensures { HasRead s.linked tokens.now pool.old pool.new s.at s.left result (reader.peek s.edge (reader.named (reader.room s.linked (whole_in s.linked) (Some s.left)) s.edge word.place (span_bytes tokens.now.bytes.items word.span)) (ahead tokens.now s.at)) }
 {
     let t = next_at(tokens, s);
     if let Some(from) = after_mark(tokens, s, Mark::OpenBracket) {
         let d = deeper(tokens, s, 0)?;
-        let d = Spot { at: from, ..d };
+        let d = Spot {
+            at: from,
+            left: d.left,
+            ..s
+        };
         return call_in(alloc, tokens, inner, pool, d, word, t.place);
     }
     if let Some(at) = after_mark(tokens, s, Mark::Prime) {
@@ -63,7 +67,7 @@ pub fn from_name<F: Fn(&mut Pool, Context, Spot) -> Result<(Read, usize), Halt>>
     word: Word,
 ) -> Result<(Read, usize), Halt>
     requires given { MayRead tokens.now s s.left (F.pre inner.now) (F.post inner.now) }
-    ensures { HasRead tokens.now pool.old pool.new s.at s.left result (reader.from_name (reader.room whole (Some s.left)) (whole (Some s.left)) s.edge word.place (span_bytes tokens.now.bytes.items word.span) (ahead tokens.now s.at)) }
+    ensures { HasRead s.linked tokens.now pool.old pool.new s.at s.left result (reader.from_name (reader.room s.linked (whole_in s.linked) (Some s.left)) (whole_in s.linked (Some s.left)) s.edge word.place (span_bytes tokens.now.bytes.items word.span) (ahead tokens.now s.at)) }
 {
     let (a, at) = named(alloc, tokens, inner, pool, s, word)?;
     postfix(alloc, tokens, inner, pool, Spot { at, ..s }, a)

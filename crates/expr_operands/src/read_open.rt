@@ -3,7 +3,7 @@
 ghost use Rattle.std.specs.Prelude.{◌≡◌, true, Some};
 ghost use Rattle.tla_tree.specs.Rank.{is_prefix};
 ghost use Rattle.tla_tree.specs.Reader as reader;
-ghost use Rattle.tla_tree.specs.Whole.{whole};
+ghost use Rattle.tla_tree.specs.Whole.{whole_in};
 ghost use Rattle.expr_nodes.specs.ShapeOf.{context_seen};
 ghost use Rattle.expr_nodes.specs.Ahead.{ahead};
 ghost use Rattle.expr_rows.specs.HasRead.{HasRead};
@@ -37,7 +37,7 @@ pub fn prefixed<F: Fn(&mut Pool, Context, Spot) -> Result<(Read, usize), Halt>>(
     requires given { MayRead tokens.now s s.left (F.pre inner.now) (F.post inner.now) }
     requires before { is_prefix op ≡ true }
     requires free { reader.is_free (context_seen context) op ≡ true }
-    ensures { HasRead tokens.now pool.old pool.new s.at s.left result (reader.signed (reader.room whole (Some s.left)) (whole (Some s.left)) s.edge (context_seen context) place op (Some op) (ahead tokens.now s.at)) }
+    ensures { HasRead s.linked tokens.now pool.old pool.new s.at s.left result (reader.signed (reader.room s.linked (whole_in s.linked) (Some s.left)) (whole_in s.linked (Some s.left)) s.edge (context_seen context) place op (Some op) (ahead tokens.now s.at)) }
 {
     let d = deeper(tokens, s, 0)?;
     let from = after(tokens, s);
@@ -46,7 +46,11 @@ pub fn prefixed<F: Fn(&mut Pool, Context, Spot) -> Result<(Read, usize), Halt>>(
         tokens,
         inner,
         pool,
-        Spot { at: from, ..d },
+        Spot {
+            at: from,
+            left: d.left,
+            ..s
+        },
         place,
         op,
     )

@@ -3,7 +3,7 @@
 ghost use Rattle.std.specs.Prelude.{◌≡◌, ◌<◌, suc, true, Some};
 ghost use Rattle.tla_token.specs.TokensSeen.{span_bytes};
 ghost use Rattle.tla_tree.specs.Rank.{is_prefix as is_prefix_of};
-ghost use Rattle.tla_tree.specs.Whole.{whole};
+ghost use Rattle.tla_tree.specs.Whole.{whole_in};
 ghost use Rattle.expr_nodes.specs.Ahead.{ahead};
 ghost use Rattle.expr_rows.specs.HasRead.{HasRead, bracketed, called, tupled, under_prefix};
 ghost use Rattle.expr_rows.specs.MayRead.{MayRead};
@@ -32,7 +32,7 @@ pub fn bracket_in<F: Fn(&mut Pool, Context, Spot) -> Result<(Read, usize), Halt>
     place: Place,
 ) -> Result<(Read, usize), Halt>
     requires given { MayRead tokens.now s (suc s.left) (F.pre inner.now) (F.post inner.now) }
-    ensures { HasRead tokens.now pool.old pool.new s.at (suc s.left) result (bracketed (whole (Some s.left)) s.edge place (ahead tokens.now s.at)) }
+    ensures { HasRead s.linked tokens.now pool.old pool.new s.at (suc s.left) result (bracketed (whole_in s.linked (Some s.left)) s.edge place (ahead tokens.now s.at)) }
 {
     let (a, at) = inner(pool, Context::Free, s)?;
     let (_, at) = past_mark(tokens, Spot { at, ..s }, Mark::CloseBracket)?;
@@ -54,7 +54,7 @@ pub fn call_in<F: Fn(&mut Pool, Context, Spot) -> Result<(Read, usize), Halt>>(
     place: Place,
 ) -> Result<(Read, usize), Halt>
     requires given { MayRead tokens.now s (suc s.left) (F.pre inner.now) (F.post inner.now) }
-    ensures { HasRead tokens.now pool.old pool.new s.at (suc s.left) result (called (whole (Some s.left)) s.edge word.place (span_bytes tokens.now.bytes.items word.span) place (ahead tokens.now s.at)) }
+    ensures { HasRead s.linked tokens.now pool.old pool.new s.at (suc s.left) result (called (whole_in s.linked (Some s.left)) s.edge word.place (span_bytes tokens.now.bytes.items word.span) place (ahead tokens.now s.at)) }
 {
     let (many, at) = phrases(alloc, tokens, inner, pool, s)?;
     let (_, at) = past_mark(tokens, Spot { at, ..s }, Mark::CloseBracket)?;
@@ -76,7 +76,7 @@ pub fn tuple_in<F: Fn(&mut Pool, Context, Spot) -> Result<(Read, usize), Halt>>(
     place: Place,
 ) -> Result<(Read, usize), Halt>
     requires given { MayRead tokens.now s (suc s.left) (F.pre inner.now) (F.post inner.now) }
-    ensures { HasRead tokens.now pool.old pool.new s.at (suc s.left) result (tupled (whole (Some s.left)) s.edge place (ahead tokens.now s.at)) }
+    ensures { HasRead s.linked tokens.now pool.old pool.new s.at (suc s.left) result (tupled (whole_in s.linked (Some s.left)) s.edge place (ahead tokens.now s.at)) }
 {
     let (many, at) = phrases(alloc, tokens, inner, pool, s)?;
     let (_, at) = past_mark(tokens, Spot { at, ..s }, Mark::CloseTuple)?;
@@ -100,7 +100,7 @@ pub fn operand_in<F: Fn(&mut Pool, Context, Spot) -> Result<(Read, usize), Halt>
 ) -> Result<(Read, usize), Halt>
     requires given { MayRead tokens.now s (suc s.left) (F.pre inner.now) (F.post inner.now) }
     requires before { is_prefix_of op ≡ true }
-    ensures { HasRead tokens.now pool.old pool.new s.at (suc s.left) result (under_prefix (whole (Some s.left)) s.edge place op (ahead tokens.now s.at)) }
+    ensures { HasRead s.linked tokens.now pool.old pool.new s.at (suc s.left) result (under_prefix (whole_in s.linked (Some s.left)) s.edge place op (ahead tokens.now s.at)) }
 {
     let (a, at) = inner(pool, Context::Under(op), s)?;
     let whole = prefix(alloc, pool, place, op, a)?;

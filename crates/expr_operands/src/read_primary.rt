@@ -3,7 +3,7 @@
 ghost use Rattle.std.specs.Prelude.{suc, Some};
 ghost use Rattle.tla_tree.specs.Lexical as tk;
 ghost use Rattle.tla_tree.specs.Reader as reader;
-ghost use Rattle.tla_tree.specs.Whole.{whole};
+ghost use Rattle.tla_tree.specs.Whole.{whole_in};
 ghost use Rattle.expr_nodes.specs.Ahead.{ahead};
 ghost use Rattle.expr_rows.specs.HasRead.{HasRead};
 ghost use Rattle.expr_rows.specs.MayRead.{MayRead};
@@ -33,11 +33,21 @@ pub fn bracket<F: Fn(&mut Pool, Context, Spot) -> Result<(Read, usize), Halt>>(
     place: Place,
 ) -> Result<(Read, usize), Halt>
     requires given { MayRead tokens.now s s.left (F.pre inner.now) (F.post inner.now) }
-    ensures { HasRead tokens.now pool.old pool.new s.at s.left result (reader.primary (reader.room whole (Some s.left)) (whole (Some s.left)) s.edge place (tk.mark tk.open_bracket) (ahead tokens.now s.at)) }
+    ensures { HasRead s.linked tokens.now pool.old pool.new s.at s.left result (reader.primary (reader.room s.linked (whole_in s.linked) (Some s.left)) (whole_in s.linked (Some s.left)) s.edge place (tk.mark tk.open_bracket) (ahead tokens.now s.at)) }
 {
     let d = deeper(tokens, s, 0)?;
     let from = after(tokens, s);
-    let (a, at) = bracket_in(tokens, inner, pool, Spot { at: from, ..d }, place)?;
+    let (a, at) = bracket_in(
+        tokens,
+        inner,
+        pool,
+        Spot {
+            at: from,
+            left: d.left,
+            ..s
+        },
+        place,
+    )?;
     postfix(alloc, tokens, inner, pool, Spot { at, ..s }, a)
 }
 
@@ -55,7 +65,7 @@ pub fn tuple_from<F: Fn(&mut Pool, Context, Spot) -> Result<(Read, usize), Halt>
     place: Place,
 ) -> Result<(Read, usize), Halt>
     requires given { MayRead tokens.now s (suc s.left) (F.pre inner.now) (F.post inner.now) }
-    ensures { HasRead tokens.now pool.old pool.new s.at (suc s.left) result (reader.peek s.edge (reader.tuples (whole (Some s.left)) s.edge place) (ahead tokens.now s.at)) }
+    ensures { HasRead s.linked tokens.now pool.old pool.new s.at (suc s.left) result (reader.peek s.edge (reader.tuples (whole_in s.linked (Some s.left)) s.edge place) (ahead tokens.now s.at)) }
 {
     if let Some(at) = after_mark(tokens, s, Mark::CloseTuple) {
         let whole = empty_tuple(alloc, pool, place)?;
@@ -78,10 +88,21 @@ pub fn tuple<F: Fn(&mut Pool, Context, Spot) -> Result<(Read, usize), Halt>>(
     place: Place,
 ) -> Result<(Read, usize), Halt>
     requires given { MayRead tokens.now s s.left (F.pre inner.now) (F.post inner.now) }
-    ensures { HasRead tokens.now pool.old pool.new s.at s.left result (reader.primary (reader.room whole (Some s.left)) (whole (Some s.left)) s.edge place (tk.mark tk.open_tuple) (ahead tokens.now s.at)) }
+    ensures { HasRead s.linked tokens.now pool.old pool.new s.at s.left result (reader.primary (reader.room s.linked (whole_in s.linked) (Some s.left)) (whole_in s.linked (Some s.left)) s.edge place (tk.mark tk.open_tuple) (ahead tokens.now s.at)) }
 {
     let d = deeper(tokens, s, 0)?;
     let from = after(tokens, s);
-    let (a, at) = tuple_from(alloc, tokens, inner, pool, Spot { at: from, ..d }, place)?;
+    let (a, at) = tuple_from(
+        alloc,
+        tokens,
+        inner,
+        pool,
+        Spot {
+            at: from,
+            left: d.left,
+            ..s
+        },
+        place,
+    )?;
     postfix(alloc, tokens, inner, pool, Spot { at, ..s }, a)
 }

@@ -3,7 +3,7 @@
 ghost use Rattle.std.specs.Prelude.{◌≡◌, ◌<◌, suc, true, false, Some};
 ghost use Rattle.tla_tree.specs.Rank.{is_prefix};
 ghost use Rattle.tla_tree.specs.Reader as reader;
-ghost use Rattle.tla_tree.specs.Whole.{whole};
+ghost use Rattle.tla_tree.specs.Whole.{whole_in};
 ghost use Rattle.expr_nodes.specs.ShapeOf.{context_seen};
 ghost use Rattle.expr_nodes.specs.Ahead.{ahead};
 ghost use Rattle.expr_rows.specs.HasRead.{HasRead};
@@ -33,7 +33,7 @@ pub fn short<F: Fn(&mut Pool, Context, Spot) -> Result<(Read, usize), Halt>>(
     s: Spot,
 ) -> Result<(Read, usize), Halt>
     requires given { MayRead tokens.now s (suc s.left) (F.pre inner.now) (F.post inner.now) }
-    ensures { HasRead tokens.now pool.old pool.new s.at s.left result ((whole (Some s.left)).short s.edge (ahead tokens.now s.at)) }
+    ensures { HasRead s.linked tokens.now pool.old pool.new s.at s.left result ((whole_in s.linked (Some s.left)).short s.edge (ahead tokens.now s.at)) }
 {
     match next_at(tokens, s).view {
         View::Key(_) => Err(refused(tokens, s, Rule::Syntax)),
@@ -57,7 +57,7 @@ pub fn short_in<F: Fn(&mut Pool, Context, Spot) -> Result<(Read, usize), Halt>>(
 ) -> Result<(Read, usize), Halt>
     requires given { MayRead tokens.now s (suc s.left) (F.pre inner.now) (F.post inner.now) }
     requires before { is_prefix op ≡ true }
-    ensures { HasRead tokens.now pool.old pool.new s.at (suc s.left) result (under_short (whole (Some s.left)) s.edge place op (ahead tokens.now s.at)) }
+    ensures { HasRead s.linked tokens.now pool.old pool.new s.at (suc s.left) result (under_short (whole_in s.linked (Some s.left)) s.edge place op (ahead tokens.now s.at)) }
 {
     let (a, at) = short(tokens, inner, pool, s)?;
     let whole = prefix(alloc, pool, place, op, a)?;
@@ -82,7 +82,7 @@ pub fn prefixed_short<F: Fn(&mut Pool, Context, Spot) -> Result<(Read, usize), H
     requires given { MayRead tokens.now s s.left (F.pre inner.now) (F.post inner.now) }
     requires before { is_prefix op ≡ true }
     requires bound { reader.is_free (context_seen context) op ≡ false }
-    ensures { HasRead tokens.now pool.old pool.new s.at s.left result (reader.signed (reader.room whole (Some s.left)) (whole (Some s.left)) s.edge (context_seen context) place op (Some op) (ahead tokens.now s.at)) }
+    ensures { HasRead s.linked tokens.now pool.old pool.new s.at s.left result (reader.signed (reader.room s.linked (whole_in s.linked) (Some s.left)) (whole_in s.linked (Some s.left)) s.edge (context_seen context) place op (Some op) (ahead tokens.now s.at)) }
 {
     let d = deeper(tokens, s, 0)?;
     let from = after(tokens, s);
@@ -91,7 +91,11 @@ pub fn prefixed_short<F: Fn(&mut Pool, Context, Spot) -> Result<(Read, usize), H
         tokens,
         inner,
         pool,
-        Spot { at: from, ..d },
+        Spot {
+            at: from,
+            left: d.left,
+            ..s
+        },
         place,
         op,
     )
@@ -114,7 +118,7 @@ pub fn signed<F: Fn(&mut Pool, Context, Spot) -> Result<(Read, usize), Halt>>(
 ) -> Result<(Read, usize), Halt>
     requires given { MayRead tokens.now s s.left (F.pre inner.now) (F.post inner.now) }
     requires before { is_prefix op ≡ true }
-    ensures { HasRead tokens.now pool.old pool.new s.at s.left result (reader.signed (reader.room whole (Some s.left)) (whole (Some s.left)) s.edge (context_seen context) place op (Some op) (ahead tokens.now s.at)) }
+    ensures { HasRead s.linked tokens.now pool.old pool.new s.at s.left result (reader.signed (reader.room s.linked (whole_in s.linked) (Some s.left)) (whole_in s.linked (Some s.left)) s.edge (context_seen context) place op (Some op) (ahead tokens.now s.at)) }
 {
     if is_free(context, op) {
         prefixed(alloc, tokens, inner, pool, s, context, place, op)

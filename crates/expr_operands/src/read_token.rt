@@ -6,7 +6,7 @@ ghost use Rattle.tla_token.specs.TokensSeen.{span_bytes};
 ghost use Rattle.tla_token.specs.Lexemes.{unquoted};
 ghost use Rattle.tla_tree.specs.Lexical as tk;
 ghost use Rattle.tla_tree.specs.Reader as reader;
-ghost use Rattle.tla_tree.specs.Whole.{whole};
+ghost use Rattle.tla_tree.specs.Whole.{whole_in};
 ghost use Rattle.expr_nodes.specs.ViewSeen.{constant_seen};
 ghost use Rattle.expr_nodes.specs.Ahead.{ahead};
 ghost use Rattle.expr_rows.specs.HasRead.{HasRead};
@@ -38,7 +38,7 @@ pub fn number<F: Fn(&mut Pool, Context, Spot) -> Result<(Read, usize), Halt>>(
 ) -> Result<(Read, usize), Halt>
     requires given { MayRead tokens.now s s.left (F.pre inner.now) (F.post inner.now) }
     requires small { n < past_numbers }
-    ensures { HasRead tokens.now pool.old pool.new s.at s.left result (reader.primary (reader.room whole (Some s.left)) (whole (Some s.left)) s.edge place (tk.number n) (ahead tokens.now s.at)) }
+    ensures { HasRead s.linked tokens.now pool.old pool.new s.at s.left result (reader.primary (reader.room s.linked (whole_in s.linked) (Some s.left)) (whole_in s.linked (Some s.left)) s.edge place (tk.number n) (ahead tokens.now s.at)) }
 {
     let a = make::number(alloc, pool, place, n)?;
     let at = after(tokens, s);
@@ -60,7 +60,7 @@ pub fn string<F: Fn(&mut Pool, Context, Spot) -> Result<(Read, usize), Halt>>(
     span: Span,
 ) -> Result<(Read, usize), Halt>
     requires given { MayRead tokens.now s s.left (F.pre inner.now) (F.post inner.now) }
-    ensures { HasRead tokens.now pool.old pool.new s.at s.left result (reader.primary (reader.room whole (Some s.left)) (whole (Some s.left)) s.edge place (tk.string (unwrap_or (unquoted (span_bytes tokens.now.bytes.items span)) [])) (ahead tokens.now s.at)) }
+    ensures { HasRead s.linked tokens.now pool.old pool.new s.at s.left result (reader.primary (reader.room s.linked (whole_in s.linked) (Some s.left)) (whole_in s.linked (Some s.left)) s.edge place (tk.string (unwrap_or (unquoted (span_bytes tokens.now.bytes.items span)) [])) (ahead tokens.now s.at)) }
 {
     let a = make::string(alloc, pool, tokens, place, span)?;
     let at = after(tokens, s);
@@ -82,7 +82,7 @@ pub fn constant<F: Fn(&mut Pool, Context, Spot) -> Result<(Read, usize), Halt>>(
     c: Constant,
 ) -> Result<(Read, usize), Halt>
     requires given { MayRead tokens.now s s.left (F.pre inner.now) (F.post inner.now) }
-    ensures { HasRead tokens.now pool.old pool.new s.at s.left result (reader.primary (reader.room whole (Some s.left)) (whole (Some s.left)) s.edge place (tk.constant (constant_seen c)) (ahead tokens.now s.at)) }
+    ensures { HasRead s.linked tokens.now pool.old pool.new s.at s.left result (reader.primary (reader.room s.linked (whole_in s.linked) (Some s.left)) (whole_in s.linked (Some s.left)) s.edge place (tk.constant (constant_seen c)) (ahead tokens.now s.at)) }
 {
     let a = make::constant(alloc, pool, place, c)?;
     let at = after(tokens, s);

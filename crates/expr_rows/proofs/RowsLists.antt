@@ -1,5 +1,5 @@
 -- Worked rows: an arm, a definition, a bullet with its item, and what stands behind the first token of a form over them.
-use Rattle.std.proofs.Common.{◌≡◌, ℕ, true, false, List, [], ◌∷◌, Ok, Err, refl, arith}
+use Rattle.std.proofs.Common.{Bool, ◌≡◌, ℕ, true, false, List, [], ◌∷◌, Ok, Err, refl, arith}
 use Rattle.tla_token.specs.declared.place.Place.{Place}
 use Rattle.tla_token.specs.declared.rule.Rule.TheVariants.{Syntax}
 use Rattle.tla_tree.specs.declared.op.Op.TheVariants as op
@@ -62,9 +62,9 @@ not_defined : (ls : Locals) (b : Phrase) (p : Place) → defined (record no_step
 not_defined ls b p = refl
 
 -- one item is the item itself, and two are a conjunction
-one_alone : (p q : Place) (n : ℕ) → AreItems (tree_of (number q n) ∷ []) op.And 0 p boxes.Never 1 (last_bullet p (number q n))
-one_alone p q n = record { below = omega arith; tree = refl; first = refl; boxes = refl; nesting = refl }
+one_alone : {linked : Bool} (p q : Place) (n : ℕ) → AreItems linked (tree_of (number q n) ∷ []) op.And 0 p boxes.Never 1 (last_bullet p (number q n))
+one_alone {linked} p q n = record { below = omega arith; tree = refl; first = refl; boxes = refl; nesting = refl }
 
-two_joined : (p q r s : Place) (m n : ℕ)
-    → AreItems (tree_of (number q m) ∷ tree_of (number s n) ∷ node (operation op.And) p (two (tree_of (number q m)) (tree_of (number s n))) ∷ []) op.And 2 p boxes.Never 2 (bullet p (number q m) (last_bullet r (number s n)))
-two_joined p q r s m n = record { below = omega arith; tree = refl; first = refl; boxes = refl; nesting = refl }
+two_joined : {linked : Bool} (p q r s : Place) (m n : ℕ)
+    → AreItems linked (tree_of (number q m) ∷ tree_of (number s n) ∷ node (operation op.And) p (two (tree_of (number q m)) (tree_of (number s n))) ∷ []) op.And 2 p boxes.Never 2 (bullet p (number q m) (last_bullet r (number s n)))
+two_joined {linked} p q r s m n = record { below = omega arith; tree = refl; first = refl; boxes = refl; nesting = refl }

@@ -10,7 +10,7 @@ use Rattle.tla_tree.specs.Lexical as tk
 use Rattle.tla_tree.specs.declared.op.Op.{Op}
 use Rattle.tla_tree.specs.Spelling.{Phrase, takes_box, apply, select, brackets, call, tuple, prefix_of, functions, filter, cases, local}
 use Rattle.tla_tree.specs.Reader.{Out, Reader, Readers, ◌>>=◌, gives, ended, next, take, bullet_of, is_mark, a_mark, a_key, a_field, free, under}
-use Rattle.tla_tree.specs.Whole.{whole}
+use Rattle.tla_tree.specs.Whole.{whole_in}
 use Rattle.expr_nodes.specs.declared.cursor.Halt.{Halt}
 use Rattle.expr_nodes.specs.declared.make.Read.{Read}
 use Rattle.expr_nodes.specs.declared.shape.Context.{Context}
@@ -20,8 +20,8 @@ use Rattle.expr_nodes.specs.ReadIn.{IsIn, Told, Fails}
 use Rattle.expr_nodes.specs.Ahead.{ahead}
 
 -- it is in the pool as the phrase that the reader reads, and opens n forms at most; what is left begins no earlier
-pub record HasRead (v : Tokens) (old new : List Tree) (from n : ℕ) (r : Result (Read × ℕ) Halt) (o : Out Phrase) : Type 0 where
-  pub read : Told (λ (x : Read × ℕ) a. IsIn new x.0 a) (λ x. ahead v x.1) r o
+pub record HasRead (linked : Bool) (v : Tokens) (old new : List Tree) (from n : ℕ) (r : Result (Read × ℕ) Halt) (o : Out Phrase) : Type 0 where
+  pub read : Told (λ (x : Read × ℕ) a. IsIn linked new x.0 a) (λ x. ahead v x.1) r o
   pub kept : Keeps old new
   pub within : IfOk r (λ x. x.0.id < length new)
   pub small : IfOk r (λ x. x.0.shape.nesting ≤ n)
@@ -30,7 +30,7 @@ pub record HasRead (v : Tokens) (old new : List Tree) (from n : ℕ) (r : Result
 
 -- so is an expression there
 abbrev pub ReadsThere : Tokens → List Tree → List Tree → Context → Spot → Result (Read × ℕ) Halt → Type 0
-ReadsThere v old new c s r = HasRead v old new s.at s.left r ((whole (Some s.left)).expr s.edge (context_seen c) (ahead v s.at))
+ReadsThere v old new c s r = HasRead s.linked v old new s.at s.left r ((whole_in s.linked (Some s.left)).expr s.edge (context_seen c) (ahead v s.at))
 
 -- it may be called where fewer than n forms may open
 abbrev pub CanRead : Tokens → ℕ → (MutBor (List Tree) → Context → Spot → Type 0) → Type 0
@@ -42,16 +42,16 @@ ReadsBelow v n post = (p q : MutBor (List Tree)) (c : Context) (s : Spot) (r : R
 
 -- ---- after an expression so far
 -- where it has grown to, and from where it is read on
-pub record GrowsTo (v : Tokens) (new : List Tree) (x : Read) (i : ℕ) (on : Phrase → Reader Phrase) (o : Out Phrase) : Type 0 where
+pub record GrowsTo (linked : Bool) (v : Tokens) (new : List Tree) (x : Read) (i : ℕ) (on : Phrase → Reader Phrase) (o : Out Phrase) : Type 0 where
   pub what : Phrase
-  pub told : IsIn new x what
+  pub told : IsIn linked new x what
   pub is : o ≡ on what (ahead v i)
 
 -- one step further, or none
-abbrev pub Steps : Tokens → List Tree → (Phrase → Reader Phrase) → Phrase → List Token → Result (Option (Read × ℕ)) Halt → Out Phrase → Type 0
-Steps v new on a ts (Ok (Some x)) o = GrowsTo v new x.0 x.1 on o
-Steps v new on a ts (Ok None) o = o ≡ Ok (a, ts)
-Steps v new on a ts (Err e) o = Fails e o
+abbrev pub Steps : Bool → Tokens → List Tree → (Phrase → Reader Phrase) → Phrase → List Token → Result (Option (Read × ℕ)) Halt → Out Phrase → Type 0
+Steps linked v new on a ts (Ok (Some x)) o = GrowsTo linked v new x.0 x.1 on o
+Steps linked v new on a ts (Ok None) o = o ≡ Ok (a, ts)
+Steps linked v new on a ts (Err e) o = Fails e o
 
 -- what is known of an expression whatever it was read of
 abbrev pub Stands : Tokens → List Tree → ℕ → ℕ → Read × ℕ → Type 0

@@ -1,7 +1,7 @@
 -- What the reader of a form may ask.
 use Rattle.std.specs.Prelude.{ℕ, ◌≤◌, List, length, Result}
 use Rattle.std.specs.Borrow.{MutBor}
-use Rattle.tla_token.specs.Limits.{deepest_expression}
+use Rattle.tla_tree.specs.Nesting.{deepest_in_module}
 use Rattle.tla_token.specs.declared.token.Tokens.{Tokens}
 use Rattle.tla_tree.specs.Tree.{Tree}
 use Rattle.expr_nodes.specs.declared.cursor.Halt.{Halt}
@@ -15,8 +15,8 @@ use Rattle.expr_rows.specs.HasRead.{CanRead, ReadsBelow}
 pub record MayRead (v : Tokens) (s : Spot) (n : ℕ) (pre : MutBor (List Tree) → Context → Spot → Type 0) (post : MutBor (List Tree) → Context → Spot → Result (Read × ℕ) Halt → MutBor (List Tree) → Type 0) : Type 0 where
   -- it begins at a token or at the end
   pub there : s.at ≤ length v.items.items
-  -- no more forms may open than in any expression
-  pub limited : s.left ≤ deepest_expression
+  -- no more forms may open than in any module
+  pub limited : s.left ≤ deepest_in_module
   -- that reader may be called where fewer than n forms may open
   pub can : CanRead v n pre
   -- and reads an expression then

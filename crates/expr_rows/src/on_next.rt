@@ -35,11 +35,11 @@ pub fn after_key(tokens: &Tokens, s: Spot, key: Key) -> Option<usize>
 /// The number of the token after a `[]`, where it is next and no `CASE` takes it in an expression of this shape.
 pub fn after_box(tokens: &Tokens, s: Spot, shape: Shape) -> Option<usize>
     requires { s.at ≤ length tokens.now.items.items }
-    ensures there { IfSome result (λ i. (a : Phrase) → shape_of a ≡ shape → is_arm_next s.edge a (ahead tokens.now s.at) ≡ true) }
+    ensures there { IfSome result (λ i. (a : Phrase) → shape_of s.linked a ≡ shape → is_arm_next s.edge a (ahead tokens.now s.at) ≡ true) }
     ensures rest { IfSome result (λ i. ahead tokens.now i ≡ reader.tail (ahead tokens.now s.at)) }
     ensures inside { IfSome result (λ i. i ≤ length tokens.now.items.items) }
     ensures further { IfSome result (λ i. s.at < i) }
-    ensures none { IfNone result ((a : Phrase) → shape_of a ≡ shape → is_arm_next s.edge a (ahead tokens.now s.at) ≡ false) }
+    ensures none { IfNone result ((a : Phrase) → shape_of s.linked a ≡ shape → is_arm_next s.edge a (ahead tokens.now s.at) ≡ false) }
 {
     if takes_box(next_at(tokens, s).place.col, shape) {
         return None;

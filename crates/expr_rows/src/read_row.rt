@@ -2,7 +2,7 @@
 
 ghost use Rattle.std.specs.Prelude.{◌≡◌, ◌<◌, ◌≤◌, ◌∷◌, suc, length, IfOk, Some};
 ghost use Rattle.tla_tree.specs.Pool.{AllBelow, Keeps};
-ghost use Rattle.tla_tree.specs.Whole.{whole};
+ghost use Rattle.tla_tree.specs.Whole.{whole_in};
 ghost use Rattle.expr_nodes.specs.Ahead.{ahead};
 ghost use Rattle.expr_nodes.specs.ReadIn.{AreIn, Told};
 ghost use Rattle.expr_rows.specs.MayRead.{MayRead};
@@ -51,7 +51,7 @@ pub fn phrases<F: Fn(&mut Pool, Context, Spot) -> Result<(Read, usize), Halt>>(
     s: Spot,
 ) -> Result<(Many, usize), Halt>
     requires given { MayRead tokens.now s (suc s.left) (F.pre inner.now) (F.post inner.now) }
-    ensures read { Told (λ x xs. AreIn pool.new x.0.ids.items x.0.row xs) (λ x. ahead tokens.now x.1) result ((whole (Some s.left)).phrases s.edge (ahead tokens.now s.at)) }
+    ensures read { Told (λ x xs. AreIn s.linked pool.new x.0.ids.items x.0.row xs) (λ x. ahead tokens.now x.1) result ((whole_in s.linked (Some s.left)).phrases s.edge (ahead tokens.now s.at)) }
     ensures kept { Keeps pool.old pool.new }
     ensures some { IfOk result (λ x. 1 ≤ length x.0.ids.items) }
     ensures below { IfOk result (λ x. AllBelow (length pool.new) x.0.ids.items) }

@@ -134,6 +134,7 @@ pub fn put_views(
                     at: i,
                     edge,
                     left: 0,
+                    linked: true,
                 };
                 told.push(letter(next_at(&found, spot).view))?;
             }

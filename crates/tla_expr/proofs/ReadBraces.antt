@@ -1,5 +1,5 @@
 -- Sets in braces, by what comes behind the `{`.
-use Rattle.std.proofs.Common.{◌≡◌, ℕ, ◌+◌, true, false, List, Some, Ok, refl, sym, ap, ◌∙◌}
+use Rattle.std.proofs.Common.{Bool, ◌≡◌, ℕ, ◌+◌, true, false, List, Some, Ok, refl, sym, ap, ◌∙◌}
 use Rattle.tla_token.specs.declared.place.Place.{Place}
 use Rattle.tla_tree.specs.declared.op.Op.TheVariants as op
 use Rattle.tla_tree.specs.Tree.{Word}
@@ -7,7 +7,7 @@ use Rattle.tla_tree.specs.Lexical.{TokenView, Token}
 use Rattle.tla_tree.specs.Lexical as tk
 use Rattle.tla_tree.specs.Spelling.{no_set}
 use Rattle.tla_tree.specs.Reader.{Readers, Room, then_read, peek, next, tail, is_mark, is_sign, room, primary, braces, brace_name}
-use Rattle.tla_tree.specs.Whole.{whole}
+use Rattle.tla_tree.specs.Whole.{whole_in}
 use Rattle.tla_tree.proofs.Opened.{in_braces}
 use Rattle.tla_tree.proofs.SoundTokens.{mark_is, sign_is}
 use Rattle.tla_expr.specs.ReadForms.{membered, braced}
@@ -28,8 +28,8 @@ module _ (m : Room) (d : Readers) (e : ℕ) (p : Place) (ts : List Token) where
         by (tk.sign op.In) h = (let no : true ≡ false = h in absurd cc)
         by k h = refl
 
-pub brace_more : (b e : ℕ) (p : Place) (ts us : List Token) (d : ℕ) → d + 1 ≡ b → us ≡ tail ts
-    → primary (room whole (Some b)) (whole (Some b)) e p (tk.mark tk.open_brace) ts ≡ then_read (peek e (braces (room whole (Some d)) (whole (Some d)) e p) us) (λ a. (whole (Some b)).postfix e a)
-brace_more b e p ts us d l t =
-    open_at d 0 b l (in_braces (whole (Some b)) e p) ts
-    ∙ ap (λ (us : List Token). then_read (peek e (braces (room whole (Some d)) (whole (Some d)) e p) us) (λ a. (whole (Some b)).postfix e a)) (sym t)
+pub brace_more : (linked : Bool) (b e : ℕ) (p : Place) (ts us : List Token) (d : ℕ) → d + 1 ≡ b → us ≡ tail ts
+    → primary (room linked (whole_in linked) (Some b)) (whole_in linked (Some b)) e p (tk.mark tk.open_brace) ts ≡ then_read (peek e (braces (room linked (whole_in linked) (Some d)) (whole_in linked (Some d)) e p) us) (λ a. (whole_in linked (Some b)).postfix e a)
+brace_more linked b e p ts us d l t =
+    open_at d 0 b l (in_braces (whole_in linked (Some b)) e p) ts
+    ∙ ap (λ (us : List Token). then_read (peek e (braces (room linked (whole_in linked) (Some d)) (whole_in linked (Some d)) e p) us) (λ a. (whole_in linked (Some b)).postfix e a)) (sym t)

@@ -1,7 +1,7 @@
 -- With enough steps the readers read the same, and what they read has a token at least.
-use Rattle.std.proofs.Common.{◌≡◌, ℕ, zero, suc, ◌+◌, ◌*◌, ◌<◌, ◌≤◌, List, [], ◌∷◌, length, Some, Ok, Err, refl, sym, ap, ◌∙◌, subst, length-append, arith}
+use Rattle.std.proofs.Common.{Bool, ◌≡◌, ℕ, zero, suc, ◌+◌, ◌*◌, ◌<◌, ◌≤◌, List, [], ◌∷◌, length, Some, Result, Ok, Err, false, refl, sym, ap, ◌∙◌, subst, length-append, arith, true}
 use Rattle.std.proofs.lemmas.List.{length-drop}
-use Rattle.std.specs.Prelude.{Vec, drop}
+use Rattle.std.specs.Prelude.{Vec, drop, IfOk}
 use Rattle.std.specs.declared.alloc.Global.{Global}
 use Rattle.tla_token.specs.declared.token.Tokens.{Tokens}
 use Rattle.tla_token.specs.declared.token.Token as code_token
@@ -9,7 +9,7 @@ use Rattle.tla_tree.specs.Tree.{Tree}
 use Rattle.tla_tree.specs.Lexical.{Token}
 use Rattle.tla_tree.specs.Spelling.{Phrase, number, string, constant, name, primed, call, brackets, no_set, set_of, filter, image, no_tuple, tuple, fields, records, function, functions, except, apply, select, list, quantified, if_then_else, cases, local, infix_of, prefix_of, Phrases, last, more, last_bullet, bullet, spell, spell_all}
 use Rattle.tla_tree.specs.Reader.{Limit, Out, Context, free, readers, readers_in}
-use Rattle.tla_tree.specs.Whole.{whole}
+use Rattle.tla_tree.specs.Whole.{whole_in}
 use Rattle.tla_tree.proofs.Whole.{fair_whole}
 use Rattle.tla_tree.proofs.SoundLists.{sound}
 use Rattle.tla_tree.proofs.SpellAppend.{spell_then, all_more}
@@ -19,23 +19,23 @@ use Rattle.tla_tree.proofs.LimitedAll.{limited}
 use Rattle.expr_nodes.specs.declared.cursor.Halt.{Halt}
 use Rattle.expr_nodes.specs.declared.make.Read.{Read}
 use Rattle.expr_nodes.specs.declared.make.Row.{Row}
-use Rattle.expr_nodes.specs.ReadIn.{seen, IsIn, AreIn, Reads, Fails}
+use Rattle.expr_nodes.specs.ReadIn.{seen, IsIn, AreIn, Reads, Fails, Told}
 use Rattle.expr_nodes.specs.Ahead.{ahead}
 use Rattle.tla_expr.specs.ReadTrees.{ReadsTree, ReadsTrees}
 
 -- ---- steps
 -- four for each token are enough
-pub expr_enough : (n : ℕ) (b : Limit) (e : ℕ) (c : Context) (ts : List Token) → 4 * length ts ≤ n → (readers n b).expr e c ts ≡ (whole b).expr e c ts
+pub expr_enough : (linked : Bool) (n : ℕ) (b : Limit) (e : ℕ) (c : Context) (ts : List Token) → 4 * length ts ≤ n → (readers_in linked n b).expr e c ts ≡ (whole_in linked b).expr e c ts
 unfolding readers_in
-expr_enough zero b e c [] h = refl
-expr_enough zero b e c (t ∷ ts) h = absurd (omega (arith, h))
-expr_enough (suc n) b e c ts h = ((fair_whole n b).expr e c).same ts (omega (arith, h))
+expr_enough linked zero b e c [] h = refl
+expr_enough linked zero b e c (t ∷ ts) h = absurd (omega (arith, h))
+expr_enough linked (suc n) b e c ts h = ((fair_whole linked n b).expr e c).same ts (omega (arith, h))
 
-pub phrases_enough : (n : ℕ) (b : Limit) (e : ℕ) (ts : List Token) → 4 * length ts ≤ n → (readers n b).phrases e ts ≡ (whole b).phrases e ts
+pub phrases_enough : (linked : Bool) (n : ℕ) (b : Limit) (e : ℕ) (ts : List Token) → 4 * length ts ≤ n → (readers_in linked n b).phrases e ts ≡ (whole_in linked b).phrases e ts
 unfolding readers_in
-phrases_enough zero b e [] h = refl
-phrases_enough zero b e (t ∷ ts) h = absurd (omega (arith, h))
-phrases_enough (suc n) b e ts h = ((fair_whole n b).phrases e).same ts (omega (arith, h))
+phrases_enough linked zero b e [] h = refl
+phrases_enough linked zero b e (t ∷ ts) h = absurd (omega (arith, h))
+phrases_enough linked (suc n) b e ts h = ((fair_whole linked n b).phrases e).same ts (omega (arith, h))
 
 -- ---- tokens
 -- a phrase has one at least
@@ -74,15 +74,15 @@ some_tokens (last a) r = some_token a r
 some_tokens (more a p xs) r = some_token a _
 
 -- what is read is spelled by the tokens up to those that are left
-expr_spelled : (b e : ℕ) (ts us : List Token) (a : Phrase) → (whole (Some b)).expr e free ts ≡ Ok (a, us) → spell a us ≡ ts
-expr_spelled b e ts us a i =
+expr_spelled : (linked : Bool) (b e : ℕ) (ts us : List Token) (a : Phrase) → (whole_in linked (Some b)).expr e free ts ≡ Ok (a, us) → spell a us ≡ ts
+expr_spelled linked b e ts us a i =
     let n = suc (suc (4 * length ts)) in
-    ((sound n).expr e free ts a us (told_ok ((limited b n 0 b (omega arith)).expr e free refl (λ u. u) held ts) i).0).2
+    ((sound n).expr e free ts a us (told_ok ((limited linked b n 0 b (omega arith)).expr e free refl (λ u. u) held ts) i).0).2
 
-all_spelled : (b e : ℕ) (ts us : List Token) (xs : Phrases) → (whole (Some b)).phrases e ts ≡ Ok (xs, us) → spell_all xs us ≡ ts
-all_spelled b e ts us xs i =
+all_spelled : (linked : Bool) (b e : ℕ) (ts us : List Token) (xs : Phrases) → (whole_in linked (Some b)).phrases e ts ≡ Ok (xs, us) → spell_all xs us ≡ ts
+all_spelled linked b e ts us xs i =
     let n = suc (suc (4 * length ts)) in
-    ((sound n).phrases e ts xs us (told_ok ((limited b n 0 b (omega arith)).phrases e (λ u. u) held ts) i).0).1
+    ((sound n).phrases e ts xs us (told_ok ((limited linked b n 0 b (omega arith)).phrases e (λ u. u) held ts) i).0).1
 
 module _ (v : Tokens) (i : ℕ) where
   seen_length : (bytes : List ℕ) (ts : List code_token.Token) → length (seen bytes ts) ≡ length ts
@@ -94,24 +94,28 @@ module _ (v : Tokens) (i : ℕ) where
 
   -- ---- what the code gives
   module _ (new : List Tree) (b : ℕ) where
-    pub reads_tree : (x : Read) (j : ℕ) → Reads (IsIn new x) (ahead v j) ((whole (Some b)).expr 0 free (ahead v i)) → ReadsTree v new i b (Ok (x.id, j))
-    reads_tree x j r n k = record { what = r.what; is = expr_enough n (Some b) 0 free (ahead v i) k ∙ r.is; told = record { below = r.told.below; tree = r.told.tree } }
+    pub reads_tree : (x : Read) (j : ℕ) → Reads (IsIn true new x) (ahead v j) ((whole_in true (Some b)).expr 0 free (ahead v i)) → ReadsTree v new i b (Ok (x.id, j))
+    reads_tree x j r n k = record { what = r.what; is = expr_enough true n (Some b) 0 free (ahead v i) k ∙ r.is; told = record { below = r.told.below; tree = r.told.tree } }
 
-    pub fails_tree : (e : Halt) → Fails e ((whole (Some b)).expr 0 free (ahead v i)) → ReadsTree v new i b (Err e)
-    fails_tree e f n k = subst (λ (o : Out Phrase). Fails e o) (sym (expr_enough n (Some b) 0 free (ahead v i) k)) f
+    pub fails_tree : (e : Halt) → Fails e ((whole_in true (Some b)).expr 0 free (ahead v i)) → ReadsTree v new i b (Err e)
+    fails_tree e f n k = subst (λ (o : Out Phrase). Fails e o) (sym (expr_enough true n (Some b) 0 free (ahead v i) k)) f
 
-    pub reads_further : (x : Read) (j : ℕ) → i ≤ length v.items.items → j ≤ length v.items.items → Reads (IsIn new x) (ahead v j) ((whole (Some b)).expr 0 free (ahead v i)) → i < j
-    reads_further x j h k r =
-        let s = ap length (sym (spell_then r.what (ahead v j)) ∙ expr_spelled b 0 (ahead v i) (ahead v j) r.what r.is) in
+    pub reads_further : (linked : Bool) (e : ℕ) (x : Read) (j : ℕ) → i ≤ length v.items.items → j ≤ length v.items.items → Reads (IsIn linked new x) (ahead v j) ((whole_in linked (Some b)).expr e free (ahead v i)) → i < j
+    reads_further linked e x j h k r =
+        let s = ap length (sym (spell_then r.what (ahead v j)) ∙ expr_spelled linked b e (ahead v i) (ahead v j) r.what r.is) in
         omega (arith, s, length-append (spell r.what []) (ahead v j), some_token r.what [], ahead_length i h, ahead_length j k)
 
-    pub reads_trees : (is : Vec ℕ Global) (row : Row) (j : ℕ) → Reads (AreIn new is.items row) (ahead v j) ((whole (Some b)).phrases 0 (ahead v i)) → ReadsTrees v new i b (Ok (is, j))
-    reads_trees is row j r n k = record { what = r.what; is = phrases_enough n (Some b) 0 (ahead v i) k ∙ r.is; told = record { below = r.told.below; trees = r.told.trees } }
+    pub reads_trees : (is : Vec ℕ Global) (row : Row) (j : ℕ) → Reads (AreIn true new is.items row) (ahead v j) ((whole_in true (Some b)).phrases 0 (ahead v i)) → ReadsTrees v new i b (Ok (is, j))
+    reads_trees is row j r n k = record { what = r.what; is = phrases_enough true n (Some b) 0 (ahead v i) k ∙ r.is; told = record { below = r.told.below; trees = r.told.trees } }
 
-    pub fails_trees : (e : Halt) → Fails e ((whole (Some b)).phrases 0 (ahead v i)) → ReadsTrees v new i b (Err e)
-    fails_trees e f n k = subst (λ (o : Out Phrases). Fails e o) (sym (phrases_enough n (Some b) 0 (ahead v i) k)) f
+    pub fails_trees : (e : Halt) → Fails e ((whole_in true (Some b)).phrases 0 (ahead v i)) → ReadsTrees v new i b (Err e)
+    fails_trees e f n k = subst (λ (o : Out Phrases). Fails e o) (sym (phrases_enough true n (Some b) 0 (ahead v i) k)) f
 
-    pub all_further : (is : List ℕ) (row : Row) (j : ℕ) → i ≤ length v.items.items → j ≤ length v.items.items → Reads (AreIn new is row) (ahead v j) ((whole (Some b)).phrases 0 (ahead v i)) → i < j
+    pub all_further : (is : List ℕ) (row : Row) (j : ℕ) → i ≤ length v.items.items → j ≤ length v.items.items → Reads (AreIn true new is row) (ahead v j) ((whole_in true (Some b)).phrases 0 (ahead v i)) → i < j
     all_further is row j h k r =
-        let s = ap length (sym (all_more r.what [] (ahead v j)) ∙ all_spelled b 0 (ahead v i) (ahead v j) r.what r.is) in
+        let s = ap length (sym (all_more r.what [] (ahead v j)) ∙ all_spelled true b 0 (ahead v i) (ahead v j) r.what r.is) in
         omega (arith, s, length-append (spell_all r.what []) (ahead v j), some_tokens r.what [], ahead_length i h, ahead_length j k)
+
+    pub bounded_further : (e : ℕ) (r : Result (Read × ℕ) Halt) → i ≤ length v.items.items → IfOk r (λ x. x.1 ≤ length v.items.items) → Told (λ (x : Read × ℕ) a. IsIn false new x.0 a) (λ x. ahead v x.1) r ((whole_in false (Some b)).expr e free (ahead v i)) → IfOk r (λ x. i < x.1)
+    bounded_further e (Ok (x, j)) h k t = reads_further false e x j h k t
+    bounded_further e (Err w) h k t = tt

@@ -1,5 +1,5 @@
 -- An expression from a token on, by how many tokens it has, and where it is refused.
-use Rattle.std.proofs.Common.{◌≡◌, ℕ, suc, ◌+◌, ◌-◌, ◌≤◌, List, [], ◌∷◌, length, map, drop, get_or, Result, Ok, Err, Some, refl, sym, ap, ◌∙◌, subst, length-append, arith}
+use Rattle.std.proofs.Common.{◌≡◌, ℕ, suc, ◌+◌, ◌-◌, ◌≤◌, List, [], ◌∷◌, length, map, drop, get_or, Result, Ok, Err, Some, refl, sym, ap, ◌∙◌, subst, length-append, arith, true}
 use Rattle.std.proofs.lemmas.List.{length-drop, drop-map, get_or-drop}
 use Rattle.tla_token.specs.declared.place.Place.{Place}
 use Rattle.tla_token.specs.declared.rule.Rule.{Rule}
@@ -53,7 +53,7 @@ module _ (v : Tokens) (i : ℕ) (inside : i ≤ length v.items.items) where
       ∙ ap (λ (m : ℕ). get_or (places v.items.items) m v.end) m
 
   -- ---- what is read
-  pub reads_there : (new : List Tree) (x : Read) (j : ℕ) → j ≤ length v.items.items → Reads (IsIn new x) (ahead v j) ((whole (Some deepest_expression)).expr 0 free (ahead v i)) → ReadsExpression (ahead v i) (j - i) (tree_at new x.id)
+  pub reads_there : (new : List Tree) (x : Read) (j : ℕ) → j ≤ length v.items.items → Reads (IsIn true new x) (ahead v j) ((whole (Some deepest_expression)).expr 0 free (ahead v i)) → ReadsExpression (ahead v i) (j - i) (tree_at new x.id)
   reads_there new x j k r =
       let o : read_limited (ahead v i) ≡ Ok (r.what, ahead v j) = limited_is (ahead v i) ∙ r.is in
       let s = (read_is_spelled 0 (ahead v i) (ahead v j) r.what (read_within (ahead v i) (ahead v j) r.what o).0).1 in

@@ -6,7 +6,7 @@ ghost use Rattle.tla_tree.specs.Pool.{Keeps};
 ghost use Rattle.tla_tree.specs.Lexical as tk;
 ghost use Rattle.tla_tree.specs.Spelling.{Phrase};
 ghost use Rattle.tla_tree.specs.Reader as reader;
-ghost use Rattle.tla_tree.specs.Whole.{whole};
+ghost use Rattle.tla_tree.specs.Whole.{whole_in};
 ghost use Rattle.expr_nodes.specs.Ahead.{ahead};
 ghost use Rattle.expr_nodes.specs.ReadIn.{IsIn, Told};
 ghost use Rattle.expr_rows.specs.HasRead.{HasRead, Stands};
@@ -42,7 +42,7 @@ fn rest<F: Fn(&mut Pool, Context, Spot) -> Result<(Read, usize), Halt>>(
     requires given { MayRead tokens.now s (suc s.left) (F.pre inner.now) (F.post inner.now) }
     requires a_in { a.id < length pool.old }
     requires a_small { a.shape.nesting ≤ s.left }
-    ensures read { (i : Phrase) → IsIn pool.old a i → Told (λ x j. IsIn pool.new x.0 j) (λ x. ahead tokens.now x.1) result (reader.peek s.edge (reader.brace_rest (whole (Some s.left)) s.edge place i) (ahead tokens.now s.at)) }
+    ensures read { (i : Phrase) → IsIn s.linked pool.old a i → Told (λ x j. IsIn s.linked pool.new x.0 j) (λ x. ahead tokens.now x.1) result (reader.peek s.edge (reader.brace_rest (whole_in s.linked (Some s.left)) s.edge place i) (ahead tokens.now s.at)) }
     ensures kept { Keeps pool.old pool.new }
     ensures stands { IfOk result (λ x. Stands tokens.now pool.new s.at (suc s.left) x) }
 {
@@ -63,7 +63,7 @@ fn named<F: Fn(&mut Pool, Context, Spot) -> Result<(Read, usize), Halt>>(
     word: Word,
 ) -> Result<(Read, usize), Halt>
     requires given { MayRead tokens.now s (suc s.left) (F.pre inner.now) (F.post inner.now) }
-    ensures { HasRead tokens.now pool.old pool.new s.at (suc s.left) result (braced (reader.room whole (Some s.left)) (whole (Some s.left)) s.edge place word.place (span_bytes tokens.now.bytes.items word.span) (ahead tokens.now s.at)) }
+    ensures { HasRead s.linked tokens.now pool.old pool.new s.at (suc s.left) result (braced (reader.room s.linked (whole_in s.linked) (Some s.left)) (whole_in s.linked (Some s.left)) s.edge place word.place (span_bytes tokens.now.bytes.items word.span) (ahead tokens.now s.at)) }
 {
     let (a, at) = from_name(alloc, tokens, inner, pool, s, word)?;
     let s = Spot { at, ..s };
@@ -82,7 +82,7 @@ fn from_word<F: Fn(&mut Pool, Context, Spot) -> Result<(Read, usize), Halt>>(
     word: Word,
 ) -> Result<(Read, usize), Halt>
     requires given { MayRead tokens.now s (suc s.left) (F.pre inner.now) (F.post inner.now) }
-    ensures { HasRead tokens.now pool.old pool.new s.at (suc s.left) result (reader.peek s.edge (reader.brace_name (reader.room whole (Some s.left)) (whole (Some s.left)) s.edge place word.place (span_bytes tokens.now.bytes.items word.span)) (ahead tokens.now s.at)) }
+    ensures { HasRead s.linked tokens.now pool.old pool.new s.at (suc s.left) result (reader.peek s.edge (reader.brace_name (reader.room s.linked (whole_in s.linked) (Some s.left)) (whole_in s.linked (Some s.left)) s.edge place word.place (span_bytes tokens.now.bytes.items word.span)) (ahead tokens.now s.at)) }
 {
     let t = next_at(tokens, s);
     if is_sign(Op::In, t.view) {
@@ -111,7 +111,7 @@ fn from_other<F: Fn(&mut Pool, Context, Spot) -> Result<(Read, usize), Halt>>(
     place: Place,
 ) -> Result<(Read, usize), Halt>
     requires given { MayRead tokens.now s (suc s.left) (F.pre inner.now) (F.post inner.now) }
-    ensures { HasRead tokens.now pool.old pool.new s.at (suc s.left) result (braced_other (whole (Some s.left)) s.edge place (ahead tokens.now s.at)) }
+    ensures { HasRead s.linked tokens.now pool.old pool.new s.at (suc s.left) result (braced_other (whole_in s.linked (Some s.left)) s.edge place (ahead tokens.now s.at)) }
 {
     let (a, at) = inner(pool, Context::Free, s)?;
     rest(alloc, tokens, inner, pool, Spot { at, ..s }, place, a)
@@ -131,7 +131,7 @@ pub fn braces_from<F: Fn(&mut Pool, Context, Spot) -> Result<(Read, usize), Halt
     place: Place,
 ) -> Result<(Read, usize), Halt>
     requires given { MayRead tokens.now s (suc s.left) (F.pre inner.now) (F.post inner.now) }
-    ensures { HasRead tokens.now pool.old pool.new s.at (suc s.left) result (reader.peek s.edge (reader.braces (reader.room whole (Some s.left)) (whole (Some s.left)) s.edge place) (ahead tokens.now s.at)) }
+    ensures { HasRead s.linked tokens.now pool.old pool.new s.at (suc s.left) result (reader.peek s.edge (reader.braces (reader.room s.linked (whole_in s.linked) (Some s.left)) (whole_in s.linked (Some s.left)) s.edge place) (ahead tokens.now s.at)) }
 {
     if let Some(at) = after_mark(tokens, s, Mark::CloseBrace) {
         let whole = empty_set(alloc, pool, place)?;
@@ -166,11 +166,15 @@ pub fn braces<F: Fn(&mut Pool, Context, Spot) -> Result<(Read, usize), Halt>>(
     place: Place,
 ) -> Result<(Read, usize), Halt>
     requires given { MayRead tokens.now s s.left (F.pre inner.now) (F.post inner.now) }
-    ensures { HasRead tokens.now pool.old pool.new s.at s.left result (reader.primary (reader.room whole (Some s.left)) (whole (Some s.left)) s.edge place (tk.mark tk.open_brace) (ahead tokens.now s.at)) }
+    ensures { HasRead s.linked tokens.now pool.old pool.new s.at s.left result (reader.primary (reader.room s.linked (whole_in s.linked) (Some s.left)) (whole_in s.linked (Some s.left)) s.edge place (tk.mark tk.open_brace) (ahead tokens.now s.at)) }
 {
     let d = deeper(tokens, s, 0)?;
     let from = after(tokens, s);
-    let d = Spot { at: from, ..d };
+    let d = Spot {
+        at: from,
+        left: d.left,
+        ..s
+    };
     let (a, at) = braces_from(alloc, tokens, inner, pool, d, place)?;
     postfix(alloc, tokens, inner, pool, Spot { at, ..s }, a)
 }

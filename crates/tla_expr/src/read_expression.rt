@@ -45,6 +45,7 @@ pub fn read_expr(
         at,
         edge: 0,
         left: DEEPEST,
+        linked: true,
     };
     match read_at(alloc, tokens, pool, Context::Free, s) {
         Ok((e, end)) => Ok((e.id, end - at)),

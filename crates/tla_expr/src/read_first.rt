@@ -6,7 +6,7 @@ ghost use Rattle.tla_token.specs.Lexemes.{number_of};
 ghost use Rattle.tla_token.specs.TokensSeen.{span_bytes};
 ghost use Rattle.tla_tree.specs.Lexical as tk;
 ghost use Rattle.tla_tree.specs.Reader as reader;
-ghost use Rattle.tla_tree.specs.Whole.{whole};
+ghost use Rattle.tla_tree.specs.Whole.{whole_in};
 ghost use Rattle.expr_nodes.specs.ShapeOf.{context_seen};
 ghost use Rattle.expr_nodes.specs.ViewSeen.{mark_seen, key_seen};
 ghost use Rattle.expr_nodes.specs.Ahead.{ahead};
@@ -50,7 +50,7 @@ pub fn word<F: Fn(&mut Pool, Context, Spot) -> Result<(Read, usize), Halt>>(
     span: Span,
 ) -> Result<(Read, usize), Halt>
     requires given { MayRead tokens.now s s.left (F.pre inner.now) (F.post inner.now) }
-    ensures { HasRead tokens.now pool.old pool.new s.at s.left result (reader.primary (reader.room whole (Some s.left)) (whole (Some s.left)) s.edge place (tk.word (span_bytes tokens.now.bytes.items span)) (ahead tokens.now s.at)) }
+    ensures { HasRead s.linked tokens.now pool.old pool.new s.at s.left result (reader.primary (reader.room s.linked (whole_in s.linked) (Some s.left)) (whole_in s.linked (Some s.left)) s.edge place (tk.word (span_bytes tokens.now.bytes.items span)) (ahead tokens.now s.at)) }
 {
     let at = after(tokens, s);
     from_name(
@@ -78,7 +78,7 @@ pub fn marked<F: Fn(&mut Pool, Context, Spot) -> Result<(Read, usize), Halt>>(
     mark: Mark,
 ) -> Result<(Read, usize), Halt>
     requires given { MayRead tokens.now s s.left (F.pre inner.now) (F.post inner.now) }
-    ensures { HasRead tokens.now pool.old pool.new s.at s.left result (reader.primary (reader.room whole (Some s.left)) (whole (Some s.left)) s.edge place (tk.mark (mark_seen mark)) (ahead tokens.now s.at)) }
+    ensures { HasRead s.linked tokens.now pool.old pool.new s.at s.left result (reader.primary (reader.room s.linked (whole_in s.linked) (Some s.left)) (whole_in s.linked (Some s.left)) s.edge place (tk.mark (mark_seen mark)) (ahead tokens.now s.at)) }
 {
     match mark {
         Mark::OpenBracket => bracket(alloc, tokens, inner, pool, s, place),
@@ -104,7 +104,7 @@ pub fn bullets<F: Fn(&mut Pool, Context, Spot) -> Result<(Read, usize), Halt>>(
     op: Op,
 ) -> Result<(Read, usize), Halt>
     requires given { MayRead tokens.now s s.left (F.pre inner.now) (F.post inner.now) }
-    ensures { HasRead tokens.now pool.old pool.new s.at s.left result (reader.primary (reader.room whole (Some s.left)) (whole (Some s.left)) s.edge place (tk.sign op) (ahead tokens.now s.at)) }
+    ensures { HasRead s.linked tokens.now pool.old pool.new s.at s.left result (reader.primary (reader.room s.linked (whole_in s.linked) (Some s.left)) (whole_in s.linked (Some s.left)) s.edge place (tk.sign op) (ahead tokens.now s.at)) }
 {
     if is_bullet(op) {
         list(alloc, tokens, inner, pool, s, place, op)
@@ -125,7 +125,7 @@ fn big_number<F: Fn(&mut Pool, Context, Spot) -> Result<(Read, usize), Halt>>(
 ) -> Result<(Read, usize), Halt>
     requires given { MayRead tokens.now s s.left (F.pre inner.now) (F.post inner.now) }
     requires small { number_of (span_bytes tokens.now.bytes.items span) < past_numbers }
-    ensures { HasRead tokens.now pool.old pool.new s.at s.left result (reader.primary (reader.room whole (Some s.left)) (whole (Some s.left)) s.edge place (tk.number (number_of (span_bytes tokens.now.bytes.items span))) (ahead tokens.now s.at)) }
+    ensures { HasRead s.linked tokens.now pool.old pool.new s.at s.left result (reader.primary (reader.room s.linked (whole_in s.linked) (Some s.left)) (whole_in s.linked (Some s.left)) s.edge place (tk.number (number_of (span_bytes tokens.now.bytes.items span))) (ahead tokens.now s.at)) }
 {
     match number_value(tokens.word(span)) {
         Some(n) => number(alloc, tokens, inner, pool, s, place, n),
@@ -147,7 +147,7 @@ pub fn primary<F: Fn(&mut Pool, Context, Spot) -> Result<(Read, usize), Halt>>(
 ) -> Result<(Read, usize), Halt>
     requires given { MayRead tokens.now s s.left (F.pre inner.now) (F.post inner.now) }
     requires numbers { NumbersFit tokens.now }
-    ensures { HasRead tokens.now pool.old pool.new s.at s.left result (reader.peek s.edge (reader.primary (reader.room whole (Some s.left)) (whole (Some s.left)) s.edge) (ahead tokens.now s.at)) }
+    ensures { HasRead s.linked tokens.now pool.old pool.new s.at s.left result (reader.peek s.edge (reader.primary (reader.room s.linked (whole_in s.linked) (Some s.left)) (whole_in s.linked (Some s.left)) s.edge) (ahead tokens.now s.at)) }
 {
     let t = next_at(tokens, s);
     match t.view {
@@ -177,7 +177,7 @@ pub fn keyed<F: Fn(&mut Pool, Context, Spot) -> Result<(Read, usize), Halt>>(
     key: Key,
 ) -> Result<(Read, usize), Halt>
     requires given { MayRead tokens.now s s.left (F.pre inner.now) (F.post inner.now) }
-    ensures { HasRead tokens.now pool.old pool.new s.at s.left result (reader.keyed (reader.room whole (Some s.left)) s.edge place (key_seen key) (ahead tokens.now s.at)) }
+    ensures { HasRead s.linked tokens.now pool.old pool.new s.at s.left result (reader.keyed (reader.room s.linked (whole_in s.linked) (Some s.left)) s.edge place (key_seen key) (ahead tokens.now s.at)) }
 {
     match key {
         Key::If => if_then_else(alloc, tokens, inner, pool, s, place),
@@ -204,7 +204,7 @@ pub fn operand<F: Fn(&mut Pool, Context, Spot) -> Result<(Read, usize), Halt>>(
 ) -> Result<(Read, usize), Halt>
     requires given { MayRead tokens.now s s.left (F.pre inner.now) (F.post inner.now) }
     requires numbers { NumbersFit tokens.now }
-    ensures { HasRead tokens.now pool.old pool.new s.at s.left result (reader.peek s.edge (reader.operand (reader.room whole (Some s.left)) (whole (Some s.left)) s.edge (context_seen context)) (ahead tokens.now s.at)) }
+    ensures { HasRead s.linked tokens.now pool.old pool.new s.at s.left result (reader.peek s.edge (reader.operand (reader.room s.linked (whole_in s.linked) (Some s.left)) (whole_in s.linked (Some s.left)) s.edge (context_seen context)) (ahead tokens.now s.at)) }
 {
     let t = next_at(tokens, s);
     match t.view {

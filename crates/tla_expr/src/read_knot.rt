@@ -1,7 +1,7 @@
 //! Reading expressions from tokens, each part by the same reader where fewer forms may open.
 
 ghost use Rattle.std.specs.Prelude.{◌<◌, ◌≤◌, length};
-ghost use Rattle.tla_token.specs.Limits.{deepest_expression};
+ghost use Rattle.tla_tree.specs.Nesting.{deepest_in_module};
 ghost use Rattle.expr_rows.specs.HasRead.{ReadsThere};
 ghost use Rattle.tla_expr.specs.Numbers.{NumbersFit};
 
@@ -28,12 +28,12 @@ pub fn read_at(
 ) -> Result<(Read, usize), Halt>
     requires there { s.at ≤ length tokens.now.items.items }
     requires numbers { NumbersFit tokens.now }
-    requires limited { s.left ≤ deepest_expression }
+    requires limited { s.left ≤ deepest_in_module }
     ensures { ReadsThere tokens.now pool.old pool.new context s result }
 {
     let left = s.left;
     let inner = |pool: &mut Pool, c: Context, t: Spot| -> Result<(Read, usize), Halt>
-        requires { (t.left < left) × (left ≤ deepest_expression) × (t.at ≤ length tokens.now.items.items) × NumbersFit tokens.now }
+        requires { (t.left < left) × (left ≤ deepest_in_module) × (t.at ≤ length tokens.now.items.items) × NumbersFit tokens.now }
         ensures { ReadsThere tokens.entry.now pool.old pool.new c t result }
     {
         let _ = &left;

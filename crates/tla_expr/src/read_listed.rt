@@ -4,7 +4,7 @@ ghost use Rattle.std.specs.Prelude.{◌≡◌, suc, true, Some};
 ghost use Rattle.tla_tree.specs.Lexical as tk;
 ghost use Rattle.tla_tree.specs.Rank.{is_bullet as is_bullet_of};
 ghost use Rattle.tla_tree.specs.Reader as reader;
-ghost use Rattle.tla_tree.specs.Whole.{whole};
+ghost use Rattle.tla_tree.specs.Whole.{whole_in};
 ghost use Rattle.expr_nodes.specs.Ahead.{ahead};
 ghost use Rattle.expr_rows.specs.HasRead.{HasRead, cased, defined};
 ghost use Rattle.expr_rows.specs.MayRead.{MayRead};
@@ -38,7 +38,7 @@ pub fn case_in<F: Fn(&mut Pool, Context, Spot) -> Result<(Read, usize), Halt>>(
     place: Place,
 ) -> Result<(Read, usize), Halt>
     requires given { MayRead tokens.now s (suc s.left) (F.pre inner.now) (F.post inner.now) }
-    ensures { HasRead tokens.now pool.old pool.new s.at (suc s.left) result (cased (whole (Some s.left)) s.edge place (ahead tokens.now s.at)) }
+    ensures { HasRead s.linked tokens.now pool.old pool.new s.at (suc s.left) result (cased (whole_in s.linked (Some s.left)) s.edge place (ahead tokens.now s.at)) }
 {
     let (many, at) = arms(alloc, tokens, inner, pool, s)?;
     let whole = cases(pool, place, many.other, many.ids, many.nesting)?;
@@ -59,11 +59,22 @@ pub fn case<F: Fn(&mut Pool, Context, Spot) -> Result<(Read, usize), Halt>>(
     place: Place,
 ) -> Result<(Read, usize), Halt>
     requires given { MayRead tokens.now s s.left (F.pre inner.now) (F.post inner.now) }
-    ensures { HasRead tokens.now pool.old pool.new s.at s.left result (reader.keyed (reader.room whole (Some s.left)) s.edge place tk.case_key (ahead tokens.now s.at)) }
+    ensures { HasRead s.linked tokens.now pool.old pool.new s.at s.left result (reader.keyed (reader.room s.linked (whole_in s.linked) (Some s.left)) s.edge place tk.case_key (ahead tokens.now s.at)) }
 {
     let d = deeper(tokens, s, 0)?;
     let from = after(tokens, s);
-    case_in(alloc, tokens, inner, pool, Spot { at: from, ..d }, place)
+    case_in(
+        alloc,
+        tokens,
+        inner,
+        pool,
+        Spot {
+            at: from,
+            left: d.left,
+            ..s
+        },
+        place,
+    )
 }
 
 /// `x == e y == f IN a` behind a `LET` at a place.
@@ -80,7 +91,7 @@ pub fn let_in<F: Fn(&mut Pool, Context, Spot) -> Result<(Read, usize), Halt>>(
     place: Place,
 ) -> Result<(Read, usize), Halt>
     requires given { MayRead tokens.now s (suc s.left) (F.pre inner.now) (F.post inner.now) }
-    ensures { HasRead tokens.now pool.old pool.new s.at (suc s.left) result (defined (whole (Some s.left)) s.edge place (ahead tokens.now s.at)) }
+    ensures { HasRead s.linked tokens.now pool.old pool.new s.at (suc s.left) result (defined (whole_in s.linked (Some s.left)) s.edge place (ahead tokens.now s.at)) }
 {
     let (many, at) = locals(alloc, tokens, inner, pool, s)?;
     let (_, at) = past_key(tokens, Spot { at, ..s }, Key::In)?;
@@ -103,11 +114,22 @@ pub fn let_from<F: Fn(&mut Pool, Context, Spot) -> Result<(Read, usize), Halt>>(
     place: Place,
 ) -> Result<(Read, usize), Halt>
     requires given { MayRead tokens.now s s.left (F.pre inner.now) (F.post inner.now) }
-    ensures { HasRead tokens.now pool.old pool.new s.at s.left result (reader.keyed (reader.room whole (Some s.left)) s.edge place tk.let_key (ahead tokens.now s.at)) }
+    ensures { HasRead s.linked tokens.now pool.old pool.new s.at s.left result (reader.keyed (reader.room s.linked (whole_in s.linked) (Some s.left)) s.edge place tk.let_key (ahead tokens.now s.at)) }
 {
     let d = deeper(tokens, s, 0)?;
     let from = after(tokens, s);
-    let_in(alloc, tokens, inner, pool, Spot { at: from, ..d }, place)
+    let_in(
+        alloc,
+        tokens,
+        inner,
+        pool,
+        Spot {
+            at: from,
+            left: d.left,
+            ..s
+        },
+        place,
+    )
 }
 
 /// A list by columns with what comes after it, the next token being its first bullet, at a place.
@@ -126,7 +148,7 @@ pub fn list<F: Fn(&mut Pool, Context, Spot) -> Result<(Read, usize), Halt>>(
 ) -> Result<(Read, usize), Halt>
     requires given { MayRead tokens.now s s.left (F.pre inner.now) (F.post inner.now) }
     requires bullet { is_bullet_of op ≡ true }
-    ensures { HasRead tokens.now pool.old pool.new s.at s.left result (reader.primary (reader.room whole (Some s.left)) (whole (Some s.left)) s.edge place (tk.sign op) (ahead tokens.now s.at)) }
+    ensures { HasRead s.linked tokens.now pool.old pool.new s.at s.left result (reader.primary (reader.room s.linked (whole_in s.linked) (Some s.left)) (whole_in s.linked (Some s.left)) s.edge place (tk.sign op) (ahead tokens.now s.at)) }
 {
     let (items, at) = bullets(alloc, tokens, inner, pool, s, op, place.col)?;
     let id = items.id;

@@ -5,7 +5,7 @@ ghost use Rattle.tla_token.specs.TokensSeen.{span_bytes};
 ghost use Rattle.tla_tree.specs.Pool.{Keeps};
 ghost use Rattle.tla_tree.specs.Spelling.{Phrase};
 ghost use Rattle.tla_tree.specs.Reader as reader;
-ghost use Rattle.tla_tree.specs.Whole.{whole};
+ghost use Rattle.tla_tree.specs.Whole.{whole_in};
 ghost use Rattle.expr_nodes.specs.Ahead.{ahead};
 ghost use Rattle.expr_nodes.specs.ReadIn.{IsIn, Told};
 ghost use Rattle.expr_rows.specs.HasRead.{HasRead, Stands};
@@ -50,7 +50,7 @@ fn element_in<F: Fn(&mut Pool, Context, Spot) -> Result<(Read, usize), Halt>>(
 ) -> Result<(Read, usize), Halt>
     requires given { MayRead tokens.now s (suc s.left) (F.pre inner.now) (F.post inner.now) }
     requires e_in { e.id < length pool.old }
-    ensures read { (i : Phrase) → IsIn pool.old e i → Told (λ x j. IsIn pool.new x.0 j) (λ x. ahead tokens.now x.1) result (reader.set_from (reader.room whole (Some s.left)) (whole (Some s.left)) s.edge place (Some i) (ahead tokens.now s.at)) }
+    ensures read { (i : Phrase) → IsIn s.linked pool.old e i → Told (λ x j. IsIn s.linked pool.new x.0 j) (λ x. ahead tokens.now x.1) result (reader.set_from (reader.room s.linked (whole_in s.linked) (Some s.left)) (whole_in s.linked (Some s.left)) s.edge place (Some i) (ahead tokens.now s.at)) }
     ensures kept { Keeps pool.old pool.new }
     ensures stands { IfOk result (λ x. Stands tokens.now pool.new s.at (suc s.left) x) }
 {
@@ -76,7 +76,7 @@ fn member_rest<F: Fn(&mut Pool, Context, Spot) -> Result<(Read, usize), Halt>>(
     requires given { MayRead tokens.now s (suc s.left) (F.pre inner.now) (F.post inner.now) }
     requires set_in { y.set.id < length pool.old }
     requires element_in { MatchOption y.element (Unit {0}) (λ e. e.id < length pool.old) }
-    ensures read { (i : Phrase) → PartedIn pool.old word.place (span_bytes tokens.now.bytes.items word.span) sign y i → Told (λ x j. IsIn pool.new x.0 j) (λ x. ahead tokens.now x.1) result (reader.peek s.edge (reader.member_rest (reader.room whole (Some s.left)) (whole (Some s.left)) s.edge place word.place (span_bytes tokens.now.bytes.items word.span) sign i) (ahead tokens.now s.at)) }
+    ensures read { (i : Phrase) → PartedIn s.linked pool.old word.place (span_bytes tokens.now.bytes.items word.span) sign y i → Told (λ x j. IsIn s.linked pool.new x.0 j) (λ x. ahead tokens.now x.1) result (reader.peek s.edge (reader.member_rest (reader.room s.linked (whole_in s.linked) (Some s.left)) (whole_in s.linked (Some s.left)) s.edge place word.place (span_bytes tokens.now.bytes.items word.span) sign i) (ahead tokens.now s.at)) }
     ensures kept { Keeps pool.old pool.new }
     ensures stands { IfOk result (λ x. Stands tokens.now pool.new s.at (suc s.left) x) }
 {
@@ -117,7 +117,7 @@ pub fn member_in<F: Fn(&mut Pool, Context, Spot) -> Result<(Read, usize), Halt>>
     sign: Place,
 ) -> Result<(Read, usize), Halt>
     requires given { MayRead tokens.now s (suc s.left) (F.pre inner.now) (F.post inner.now) }
-    ensures { HasRead tokens.now pool.old pool.new s.at (suc s.left) result (membered (reader.room whole (Some s.left)) (whole (Some s.left)) s.edge place word.place (span_bytes tokens.now.bytes.items word.span) sign (ahead tokens.now s.at)) }
+    ensures { HasRead s.linked tokens.now pool.old pool.new s.at (suc s.left) result (membered (reader.room s.linked (whole_in s.linked) (Some s.left)) (whole_in s.linked (Some s.left)) s.edge place word.place (span_bytes tokens.now.bytes.items word.span) sign (ahead tokens.now s.at)) }
 {
     let (y, at) = set_behind(alloc, tokens, inner, pool, s, word, sign)?;
     member_rest(

@@ -17,7 +17,7 @@ returns-in_default-clause-read g c = λ i q h.
     let one = c.in_ok-all.ensures in
     record {
       what = last_bind c.args.word.place x q i;
-      is = rest_none s.left s.edge c.args.word.place x q i (ahead c.args.tokens.now s.at) c.in_default.ensures.none;
+      is = rest_none _ s.left s.edge c.args.word.place x q i (ahead c.args.tokens.now s.at) c.in_default.ensures.none;
       told = rw (one.groups, one.sets, one.nesting) (one_bound c.args.word.place x q h);
     }
 
@@ -25,21 +25,21 @@ pub returns-in_err-other-clause-read : goal.returns-in_err-other-clause-read
 returns-in_err-other-clause-read g c = λ i q h.
     let s = c.args.s in
     let p = err_from_is_err_and c.from_residual-in_err-other.result c.from_residual-in_err-other.ensures.1 in
-    rw (p.1, p.2) (rest_lost s.left s.edge c.args.word.place (span_bytes c.args.tokens.now.bytes.items c.args.word.span) q i (ahead c.args.tokens.now s.at) c.in-Some.ensures.there _ c.in-Some.ensures.rest _ c.in_err-other.ensures.value)
+    rw (p.1, p.2) (rest_lost _ s.left s.edge c.args.word.place (span_bytes c.args.tokens.now.bytes.items c.args.word.span) q i (ahead c.args.tokens.now s.at) c.in-Some.ensures.there _ c.in-Some.ensures.rest _ c.in_err-other.ensures.value)
 
 pub returns-in_err-rest-clause-read : goal.returns-in_err-rest-clause-read
 returns-in_err-rest-clause-read g c = λ i q h.
     let v = c.args.tokens.now in
     let s = c.args.s in
     let p = err_from_is_err_and c.from_residual-in_err-rest.result c.from_residual-in_err-rest.ensures.1 in
-    rw (p.1, p.2) (rest_later s.left s.edge c.args.word.place (span_bytes v.bytes.items c.args.word.span) q i (ahead v s.at) c.in-Some.ensures.there _ c.in-Some.ensures.rest (word_seen v.bytes.items c.in_ok-other.other) _ c.in_ok-other.ensures.value _ c.in_err-rest.ensures.read)
+    rw (p.1, p.2) (rest_later _ s.left s.edge c.args.word.place (span_bytes v.bytes.items c.args.word.span) q i (ahead v s.at) c.in-Some.ensures.there _ c.in-Some.ensures.rest (word_seen v.bytes.items c.in_ok-other.other) _ c.in_ok-other.ensures.value _ c.in_err-rest.ensures.read)
 
 pub returns-clause-read : goal.returns-clause-read
 returns-clause-read g c = λ i q h.
     let v = c.args.tokens.now in
     let s = c.args.s in
     let all = c.in_ok-all-2.ensures in
-    rw (all.groups, all.sets, all.nesting) (rest_all s.left s.edge c.args.word.place (span_bytes v.bytes.items c.args.word.span) q i (ahead v s.at) c.in-Some.ensures.there _ c.in-Some.ensures.rest (word_seen v.bytes.items c.in_ok-other.other) _ c.in_ok-other.ensures.value h c.in_ok-rest.ensures.kept c.in_ok-rest.ensures.read)
+    rw (all.groups, all.sets, all.nesting) (rest_all _ s.left s.edge c.args.word.place (span_bytes v.bytes.items c.args.word.span) q i (ahead v s.at) c.in-Some.ensures.there _ c.in-Some.ensures.rest (word_seen v.bytes.items c.in_ok-other.other) _ c.in_ok-other.ensures.value h c.in_ok-rest.ensures.kept c.in_ok-rest.ensures.read)
 
 pub returns-clause-named : goal.returns-clause-named
 returns-clause-named g c =

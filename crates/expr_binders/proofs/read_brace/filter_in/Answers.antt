@@ -11,7 +11,7 @@ returns-clause-read g c = λ i q t h.
     told_then _ _ one.read (λ j js. told_on _ _ _ c.in_ok-at.ensures.value (record {
       what = filter c.args.place c.args.word.place _ q i t j c.in_ok-at.field-0-0;
       is = refl;
-      told = c.in_ok-whole.ensures.read i j q t c.in_ok-at.field-0-0 (kept_in one.kept h) js;
+      told = c.in_ok-whole.ensures.read _ i j q t c.in_ok-at.field-0-0 (kept_in one.kept h) js;
     }))
 
 pub returns-clause-stands : goal.returns-clause-stands

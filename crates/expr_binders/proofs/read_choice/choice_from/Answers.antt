@@ -18,7 +18,7 @@ returns g c =
           (told_then _ _ three.read (λ k ks. record {
             what = if_then_else c.args.place i c.in_ok-at.field-0-0 j c.in_ok-at-2.field-0-0 k;
             is = refl;
-            told = made.read i j k _ _ (kept_in (Keeps-then _ _ _ two.kept three.kept) is) (kept_in three.kept js) ks;
+            told = made.read _ i j k _ _ (kept_in (Keeps-then _ _ _ two.kept three.kept) is) (kept_in three.kept js) ks;
           })))));
       kept = Keeps-then _ _ _ one.kept (Keeps-then _ _ _ two.kept (Keeps-then _ _ _ three.kept made.kept));
       within = made.within;

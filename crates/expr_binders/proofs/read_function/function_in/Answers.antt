@@ -15,7 +15,7 @@ returns-clause-read g c = λ bs are.
     told_on _ _ _ c.in_ok-at.ensures.value (told_then _ _ one.read (λ i is. told_on _ _ _ c.in_ok-at-2.ensures.value (record {
       what = function c.args.place bs c.in_ok-at.field-0-0 i c.in_ok-at-2.field-0-0;
       is = refl;
-      told = c.in_ok-whole.ensures.read i bs c.in_ok-at.field-0-0 c.in_ok-at-2.field-0-0 is (kept_bound one.kept are);
+      told = c.in_ok-whole.ensures.read _ i bs c.in_ok-at.field-0-0 c.in_ok-at-2.field-0-0 is (kept_bound one.kept are);
     })))
 
 pub returns-clause-stands : goal.returns-clause-stands

@@ -11,7 +11,7 @@ returns-clause-read g c = λ i q h.
     told_on _ _ _ c.in_ok-word.ensures.value (told_then _ _ many.read (λ bs are. told_on _ _ _ c.in_ok-at.ensures.value (record {
       what = image c.args.place i q bs c.in_ok-at.field-0-0;
       is = refl;
-      told = c.in_ok-whole.ensures.read i bs q c.in_ok-at.field-0-0 (kept_in many.kept h) are;
+      told = c.in_ok-whole.ensures.read _ i bs q c.in_ok-at.field-0-0 (kept_in many.kept h) are;
     })))
 
 pub returns-clause-stands : goal.returns-clause-stands

@@ -18,7 +18,7 @@ returns g c =
       read = told_on _ _ _ c.in_ok-word.ensures.value (told_then _ _ many.read (λ bs are. told_on _ _ _ c.in_ok-at.ensures.value (told_then _ _ one.read (λ i is. record {
         what = quantified c.args.every c.args.place bs c.in_ok-at.field-0-0 i;
         is = refl;
-        told = made.read i bs c.in_ok-at.field-0-0 is (kept_bound one.kept are);
+        told = made.read _ i bs c.in_ok-at.field-0-0 is (kept_bound one.kept are);
       }))));
       kept = Keeps-then _ _ _ many.kept (Keeps-then _ _ _ one.kept made.kept);
       within = made.within;

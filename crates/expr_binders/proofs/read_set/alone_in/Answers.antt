@@ -10,7 +10,7 @@ returns-clause-read c = λ i h.
     told_on _ _ _ c.in_ok-at.ensures.value (record {
       what = set_of c.args.place (last i) c.in_ok-at.field-0-0;
       is = refl;
-      told = c.in_ok-whole.ensures.read (last i) c.in_ok-at.field-0-0 (rw c.in_ok-ids.ensures.items (one_in h));
+      told = c.in_ok-whole.ensures.read _ (last i) c.in_ok-at.field-0-0 (rw c.in_ok-ids.ensures.items (one_in h));
     })
 
 pub returns-clause-stands : goal.returns-clause-stands

@@ -11,7 +11,7 @@ returns-clause-read g c = λ i q h.
     told_then _ _ c.in_ok-many.ensures.read (λ xs are. told_on _ _ _ c.in_ok-at.ensures.value (record {
       what = set_of c.args.place (more i q xs) c.in_ok-at.field-0-0;
       is = refl;
-      told = c.in_ok-whole.ensures.read (more i q xs) c.in_ok-at.field-0-0 (rw (c.in_ok-ids.ensures, c.larger.ensures) (more_in q (kept_in c.in_ok-many.ensures.kept h) are));
+      told = c.in_ok-whole.ensures.read _ (more i q xs) c.in_ok-at.field-0-0 (rw (c.in_ok-ids.ensures, c.larger.ensures) (more_in q (kept_in c.in_ok-many.ensures.kept h) are));
     }))
 
 pub returns-clause-stands : goal.returns-clause-stands

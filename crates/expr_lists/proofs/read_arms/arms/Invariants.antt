@@ -8,7 +8,7 @@ use Rattle.expr_lists.proofs.read_arms.arms.Given as goal
 abbrev pub invariant-loop-from : goal.invariant-loop-from
 invariant-loop-from g l =
     record {
-      row : ArmsSoFar l.tokens l.pool l.s.left l.s.edge l.s.at l.at l.ids.items l.nesting l.last;
+      row : ArmsSoFar l.s.linked l.tokens l.pool l.s.left l.s.edge l.s.at l.at l.ids.items l.nesting l.last;
       kept : Keeps l.fn.pool l.pool;
       paired : IsPaired (length l.ids.items);
       small : l.nesting ≤ l.s.left;

@@ -16,7 +16,7 @@ loop-boxes-init g c =
     let l : d + 1 ≡ s.left = omega (arith, c.in_ok-left.ensures.left) in
     let k : 1 ≡ s.left - d = omega (arith, l) in
     record {
-      row = subst (λ (k : ℕ). BulletsSoFar v c.next_item.new.pool s.left d s.edge c.args.op c.args.col s.at c.in_ok-one.next x.read.id x.place x.read.shape.boxes (1 + x.read.shape.nesting) k) k
+      row = subst (λ (k : ℕ). BulletsSoFar c.args.s.linked v c.next_item.new.pool s.left d s.edge c.args.op c.args.col s.at c.in_ok-one.next x.read.id x.place x.read.shape.boxes (1 + x.read.shape.nesting) k) k
           (bullets_first v s.edge c.args.op c.args.col s.left d s.at c.in_ok-one.next l one.read);
       kept = one.kept;
       left = omega (arith, l);
@@ -43,8 +43,8 @@ loop-boxes-preserved g c =
     let there : is_next s.edge o col (ahead v c.loop-boxes.at) ≡ true = sym c.is_bullet_next.ensures ∙ c.loop-boxes-test.true in
     let next = bullets_next v s.edge o col s.at c.loop-boxes.at so.row there f c.in_ok-a.next c.in_ok-id.id l one.kept one.read c.in_ok-id.ensures.within c.in_ok-id.ensures.tree in
     record {
-      row = subst (λ (n : ℕ). BulletsSoFar v c.joined.new.pool s.left f s.edge o col s.at c.in_ok-a.next c.in_ok-id.id p x.shape.boxes n (s.left - f)) nesting
-          (subst (λ (k : ℕ). BulletsSoFar v c.joined.new.pool s.left f s.edge o col s.at c.in_ok-a.next c.in_ok-id.id p x.shape.boxes (max c.loop-boxes.nesting (suc (s.left - d) + x.shape.nesting)) k) k next);
+      row = subst (λ (n : ℕ). BulletsSoFar c.args.s.linked v c.joined.new.pool s.left f s.edge o col s.at c.in_ok-a.next c.in_ok-id.id p x.shape.boxes n (s.left - f)) nesting
+          (subst (λ (k : ℕ). BulletsSoFar c.args.s.linked v c.joined.new.pool s.left f s.edge o col s.at c.in_ok-a.next c.in_ok-id.id p x.shape.boxes (max c.loop-boxes.nesting (suc (s.left - d) + x.shape.nesting)) k) k next);
       kept = Keeps-then _ _ _ so.kept (Keeps-then _ _ _ one.kept c.in_ok-id.ensures.kept);
       left = omega (arith, l, so.left);
       small = omega (arith, nesting, k, l, so.left, so.small, one.small);
@@ -56,7 +56,7 @@ pub returns-in_err-left-clause-read : goal.returns-in_err-left-clause-read
 returns-in_err-left-clause-read g c =
     let s = c.args.s in
     let p = err_from_is_err_and c.from_residual.result c.from_residual.ensures.1 in
-    rw (p.1, p.2) (deep_fails s.left s.edge c.args.op c.args.col (ahead c.args.tokens.now s.at) c.in_err-left.field-0.0 c.in_err-left.ensures.refused c.in_err-left.ensures.deep)
+    rw (p.1, p.2) (deep_fails _ s.left s.edge c.args.op c.args.col (ahead c.args.tokens.now s.at) c.in_err-left.field-0.0 c.in_err-left.ensures.refused c.in_err-left.ensures.deep)
 
 pub returns-in_err-one-clause-read : goal.returns-in_err-one-clause-read
 returns-in_err-one-clause-read g c =
@@ -64,7 +64,7 @@ returns-in_err-one-clause-read g c =
     let d = c.in_ok-left.field-0.left in
     let l : d + 1 ≡ s.left = omega (arith, c.in_ok-left.ensures.left) in
     let p = err_from_is_err_and c.from_residual-in_err-one.result c.from_residual-in_err-one.ensures.1 in
-    rw (p.1, p.2) (item_fails s.left s.edge c.args.op c.args.col (ahead c.args.tokens.now s.at) d c.in_err-one.field-0.0 l c.in_err-one.ensures.read)
+    rw (p.1, p.2) (item_fails _ s.left s.edge c.args.op c.args.col (ahead c.args.tokens.now s.at) d c.in_err-one.field-0.0 l c.in_err-one.ensures.read)
 
 pub returns-in_err-left-2-clause-read : goal.returns-in_err-left-2-clause-read
 returns-in_err-left-2-clause-read g c =
@@ -75,7 +75,7 @@ returns-in_err-left-2-clause-read g c =
     let there : is_next s.edge o col (ahead v c.loop-boxes.at) ≡ true = sym c.is_bullet_next.ensures ∙ c.loop-boxes-test.true in
     let p = err_from_is_err_and c.from_residual-in_err-left-2.result c.from_residual-in_err-left-2.ensures.1 in
     rw (p.1, p.2) (bullets_lost v s.edge o col s.at c.loop-boxes.at c.loop-boxes.invariant.row there c.in_err-left-2.field-0.0
-    (deep_fails c.loop-boxes.left s.edge o col (ahead v c.loop-boxes.at) c.in_err-left-2.field-0.0 c.in_err-left-2.ensures.refused c.in_err-left-2.ensures.deep))
+    (deep_fails _ c.loop-boxes.left s.edge o col (ahead v c.loop-boxes.at) c.in_err-left-2.field-0.0 c.in_err-left-2.ensures.refused c.in_err-left-2.ensures.deep))
 
 pub returns-in_err-a-clause-read : goal.returns-in_err-a-clause-read
 returns-in_err-a-clause-read g c =
@@ -88,4 +88,4 @@ returns-in_err-a-clause-read g c =
     let there : is_next s.edge o col (ahead v c.loop-boxes.at) ≡ true = sym c.is_bullet_next.ensures ∙ c.loop-boxes-test.true in
     let p = err_from_is_err_and c.from_residual-in_err-a.result c.from_residual-in_err-a.ensures.1 in
     rw (p.1, p.2) (bullets_lost v s.edge o col s.at c.loop-boxes.at c.loop-boxes.invariant.row there c.in_err-a.field-0.0
-    (item_fails c.loop-boxes.left s.edge o col (ahead v c.loop-boxes.at) f c.in_err-a.field-0.0 l c.in_err-a.ensures.read))
+    (item_fails _ c.loop-boxes.left s.edge o col (ahead v c.loop-boxes.at) f c.in_err-a.field-0.0 l c.in_err-a.ensures.read))

@@ -7,7 +7,7 @@ use Rattle.expr_lists.proofs.read_bullets.bullets.Given as goal
 abbrev pub invariant-loop-boxes : goal.invariant-loop-boxes
 invariant-loop-boxes g l =
     record {
-      row : BulletsSoFar l.tokens l.pool l.s.left l.left l.s.edge l.op l.col l.s.at l.at l.id l.first l.boxes l.nesting (l.s.left - l.left);
+      row : BulletsSoFar l.s.linked l.tokens l.pool l.s.left l.left l.s.edge l.op l.col l.s.at l.at l.id l.first l.boxes l.nesting (l.s.left - l.left);
       kept : Keeps l.fn.pool l.pool;
       left : l.left < l.s.left;
       small : l.nesting ≤ l.s.left;

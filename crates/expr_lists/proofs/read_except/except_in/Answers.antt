@@ -11,5 +11,5 @@ returns-clause-read g c = λ i q h.
     told_then _ _ all.read (λ ss are. told_on _ _ _ c.in_ok-at.ensures.value (record {
       what = except c.args.place i q ss c.in_ok-at.field-0-0;
       is = refl;
-      told = c.in_ok-whole.ensures.read i ss c.in_ok-all.all.ids.items q c.in_ok-at.field-0-0 c.in_ok-parts.ensures (kept_in all.kept h) are;
+      told = c.in_ok-whole.ensures.read _ i ss c.in_ok-all.all.ids.items q c.in_ok-at.field-0-0 c.in_ok-parts.ensures (kept_in all.kept h) are;
     }))

@@ -19,7 +19,7 @@ loop-word-init g c =
     let items : c.keep.new.many.ids.items ≡ c.in_ok-a.a.id ∷ [] = more.ids ∙ ap (λ (is : List ℕ). is ++ c.in_ok-a.a.id ∷ []) c.new-2.ensures.items in
     let nesting : c.keep.new.many.nesting ≡ c.in_ok-a.a.shape.nesting = omega (arith, more.nesting) in
     record {
-      row = rw (names, items, nesting) (locals_first v s.left s.edge s.at c.in_ok-word.from c.in_ok-a.next z c.in_ok-word.ensures.value one.read);
+      row = rw (names, items, nesting) (locals_first _ v s.left s.edge s.at c.in_ok-word.from c.in_ok-a.next z c.in_ok-word.ensures.value one.read);
       kept = one.kept;
       some = rw names (omega arith);
       as_many = rw (names, items) refl;
@@ -36,7 +36,7 @@ loop-word-preserved g c =
     let more = c.in_ok-keep-2.ensures in
     let so = c.loop-word.invariant in
     let z = word_seen v.bytes.items c.in-Some.word in
-    let next = locals_next v s.left s.edge s.at c.loop-word.at so.row z c.in-Some.ensures.there c.in-Some.from c.in-Some.ensures.rest c.in_ok-a-2.next one.kept one.read in
+    let next = locals_next _ v s.left s.edge s.at c.loop-word.at so.row z c.in-Some.ensures.there c.in-Some.from c.in-Some.ensures.rest c.in_ok-a-2.next one.kept one.read in
     record {
       row = rw (more.names, more.ids, more.nesting) next;
       kept = Keeps-then _ _ _ so.kept one.kept;
@@ -52,11 +52,11 @@ returns-in_err-a-clause-read g c =
     let s = c.args.s in
     let v = c.args.tokens.now in
     let p = err_from_is_err_and c.from_residual-in_err-a.result c.from_residual-in_err-a.ensures.1 in
-    rw (p.1, p.2) (first_fails v s.left s.edge s.at c.in_ok-word.from (word_seen v.bytes.items c.in_ok-word.word) c.in_err-a.field-0.0 c.in_ok-word.ensures.value c.in_err-a.ensures.read)
+    rw (p.1, p.2) (first_fails _ v s.left s.edge s.at c.in_ok-word.from (word_seen v.bytes.items c.in_ok-word.word) c.in_err-a.field-0.0 c.in_ok-word.ensures.value c.in_err-a.ensures.read)
 
 pub returns-in_err-a-2-clause-read : goal.returns-in_err-a-2-clause-read
 returns-in_err-a-2-clause-read g c =
     let s = c.args.s in
     let v = c.args.tokens.now in
     let p = err_from_is_err_and c.from_residual-in_err-a-2.result c.from_residual-in_err-a-2.ensures.1 in
-    rw (p.1, p.2) (locals_fails v s.left s.edge s.at c.loop-word.at c.loop-word.invariant.row (word_seen v.bytes.items c.in-Some.word) c.in-Some.ensures.there c.in-Some.from c.in-Some.ensures.rest c.in_err-a-2.field-0.0 c.in_err-a-2.ensures.read)
+    rw (p.1, p.2) (locals_fails _ v s.left s.edge s.at c.loop-word.at c.loop-word.invariant.row (word_seen v.bytes.items c.in-Some.word) c.in-Some.ensures.there c.in-Some.from c.in-Some.ensures.rest c.in_err-a-2.field-0.0 c.in_err-a-2.ensures.read)

@@ -7,7 +7,7 @@ use Rattle.expr_lists.proofs.read_locals.locals.Given as goal
 abbrev pub invariant-loop-word : goal.invariant-loop-word
 invariant-loop-word g l =
     record {
-      row : LocalsSoFar l.tokens l.pool l.s.left l.s.edge l.s.at l.at l.many.names.items l.many.ids.items l.many.nesting;
+      row : LocalsSoFar l.s.linked l.tokens l.pool l.s.left l.s.edge l.s.at l.at l.many.names.items l.many.ids.items l.many.nesting;
       kept : Keeps l.fn.pool l.pool;
       some : 1 ≤ length l.many.names.items;
       as_many : length l.many.ids.items ≡ length l.many.names.items;

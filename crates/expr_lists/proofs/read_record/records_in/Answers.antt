@@ -13,7 +13,7 @@ returns g c =
       read = told_then _ _ all.read (λ fs are. told_on _ _ _ c.in_ok-at.ensures.value (record {
         what = records c.args.place fs c.in_ok-at.field-0-0;
         is = refl;
-        told = made.read fs c.in_ok-at.field-0-0 are;
+        told = made.read _ fs c.in_ok-at.field-0-0 are;
       }));
       kept = Keeps-then _ _ _ all.kept made.kept;
       within = made.within;

@@ -2,7 +2,7 @@
 use Rattle.std.proofs.Common.{◌-◌, Some}
 use Rattle.tla_tree.specs.Pool.{Keeps}
 use Rattle.tla_tree.specs.Spelling.{Phrase}
-use Rattle.tla_tree.specs.Whole.{whole}
+use Rattle.tla_tree.specs.Whole.{whole_in}
 use Rattle.expr_nodes.specs.ReadIn.{IsIn}
 use Rattle.expr_nodes.specs.Ahead.{ahead}
 use Rattle.expr_nodes.specs.ShapeOf.{context_seen}
@@ -12,7 +12,7 @@ use Rattle.expr_operands.proofs.read_climb.climb.Given as goal
 abbrev pub invariant-loop-b : goal.invariant-loop-b
 invariant-loop-b g l =
     record {
-      read : (i : Phrase) → IsIn l.fn.pool l.fn.a i → GrowsTo l.tokens l.pool l.so_far l.at (λ j. (whole (Some l.s.left)).climb l.s.edge (context_seen l.context) j) ((whole (Some l.s.left)).climb l.s.edge (context_seen l.context) i (ahead l.tokens l.s.at));
+      read : (i : Phrase) → IsIn l.s.linked l.fn.pool l.fn.a i → GrowsTo l.s.linked l.tokens l.pool l.so_far l.at (λ j. (whole_in l.s.linked (Some l.s.left)).climb l.s.edge (context_seen l.context) j) ((whole_in l.s.linked (Some l.s.left)).climb l.s.edge (context_seen l.context) i (ahead l.tokens l.s.at));
       kept : Keeps l.fn.pool l.pool;
       stands : Stands l.tokens l.pool l.s.at l.s.left (l.so_far, l.at);
     }

@@ -1,6 +1,6 @@
 -- Proves what is asked of `postfix`.
 use Rattle.std.proofs.Common.{arith, refl, Some}
-use Rattle.tla_tree.specs.Whole.{whole}
+use Rattle.tla_tree.specs.Whole.{whole_in}
 use Rattle.tla_tree.proofs.PoolNumbers.{Keeps-then}
 use Rattle.expr_rows.proofs.ReadGrown.{same_pool, grown_on}
 use Rattle.expr_operands.proofs.read_link.postfix.Goals as goal
@@ -17,7 +17,7 @@ loop-b-preserved g c =
     let kept = c.loop-b.invariant.kept in
     let stands = rw c.in-Some.is at c.in_ok-b.ensures.stands in
     record {
-      read = λ i h. grown_on c.args.tokens.now (λ j. (whole (Some c.args.s.left)).postfix c.args.s.edge j) (c.loop-b.invariant.read i h) (λ j k. rw c.in-Some.is at (c.in_ok-b.ensures.read j k));
+      read = λ i h. grown_on c.args.tokens.now (λ j. (whole_in c.args.s.linked (Some c.args.s.left)).postfix c.args.s.edge j) (c.loop-b.invariant.read i h) (λ j k. rw c.in-Some.is at (c.in_ok-b.ensures.read j k));
       kept = Keeps-then _ _ _ kept c.in_ok-b.ensures.kept;
       stands = (stands.0, stands.1, stands.2, omega (arith, c.loop-b.invariant.stands.3, stands.3));
     }

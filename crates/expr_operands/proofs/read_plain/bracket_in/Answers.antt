@@ -11,10 +11,10 @@ returns g c =
       read = told_then _ _ one.read (λ i is. told_on _ _ _ c.in_ok-at.ensures.value (record {
         what = brackets c.args.place i c.in_ok-at.field-0-0;
         is = refl;
-        told = c.brackets.ensures.read _ i c.in_ok-at.field-0-0 is;
+        told = c.brackets.ensures.read _ _ i c.in_ok-at.field-0-0 is;
       }));
       kept = one.kept;
-      within = (c.brackets.ensures.read _ _ c.args.place (one.read.told)).below;
+      within = (c.brackets.ensures.read _ _ _ c.args.place (one.read.told)).below;
       small = grind (arith, c.brackets.ensures.shape, one.small);
       inside = c.in_ok-at.ensures.inside;
       further = omega (arith, one.further, c.in_ok-at.ensures.further);

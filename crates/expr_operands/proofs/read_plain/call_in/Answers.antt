@@ -13,7 +13,7 @@ returns g c =
       read = told_then _ _ many.read (λ xs are. told_on _ _ _ c.in_ok-at.ensures.value (record {
         what = call c.args.word.place _ c.args.place xs c.in_ok-at.field-0-0;
         is = refl;
-        told = made.read xs c.args.place c.in_ok-at.field-0-0 are;
+        told = made.read _ xs c.args.place c.in_ok-at.field-0-0 are;
       }));
       kept = Keeps-then _ _ _ many.kept made.kept;
       within = made.within;

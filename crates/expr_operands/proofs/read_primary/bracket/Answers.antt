@@ -1,6 +1,6 @@
 -- Proves what is asked of `bracket`.
-use Rattle.std.proofs.Common.{◌≡◌, suc, ◌+◌, ◌≤◌, Some, arith}
-use Rattle.tla_tree.specs.Whole.{whole}
+use Rattle.std.proofs.Common.{◌≡◌, suc, ◌+◌, ◌≤◌, Some, arith, refl}
+use Rattle.tla_tree.specs.Whole.{whole_in}
 use Rattle.expr_nodes.specs.Ahead.{ahead}
 use Rattle.expr_rows.specs.HasRead.{bracketed}
 use Rattle.expr_rows.proofs.ReadPrimaries.{opened_on, bracket_more}
@@ -13,6 +13,6 @@ returns g c =
     let d = c.in_ok-d.d in
     let l : d.left + 1 ≡ s.left = omega (arith, c.in_ok-d.ensures.left) in
     let small : suc d.left ≤ s.left = omega (arith, l) in
-    opened_on v _ _ _ s.edge d.edge d.left s.left s.at c.after-from.result c.in_ok-a.at c.in_ok-a.a c.postfix.result _ (λ e. bracketed (whole (Some d.left)) e c.args.place (ahead v c.after-from.result)) (λ a. (whole (Some s.left)).postfix s.edge a)
-    c.in_ok-d.ensures.edge c.in_ok-a.ensures c.after-from.ensures.no_less small (bracket_more s.left s.edge c.args.place (ahead v s.at) (ahead v c.after-from.result) d.left l c.after-from.ensures.rest)
+    opened_on v _ _ _ s.edge s.edge d.left s.left s.at c.after-from.result c.in_ok-a.at c.in_ok-a.a c.postfix.result _ (λ e. bracketed (whole_in c.args.s.linked (Some d.left)) e c.args.place (ahead v c.after-from.result)) (λ a. (whole_in c.args.s.linked (Some s.left)).postfix s.edge a)
+    refl c.in_ok-a.ensures c.after-from.ensures.no_less small (bracket_more _ s.left s.edge c.args.place (ahead v s.at) (ahead v c.after-from.result) d.left l c.after-from.ensures.rest)
     c.postfix.ensures.kept c.postfix.ensures.read c.postfix.ensures.stands

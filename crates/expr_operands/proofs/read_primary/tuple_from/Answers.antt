@@ -14,8 +14,8 @@ returns-in-Some g c =
     record {
       read = record {
         what = no_tuple c.args.place (next s.edge ts).place;
-        is = tuple_none s.left s.edge c.args.place ts _ c.in-Some.ensures.there c.in-Some.ensures.rest;
-        told = made.read (next s.edge ts).place;
+        is = tuple_none _ s.left s.edge c.args.place ts _ c.in-Some.ensures.there c.in-Some.ensures.rest;
+        told = made.read _ (next s.edge ts).place;
       };
       kept = made.kept;
       within = made.within;

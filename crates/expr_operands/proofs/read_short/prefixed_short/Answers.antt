@@ -1,6 +1,6 @@
 -- Proves what is asked of `prefixed_short`.
-use Rattle.std.proofs.Common.{◌≡◌, suc, ◌+◌, ◌≤◌, Some, arith}
-use Rattle.tla_tree.specs.Whole.{whole}
+use Rattle.std.proofs.Common.{◌≡◌, suc, ◌+◌, ◌≤◌, Some, arith, refl}
+use Rattle.tla_tree.specs.Whole.{whole_in}
 use Rattle.expr_nodes.specs.ShapeOf.{context_seen}
 use Rattle.expr_nodes.specs.Ahead.{ahead}
 use Rattle.expr_operands.specs.ShortForms.{under_short}
@@ -15,5 +15,5 @@ returns g c =
     let d = c.in_ok-d.d in
     let l : d.left + 1 ≡ s.left = omega (arith, c.in_ok-d.ensures.left) in
     let small : suc d.left ≤ s.left = omega (arith, l) in
-    opened_as v _ _ s.edge d.edge d.left s.left s.at c.after-from.result c.short_in.result _ (λ e. under_short (whole (Some d.left)) e c.args.place c.args.op (ahead v c.after-from.result))
-    c.in_ok-d.ensures.edge c.short_in.ensures c.after-from.ensures.no_less small (short_more s.left s.edge (context_seen c.args.context) c.args.place c.args.op (ahead v s.at) (ahead v c.after-from.result) d.left c.requires.bound l c.after-from.ensures.rest)
+    opened_as v _ _ s.edge s.edge d.left s.left s.at c.after-from.result c.short_in.result _ (λ e. under_short (whole_in c.args.s.linked (Some d.left)) e c.args.place c.args.op (ahead v c.after-from.result))
+    refl c.short_in.ensures c.after-from.ensures.no_less small (short_more _ s.left s.edge (context_seen c.args.context) c.args.place c.args.op (ahead v s.at) (ahead v c.after-from.result) d.left c.requires.bound l c.after-from.ensures.rest)

@@ -4,7 +4,7 @@ use Rattle.tla_token.specs.TokensSeen.{span_bytes}
 use Rattle.tla_token.specs.Lexemes.{unquoted}
 use Rattle.tla_tree.specs.Lexical.{Token}
 use Rattle.tla_tree.specs.Spelling.{string}
-use Rattle.tla_tree.specs.Whole.{whole}
+use Rattle.tla_tree.specs.Whole.{whole_in}
 use Rattle.expr_rows.proofs.ReadPrimaries.{token_on}
 use Rattle.expr_operands.proofs.read_token.string.Goals as goal
 
@@ -14,6 +14,6 @@ returns g c =
     let made = c.in_ok-a.ensures in
     let low : c.in_ok-a.a.shape.nesting ≤ s.left = grind (arith, made.shape) in
     let i = string c.args.place (unwrap_or (unquoted (span_bytes c.args.tokens.now.bytes.items c.args.span)) []) in
-    token_on c.args.tokens.now _ _ _ s.left s.at c.after-at.result c.in_ok-a.a c.postfix.result i (λ a. (whole (Some s.left)).postfix s.edge a) _
-    made.read made.kept low c.after-at.ensures.inside c.after-at.ensures.no_less (ap (λ (ts : List Token). (whole (Some s.left)).postfix s.edge i ts) (sym c.after-at.ensures.rest))
+    token_on c.args.tokens.now _ _ _ s.left s.at c.after-at.result c.in_ok-a.a c.postfix.result i (λ a. (whole_in c.args.s.linked (Some s.left)).postfix s.edge a) _
+    (made.read _) made.kept low c.after-at.ensures.inside c.after-at.ensures.no_less (ap (λ (ts : List Token). (whole_in c.args.s.linked (Some s.left)).postfix s.edge i ts) (sym c.after-at.ensures.rest))
     c.postfix.ensures.kept c.postfix.ensures.read c.postfix.ensures.stands

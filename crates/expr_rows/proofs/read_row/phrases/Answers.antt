@@ -11,7 +11,7 @@ loop-from-init g c =
     let s = c.args.s in
     let items : c.push.new.self.items ≡ c.in_ok-first.first.id ∷ [] = c.in_ok-push.ensures.items ∙ ap (λ (is : List ℕ). is ++ c.in_ok-first.first.id ∷ []) c.new-ids.ensures.items in
     record {
-      row = subst (λ (is : List ℕ). RowSoFar c.args.tokens.now c.inner.new.arg2 s.left s.edge s.at c.in_ok-first.next is c.in_ok-first.first.shape.start c.in_ok-first.first.shape.nesting) (sym items) (row_first c.args.tokens.now s.left s.edge s.at c.in_ok-first.next one.read);
+      row = subst (λ (is : List ℕ). RowSoFar s.linked c.args.tokens.now c.inner.new.arg2 s.left s.edge s.at c.in_ok-first.next is c.in_ok-first.first.shape.start c.in_ok-first.first.shape.nesting) (sym items) (row_first _ c.args.tokens.now s.left s.edge s.at c.in_ok-first.next one.read);
       kept = one.kept;
       some = subst (λ (is : List ℕ). 1 ≤ length is) (sym items) (omega arith);
       small = one.small;
@@ -24,7 +24,7 @@ loop-from-preserved g c =
     let s = c.args.s in
     let one = c.requires.given.reads _ _ _ _ _ (omega arith) c.in-Some.ensures.inside c.in_ok-a.ensures in
     let so_far = c.loop-from.invariant in
-    let next = row_next c.args.tokens.now s.left s.edge s.at c.loop-from.at c.in-Some.from c.in_ok-a.next so_far.row c.in-Some.ensures.there c.in-Some.ensures.rest one.kept one.read in
+    let next = row_next _ c.args.tokens.now s.left s.edge s.at c.loop-from.at c.in-Some.from c.in_ok-a.next so_far.row c.in-Some.ensures.there c.in-Some.ensures.rest one.kept one.read in
     record {
       row = rw (c.in_ok-push-2.ensures.items, c.larger-nesting.ensures) next;
       kept = Keeps-then _ _ _ so_far.kept one.kept;
@@ -39,4 +39,4 @@ returns-in_err-a-clause-read g c =
     let s = c.args.s in
     let one = c.requires.given.reads _ _ _ _ _ (omega arith) c.in-Some.ensures.inside c.in_err-a.ensures in
     let p = err_from_is_err_and c.from_residual-in_err-a.result c.from_residual-in_err-a.ensures.1 in
-    rw (p.1, p.2) (row_fails c.args.tokens.now s.left s.edge s.at c.loop-from.at c.in-Some.from c.in_err-a.field-0.0 c.loop-from.invariant.row c.in-Some.ensures.there c.in-Some.ensures.rest one.read)
+    rw (p.1, p.2) (row_fails _ c.args.tokens.now s.left s.edge s.at c.loop-from.at c.in-Some.from c.in_err-a.field-0.0 c.loop-from.invariant.row c.in-Some.ensures.there c.in-Some.ensures.rest one.read)

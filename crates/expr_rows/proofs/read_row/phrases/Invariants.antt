@@ -7,7 +7,7 @@ use Rattle.expr_rows.proofs.read_row.phrases.Given as goal
 abbrev pub invariant-loop-from : goal.invariant-loop-from
 invariant-loop-from g l =
     record {
-      row : RowSoFar l.tokens l.pool l.s.left l.s.edge l.s.at l.at l.ids.items l.first.shape.start l.nesting;
+      row : RowSoFar l.s.linked l.tokens l.pool l.s.left l.s.edge l.s.at l.at l.ids.items l.first.shape.start l.nesting;
       kept : Keeps l.fn.pool l.pool;
       some : 1 ≤ length l.ids.items;
       small : l.nesting ≤ l.s.left;

@@ -1,6 +1,6 @@
 -- Proves what is asked of `case`.
-use Rattle.std.proofs.Common.{◌≡◌, suc, ◌+◌, ◌≤◌, Some, arith}
-use Rattle.tla_tree.specs.Whole.{whole}
+use Rattle.std.proofs.Common.{◌≡◌, suc, ◌+◌, ◌≤◌, Some, arith, refl}
+use Rattle.tla_tree.specs.Whole.{whole_in}
 use Rattle.expr_nodes.specs.Ahead.{ahead}
 use Rattle.expr_rows.specs.HasRead.{cased}
 use Rattle.expr_rows.proofs.ReadPrimaries.{opened_as}
@@ -14,5 +14,5 @@ returns g c =
     let d = c.in_ok-d.d in
     let l : d.left + 1 ≡ s.left = omega (arith, c.in_ok-d.ensures.left) in
     let small : suc d.left ≤ s.left = omega (arith, l) in
-    opened_as v _ _ s.edge d.edge d.left s.left s.at c.after-from.result c.case_in.result _ (λ e. cased (whole (Some d.left)) e c.args.place (ahead v c.after-from.result))
-    c.in_ok-d.ensures.edge c.case_in.ensures c.after-from.ensures.no_less small (case_more s.left s.edge c.args.place (ahead v s.at) (ahead v c.after-from.result) d.left l c.after-from.ensures.rest)
+    opened_as v _ _ s.edge s.edge d.left s.left s.at c.after-from.result c.case_in.result _ (λ e. cased (whole_in c.args.s.linked (Some d.left)) e c.args.place (ahead v c.after-from.result))
+    refl c.case_in.ensures c.after-from.ensures.no_less small (case_more _ s.left s.edge c.args.place (ahead v s.at) (ahead v c.after-from.result) d.left l c.after-from.ensures.rest)

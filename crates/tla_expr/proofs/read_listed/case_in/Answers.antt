@@ -10,7 +10,7 @@ returns g c =
     let many = c.in_ok-many.ensures in
     let made = c.in_ok-whole.ensures in
     record {
-      read = told_then _ _ many.read (λ xs are. record { what = cases c.args.place xs; is = refl; told = made.read xs are });
+      read = told_then _ _ many.read (λ xs are. record { what = cases c.args.place xs; is = refl; told = made.read _ xs are });
       kept = Keeps-then _ _ _ many.kept made.kept;
       within = made.within;
       small = grind (arith, made.shape, many.small);

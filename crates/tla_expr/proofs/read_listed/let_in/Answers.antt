@@ -20,7 +20,7 @@ returns g c =
       read = told_then _ _ many.read (λ ls are. told_on _ _ _ c.in_ok-at.ensures.value (told_then _ _ one.read (λ i is. record {
         what = local c.args.place ls c.in_ok-at.field-0-0 i;
         is = refl;
-        told = made.read i ls c.in_ok-at.field-0-0 is (locals_kept one.kept are);
+        told = made.read _ i ls c.in_ok-at.field-0-0 is (locals_kept one.kept are);
       })));
       kept = Keeps-then _ _ _ many.kept (Keeps-then _ _ _ one.kept made.kept);
       within = made.within;

@@ -7,7 +7,7 @@ pub returns-clause-read : goal.returns-clause-read
 returns-clause-read c = reads_tree c.args.tokens.now c.args.at _ _ _ _ c.in_ok-e.ensures.read
 
 pub returns-clause-further : goal.returns-clause-further
-returns-clause-further c = reads_further c.args.tokens.now c.args.at _ _ _ _ c.requires.there c.in_ok-e.ensures.inside c.in_ok-e.ensures.read
+returns-clause-further c = reads_further c.args.tokens.now c.args.at _ _ _ _ _ _ c.requires.there c.in_ok-e.ensures.inside c.in_ok-e.ensures.read
 
 pub returns-in_err-e-clause-read : goal.returns-in_err-e-clause-read
 returns-in_err-e-clause-read c =
