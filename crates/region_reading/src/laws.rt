@@ -7,7 +7,7 @@ ghost use Rattle.module_tree.specs.Module.{RegionUnit, Region, units_of, Module}
 ghost use Rattle.module_tree.specs.TextFront.{Text};
 ghost use Rattle.module_tree.specs.Units.{UnitForm, spell_unit, GoodUnit, IsUnit};
 ghost use Rattle.module_tree.specs.Reading.{Reads};
-ghost use Rattle.tla_tree.specs.Reader.{read};
+ghost use Rattle.region_reading.specs.Bound.{Bound, unbounded, a_phrase, Shortens};
 ghost use Rattle.region_reading.specs.NameReader.{names_step, names_in, bulleted_step, bulleted_from};
 ghost use Rattle.region_reading.specs.ItemReader.{item_step, whole_items};
 ghost use Rattle.region_reading.specs.CallReader.{way_in, spec_in};
@@ -38,13 +38,15 @@ pub fn modules_are_read_exactly()
 
 /// The readers of lists have as many steps as they need, so each of them is one step over itself, however many tokens there are: names with commas, the forms behind
 /// the bullets of Init, Next and Spec, and items, lists of them and branches.
+/// That is so within each bound whose readers of expressions leave no more tokens than they were given, as those without a bound do.
 pub fn enough_steps_are_enough()
     ensures names { (edge : ℕ) (ts : List Token) → names_in edge ts ≡ names_step edge (names_in edge) ts }
-    ensures init { (c : ℕ) (ts : List Token) → bulleted_from op.And read c ts ≡ bulleted_step op.And read c (bulleted_from op.And read c) ts }
-    ensures next { (c : ℕ) (ts : List Token) → bulleted_from op.Or way_in c ts ≡ bulleted_step op.Or way_in c (bulleted_from op.Or way_in c) ts }
-    ensures spec { (c : ℕ) (ts : List Token) → bulleted_from op.And spec_in c ts ≡ bulleted_step op.And spec_in c (bulleted_from op.And spec_in c) ts }
-    ensures item { (ts : List Token) (edge : ℕ) → whole_items.item edge ts ≡ (item_step whole_items).item edge ts }
-    ensures list { (ts : List Token) (edge : ℕ) → whole_items.list edge ts ≡ (item_step whole_items).list edge ts }
-    ensures items { (ts : List Token) (edge c : ℕ) → whole_items.items edge c ts ≡ (item_step whole_items).items edge c ts }
-    ensures branches { (ts : List Token) (edge c : ℕ) → whole_items.branches edge c ts ≡ (item_step whole_items).branches edge c ts }
+    ensures init { (m : Bound) → Shortens m → (c : ℕ) (ts : List Token) → bulleted_from op.And (a_phrase m) c ts ≡ bulleted_step op.And (a_phrase m) c (bulleted_from op.And (a_phrase m) c) ts }
+    ensures next { (m : Bound) → Shortens m → (c : ℕ) (ts : List Token) → bulleted_from op.Or (way_in m) c ts ≡ bulleted_step op.Or (way_in m) c (bulleted_from op.Or (way_in m) c) ts }
+    ensures spec { (m : Bound) → Shortens m → (c : ℕ) (ts : List Token) → bulleted_from op.And (spec_in m) c ts ≡ bulleted_step op.And (spec_in m) c (bulleted_from op.And (spec_in m) c) ts }
+    ensures item { (m : Bound) → Shortens m → (ts : List Token) (edge : ℕ) → whole_items.item m edge ts ≡ (item_step whole_items).item m edge ts }
+    ensures list { (m : Bound) → Shortens m → (ts : List Token) (edge : ℕ) → whole_items.list m edge ts ≡ (item_step whole_items).list m edge ts }
+    ensures items { (m : Bound) → Shortens m → (ts : List Token) (edge c : ℕ) → whole_items.items m edge c ts ≡ (item_step whole_items).items m edge c ts }
+    ensures branches { (m : Bound) → Shortens m → (ts : List Token) (edge c : ℕ) → whole_items.branches m edge c ts ≡ (item_step whole_items).branches m edge c ts }
+    ensures any { Shortens unbounded }
 {}
