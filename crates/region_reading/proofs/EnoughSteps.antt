@@ -61,12 +61,9 @@ pub any_shortens : Shortens unbounded
 any_shortens k f h e ts = subst (λ (g : ℕ → Reader Phrase). length (rest (g e ts)) ≤ length ts) (same_Some read f h) (rw (rest_is (read e ts)) (((fair_same (4 * length ts) None).expr e free).less ts))
 
 module _ {A : Type 0} {b : ℕ} where
-  fair_opened : {f g : Bound → Reader A} (m : Bound) → IsFair b (f (deeper m)) (g (deeper m)) → IsFair b (opened m f) (opened m g)
-  fair_opened {f} {g} m h = by (m 1)
-    where
-      by : (o : Option (ℕ → Reader Phrase)) → IsFair b (if_room o (f (deeper m))) (if_room o (g (deeper m)))
-      by (Some x) = h
-      by None = fair_deep
+  fair_room : {p q : Reader A} (o : Option (ℕ → Reader Phrase)) → IsFair b p q → IsFair b (if_room o p) (if_room o q)
+  fair_room (Some f) h = h
+  fair_room None h = fair_deep
 
   fair_opening : {p : Reader A} (m : Bound) → IsFair b p p → IsFair b (opening m p) (opening m p)
   fair_opening {p} m h = by (m 1)
@@ -175,12 +172,20 @@ module _ {A : Type 0} (o : Op) (f : ℕ → Reader A) (h : (b e : ℕ) → IsFai
 
 -- ---- calls, ways and conjuncts of Spec
 
+over_shortens : {m : Bound} → Shortens m → (o : Option un.OverForm) → Shortens (behind_over m o)
+over_shortens s (Some f) = deepens s
+over_shortens s None = s
+
+guard_shortens : {m : Bound} → Shortens m → (o : Option un.GuardForm) → Shortens (behind_guard m o)
+guard_shortens s (Some f) = deepens s
+guard_shortens s None = s
+
 module _ {b : ℕ} where
   call_rest : {m : Bound} → Shortens m → (e : ℕ) (p : Place) (x : Word) (q : Place) → IsFair b (call_from m e p x q) (call_from m e p x q)
   call_rest s e p x q = fair_bind (phrase s e) (λ a. fair_bind (one_mark e tk.close_bracket) (λ t. fair_gives))
 
   fair_call_by : {m : Bound} → Shortens m → (e : ℕ) (p : Place) (x : Word) (q : Place) (k : TokenView) → IsFair b (call_by m e p x q k) (call_by m e p x q k)
-  fair_call_by {m} s e p x q (mark tk.open_bracket) = fair_opened m (fair_skip (omega arith) (call_rest (deepens s) e p x q))
+  fair_call_by {m} s e p x q (mark tk.open_bracket) = fair_room (m 1) (fair_skip (omega arith) (call_rest (deepens s) e p x q))
   fair_call_by s e p x q k = fair_gives
 
   fair_call : {m : Bound} → Shortens m → (e : ℕ) → IsFair b (call_in m e) (call_in m e)
@@ -193,7 +198,7 @@ module _ {b : ℕ} where
   some_call s e p = fair_bind (one_word e) (λ x. fair_bind (one_sign e op.In) (λ y. fair_bind (phrase s e) (λ a. fair_bind (one_mark e tk.colon) (λ t. fair_bind (fair_call s e) (λ u. fair_gives)))))
 
   fair_way_by : {m : Bound} → Shortens m → (e : ℕ) (p : Place) (k : TokenView) → IsFair b (way_by m e p k) (way_by m e p k)
-  fair_way_by {m} s e p (key tk.exists_key) = fair_opened m (fair_skip (omega arith) (some_call (deepens s) e p))
+  fair_way_by {m} s e p (key tk.exists_key) = fair_room (m 1) (fair_skip (omega arith) (some_call (deepens s) e p))
   fair_way_by s e p k = one_call s e
 
   fair_way : {m : Bound} → Shortens m → (e : ℕ) → IsFair b (way_in m e) (way_in m e)
@@ -203,23 +208,15 @@ module _ {b : ℕ} where
   over_rest s e p = fair_bind (one_word e) (λ x. fair_bind (one_sign e op.In) (λ y. fair_bind (phrase s e) (λ a. fair_bind (one_mark e tk.colon) (λ t. fair_gives))))
 
   fair_over_by : {m : Bound} → Shortens m → (e : ℕ) (p : Place) (k : TokenView) → IsFair b (over_by m e p k) (over_by m e p k)
-  fair_over_by {m} s e p (key tk.for_all_key) = fair_opened m (fair_skip (omega arith) (over_rest (deepens s) e p))
+  fair_over_by {m} s e p (key tk.for_all_key) = fair_room (m 1) (fair_skip (omega arith) (over_rest (deepens s) e p))
   fair_over_by s e p k = fair_gives
 
-  guard_rest : {m n : Bound} → Shortens n → (e : ℕ) (p : Place) → IsFair b (guard_from m n e p) (guard_from m n e p)
-  guard_rest {m} s e p = fair_bind (phrase s e) (λ a. fair_bind (one_mark e tk.close_bracket) (λ q. fair_bind (fair_opening m (one_sign e op.And)) (λ y. fair_gives)))
+  guard_rest : (m : Bound) {n : Bound} → Shortens n → (e : ℕ) (p : Place) → IsFair b (guard_from m n e p) (guard_from m n e p)
+  guard_rest m s e p = fair_bind (phrase s e) (λ a. fair_bind (one_mark e tk.close_bracket) (λ q. fair_bind (fair_opening m (one_sign e op.And)) (λ y. fair_gives)))
 
   fair_guard_by : {m : Bound} → Shortens m → (e : ℕ) (p : Place) (k : TokenView) → IsFair b (guard_by m e p k) (guard_by m e p k)
-  fair_guard_by {m} s e p (mark tk.open_bracket) = fair_opened m (fair_skip (omega arith) (guard_rest {m = m} (deepens s) e p))
+  fair_guard_by {m} s e p (mark tk.open_bracket) = fair_room (m 1) (fair_skip (omega arith) (guard_rest m (deepens s) e p))
   fair_guard_by s e p k = fair_gives
-
-  over_shortens : {m : Bound} → Shortens m → (o : Option un.OverForm) → Shortens (behind_over m o)
-  over_shortens s (Some f) = deepens s
-  over_shortens s None = s
-
-  guard_shortens : {m : Bound} → Shortens m → (o : Option un.GuardForm) → Shortens (behind_guard m o)
-  guard_shortens s (Some f) = deepens s
-  guard_shortens s None = s
 
   fair_fair_with : {m : Bound} → Shortens m → (e : ℕ) (o : Option un.OverForm) (x : Place × Bool) (p : Place) → IsFair b (fair_with m e o x p) (fair_with m e o x p)
   fair_fair_with s e o x p = fair_bind (fair_peek e (fair_guard_by s e)) (λ g. fair_bind (fair_call (guard_shortens s g) e) (λ u. fair_bind (one_mark e tk.close_bracket) (λ q. fair_gives)))
@@ -243,7 +240,7 @@ module _ {b : ℕ} where
 
   fair_spec_by : {m : Bound} → Shortens m → (e : ℕ) (p : Place) (k : TokenView) → IsFair b (spec_by m e p k) (spec_by m e p k)
   fair_spec_by s e p (tk.word x) = fair_start (bytes_eq x (codes "Init")) p
-  fair_spec_by {m} s e p (mark tk.box) = fair_opened m (fair_skip (omega arith) (steps_rest (deeper m) e p))
+  fair_spec_by {m} s e p (mark tk.box) = fair_room (m 1) (fair_skip (omega arith) (steps_rest (deeper m) e p))
   fair_spec_by s e p k = fair_line s e
 
   fair_spec : {m : Bound} → Shortens m → (e : ℕ) → IsFair b (spec_in m e) (spec_in m e)
@@ -290,21 +287,21 @@ module _ (j : ℕ) (r q : ItemReaders) (h : AreFair j r q) where
     choice_rest e p = fair_bind (phrase s e) (λ a. fair_bind (one_key e tk.then_key) (λ t. fair_bind (h.list m s e) (λ is. fair_bind (one_key e tk.else_key) (λ y. fair_bind (h.list m s e) (λ js. fair_gives)))))
 
   fair_unchanged : (t : Bool) (m : Bound) → Shortens m → (e : ℕ) (p : Place) → IsFair (2 * suc j) (unchanged_if t m e p) (unchanged_if t m e p)
-  fair_unchanged true m s e p = fair_opened m (fair_skip (omega arith) (unchanged_rest (deeper m) (deepens s) e p))
+  fair_unchanged true m s e p = fair_room (m 1) (fair_skip (omega arith) (unchanged_rest (deeper m) (deepens s) e p))
   fair_unchanged false m s e p = fair_refuses
 
   fair_item_by : (m : Bound) → Shortens m → (e : ℕ) (p : Place) (k : TokenView) → IsFair (2 * suc j) (item_by m r e p k) (item_by m q e p k)
-  fair_item_by m s e p (mark tk.open_bracket) = fair_opened m (fair_skip (omega arith) (test_rest (deeper m) (deepens s) e p))
+  fair_item_by m s e p (mark tk.open_bracket) = fair_room (m 1) (fair_skip (omega arith) (test_rest (deeper m) (deepens s) e p))
   fair_item_by m s e p (tk.word x) = fair_skip (omega arith) (setting_rest m s e p x)
   fair_item_by m s e p (tk.other w) = fair_unchanged (bytes_eq w (codes "UNCHANGED")) m s e p
-  fair_item_by m s e p (key tk.exists_key) = fair_opened m (fair_skip (omega arith) (exists_rest (deeper m) (deepens s) e p))
-  fair_item_by m s e p (key tk.let_key) = fair_opened m (fair_skip (omega arith) (local_rest (deeper m) (deepens s) e p))
-  fair_item_by m s e p (key tk.if_key) = fair_opened m (fair_skip (omega arith) (choice_rest (deeper m) (deepens s) e p))
-  fair_item_by m s e p (sign op.Or) = fair_opened m (fair_bind (weaker (omega arith) (h.branches (deeper m) (deepens s) e p.col)) (λ bs. fair_gives))
+  fair_item_by m s e p (key tk.exists_key) = fair_room (m 1) (fair_skip (omega arith) (exists_rest (deeper m) (deepens s) e p))
+  fair_item_by m s e p (key tk.let_key) = fair_room (m 1) (fair_skip (omega arith) (local_rest (deeper m) (deepens s) e p))
+  fair_item_by m s e p (key tk.if_key) = fair_room (m 1) (fair_skip (omega arith) (choice_rest (deeper m) (deepens s) e p))
+  fair_item_by m s e p (sign op.Or) = fair_room (m 1) (fair_bind (weaker (omega arith) (h.branches (deeper m) (deepens s) e p.col)) (λ bs. fair_gives))
   fair_item_by m s e p k = fair_refuses
 
   fair_list_by : (m : Bound) → Shortens m → (e : ℕ) (p : Place) (k : TokenView) → IsFair (2 * suc j) (list_by m r e p k) (list_by m q e p k)
-  fair_list_by m s e p (sign op.And) = fair_opened m (weaker (omega arith) (h.items (deeper m) (deepens s) e p.col))
+  fair_list_by m s e p (sign op.And) = fair_room (m 1) (weaker (omega arith) (h.items (deeper m) (deepens s) e p.col))
   fair_list_by m s e p k = fair_refuses
 
   fair_items_if : (t : Bool) (m : Bound) → Shortens m → (e c : ℕ) (p : Place) (i : ItemForm) → IsFair (2 * j) (items_if t m r e c p i) (items_if t m q e c p i)

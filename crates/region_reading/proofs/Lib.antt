@@ -7,4 +7,6 @@ pub mod UnitsRead
 pub mod RegionsRead
 pub mod ModulesRead
 pub mod EnoughSteps
+pub mod BoundedSteps
+pub mod BoundedItems
 mod Rows

@@ -9,6 +9,7 @@ use Rattle.tla_tree.specs.TokenViews.{views}
 use Rattle.tla_tree.specs.Reader.{readers}
 use Rattle.module_tree.specs.Module.{test, setting, unchanged, exists, local, if_then_else, either, no_items, item, no_branches, branch, call, call_with, one_way, some_way, Body, all_of, some_of, Fairness, Way, Region, Module, RegionUnit, constant_unit, variables_unit, definition_unit, vars_unit, process_set_unit, init_unit, action_unit, terminating_unit, next_unit, spec_unit, termination_unit, units_of}
 use Rattle.module_tree.specs.Grammar.{last_name, more_names}
+use Rattle.region_reading.specs.Bound.{unbounded}
 use Rattle.region_reading.specs.NameReader.{names_in, parameters_in}
 use Rattle.region_reading.specs.ItemReader.{item_readers}
 use Rattle.region_reading.specs.UnitReader.{unit_in}
@@ -29,7 +30,7 @@ name_at l c x = node (name x) (at l c) no_trees
 names : names_in 1 (seen (codes "  a, b)")) ≡ Ok (more_names (at 1 3) (codes "a") (at 1 4) (last_name (at 1 6) (codes "b")), seen (codes "      )"))
 names = refl
 
-no_parameters : parameters_in (seen (codes "  == a")) ≡ Ok (None, seen (codes "  == a"))
+no_parameters : parameters_in unbounded (seen (codes "  == a")) ≡ Ok (None, seen (codes "  == a"))
 no_parameters = refl
 
 -- ---- units

@@ -1,5 +1,5 @@
 -- How many forms may still open where tokens are read: a bound tells it, and reads the expressions there.
-use Rattle.std.specs.Prelude.{◌≡◌, ℕ, suc, ◌-◌, ◌≤◌, ◌<◌, ⊥, ◌⊎◌, nat_le, Bool, true, false, List, Option, Some, None, Ok, Err, length, if◌then◌else◌}
+use Rattle.std.specs.Prelude.{◌≡◌, ℕ, suc, ◌-◌, ◌≤◌, ◌<◌, ◌⊎◌, nat_le, Bool, true, false, List, Option, Some, None, Ok, Err, length, if◌then◌else◌}
 use Rattle.tla_token.specs.declared.rule.Rule.{Rule}
 use Rattle.tla_token.specs.declared.rule.Rule.TheVariants.{TooDeep, Syntax}
 use Rattle.tla_tree.specs.Lexical.{Token}
