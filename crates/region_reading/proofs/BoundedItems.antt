@@ -13,7 +13,7 @@ use Rattle.module_tree.specs.Units.{ParameterForm}
 use Rattle.region_reading.specs.Bound.{Bound, unbounded, opened_if, ReadsWithin}
 use Rattle.region_reading.specs.Opens.{item_opens, list_opens, branches_open, bullets_open, parameters_open}
 use Rattle.region_reading.specs.NameReader.{names_by, some_names, names_in, parameters_from, parameters_by, parameters_in, is_bullet_in, bulleted_if, bulleted, bulleted_from, bulleted_in}
-use Rattle.region_reading.specs.ItemReader.{ItemReaders, operand_if, an_operand, test_from, setting_from, unchanged_from, exists_from, local_from, choice_from, unchanged_if, item_by, list_by, items_if, branches_if, item_step, item_readers, list_in}
+use Rattle.region_reading.specs.ItemReader.{ItemReaders, operand_if, an_operand, test_from, setting_from, unchanged_from, exists_from, local_from, choice_from, unchanged_if, item_by, list_by, items_if, branches_if, item_step, item_readers, whole_items, list_in}
 use Rattle.region_reading.proofs.BoundedSteps.{Bounded, within, IsPlain, plain_took, plain_then, bounded_gives, bounded_refuses, bounded_bind, then_part, then_plain, then_token, then_opening, bounded_opened, bounded_phrase}
 
 -- ---- names
@@ -185,6 +185,9 @@ module _ (x : ℕ → ℕ → Reader Phrase) (bare : Phrase → ℕ) (w : ReadsW
   unfolding item_readers
   items_bounded zero = record { item = λ d e ts. bounded_refuses ts; list = λ d e ts. bounded_refuses ts; items = λ d e c ts. bounded_refuses ts; branches = λ d e c ts. bounded_refuses ts }
   items_bounded (suc n) = step_bounded (item_readers n) (items_bounded n)
+
+  pub bounded_item : (d e : ℕ) (ts : List Token) → Bounded l d (λ i. d + item_opens bare i) (whole_items.item (within x l d) e ts) (whole_items.item unbounded e ts)
+  bounded_item d e ts = (items_bounded (2 * length ts)).item d e ts
 
   pub bounded_list : (d e : ℕ) (ts : List Token) → Bounded l d (λ is. d + list_opens bare is) (list_in (within x l d) e ts) (list_in unbounded e ts)
   bounded_list d e ts = (items_bounded (2 * length ts)).list d e ts

@@ -140,20 +140,20 @@ bounded_deep ts q h g = record { told = inr (refl, λ a us i. (let m = g a us i 
 
 module _ (x : ℕ → ℕ → Reader Phrase) (l d : ℕ) where
   -- with one form more open
-  pub bounded_opened : {A : Type 0} {opens : A → ℕ} (f : Bound → Reader A) (ts : List Token) → Bounded l (suc d) opens (f (within x l (suc d)) ts) (f unbounded ts) → Bounded l d opens (opened (within x l d) f ts) (f unbounded ts)
-  bounded_opened {A} {opens} f ts h = by (room_is x l d 1)
+  pub bounded_opened : {A : Type 0} {opens : A → ℕ} {q : Out A} (f : Bound → Reader A) (ts : List Token) → Bounded l (suc d) opens (f (within x l (suc d)) ts) q → Bounded l d opens (opened (within x l d) f ts) q
+  bounded_opened {A} {opens} {q} f ts h = by (room_is x l d 1)
     where
-      up : (o : Out A) → Told l (suc d) opens o (f unbounded ts) → suc d ≤ l → Told l d opens o (f unbounded ts)
+      up : (o : Out A) → Told l (suc d) opens o q → suc d ≤ l → Told l d opens o q
       up (Ok y) (e, k) m = (e, λ z. k m)
       up (Err s) k m = k
 
-      grows : (a : A) (us : List Token) → f unbounded ts ≡ Ok (a, us) → d ≤ opens a
+      grows : (a : A) (us : List Token) → q ≡ Ok (a, us) → d ≤ opens a
       grows a us i = (let m = h.grows a us i in omega (arith, m))
 
-      at : (o : Option (ℕ → Reader Phrase)) → within x l d 1 ≡ o → Bounded l d opens (if_room o (f (deeper (within x l d))) ts) (f unbounded ts) → Bounded l d opens (opened (within x l d) f ts) (f unbounded ts)
-      at o e = subst (λ (o : Option (ℕ → Reader Phrase)). Bounded l d opens (if_room o (f (deeper (within x l d))) ts) (f unbounded ts)) (sym e)
+      at : (o : Option (ℕ → Reader Phrase)) → within x l d 1 ≡ o → Bounded l d opens (if_room o (f (deeper (within x l d))) ts) q → Bounded l d opens (opened (within x l d) f ts) q
+      at o e = subst (λ (o : Option (ℕ → Reader Phrase)). Bounded l d opens (if_room o (f (deeper (within x l d))) ts) q) (sym e)
 
-      by : ((within x l d 1 ≡ Some (x (l - (d + 1)))) × (d + 1 ≤ l)) ⊎ ((within x l d 1 ≡ None) × (l < d + 1)) → Bounded l d opens (opened (within x l d) f ts) (f unbounded ts)
+      by : ((within x l d 1 ≡ Some (x (l - (d + 1)))) × (d + 1 ≤ l)) ⊎ ((within x l d 1 ≡ None) × (l < d + 1)) → Bounded l d opens (opened (within x l d) f ts) q
       by (inl (e, m)) = at (Some (x (l - (d + 1)))) e (record { told = up (f (within x l (suc d)) ts) h.told (omega (arith, m)); grows = grows })
       by (inr (e, m)) = at None e (record { told = inr (refl, λ a us i. (let z = h.grows a us i in omega (arith, z, m))); grows = grows })
 
@@ -194,26 +194,42 @@ module _ {A : Type 0} (l d : ℕ) (opens : A → ℕ) where
         | inr e ↦ inr (e, λ a vs i. (let over = h.deep us (ap (λ (s : Rule). Err (s, us)) e) a vs i in omega (arith, over, k)))
         ]
 
-module _ {A : Type 0} (l : ℕ) (opens : A → ℕ) (o q : Out A) (h : Bounded l 0 opens o q) where
+-- where none is open round it
+module _ {A : Type 0} (l : ℕ) (opens : A → ℕ) (o q : Out A) (h : Bounded l 0 (λ a. 0 + opens a) o q) where
+  abbrev Nothing : Rule → Type 0
+  Nothing r = ((r ≡ Syntax) × Refused q) ⊎ ((r ≡ TooDeep) × Deep l (λ a. 0 + opens a) q)
+
+  none_is : Nothing Syntax → Refused q
+  none_is (inl w) = w.1
+  none_is (inr w) = absurd (let e = w.0 in cc)
+
+  deep_is : Nothing TooDeep → Deep l opens q
+  deep_is (inl w) = absurd (let e = w.0 in cc)
+  deep_is (inr w) = λ a us i. (let over = w.1 a us i in omega (arith, over))
+
+  rule_is : (r : Rule) → Nothing r → (r ≡ Syntax) ⊎ (r ≡ TooDeep)
+  rule_is r (inl w) = inl w.0
+  rule_is r (inr w) = inr w.0
+
+  abbrev told_of : Out A → Type 0
+  told_of o = Told l 0 (λ a. 0 + opens a) o q
+
   pub only_refuses : OnlyRefuses l opens o q
   only_refuses = record {
-    same = λ a us e. (let w = subst (λ (o : Out A). Told l 0 opens o q) e h.told in (w.0, w.1 (omega arith)));
-    none = λ us e. by_syntax (subst (λ (o : Out A). Told l 0 opens o q) e h.told);
-    deep = λ us e. by_deep (subst (λ (o : Out A). Told l 0 opens o q) e h.told);
-    rule = λ r us e. by_rule r (subst (λ (o : Out A). Told l 0 opens o q) e h.told);
+    same = λ a us e. (let w = subst told_of e h.told in (w.0, (let low = w.1 (omega arith) in omega (arith, low))));
+    none = λ us e. none_is (subst told_of e h.told);
+    deep = λ us e. deep_is (subst told_of e h.told);
+    rule = λ r us e. rule_is r (subst told_of e h.told);
   }
-    where
-      by_syntax : ((Syntax ≡ Syntax) × Refused q) ⊎ ((Syntax ≡ TooDeep) × Deep l opens q) → Refused q
-      by_syntax (inl w) = w.1
-      by_syntax (inr w) = absurd (let e = w.0 in cc)
 
-      by_deep : ((TooDeep ≡ Syntax) × Refused q) ⊎ ((TooDeep ≡ TooDeep) × Deep l opens q) → Deep l opens q
-      by_deep (inl w) = absurd (let e = w.0 in cc)
-      by_deep (inr w) = w.1
-
-      by_rule : (r : Rule) → ((r ≡ Syntax) × Refused q) ⊎ ((r ≡ TooDeep) × Deep l opens q) → (r ≡ Syntax) ⊎ (r ≡ TooDeep)
-      by_rule r (inl w) = inl w.0
-      by_rule r (inr w) = inr w.0
+-- what opens no more than may be open is read
+module _ {A : Type 0} (l : ℕ) (opens : A → ℕ) (q : Out A) (a : A) (us : List Token) (e : q ≡ Ok (a, us)) (low : opens a ≤ l) where
+  pub what_fits_is_read : (o : Out A) → OnlyRefuses l opens o q → o ≡ Ok (a, us)
+  what_fits_is_read (Ok (b, vs)) h = sym (h.same b vs refl).0 ∙ e
+  what_fits_is_read (Err (r, vs)) h = elim (h.rule r vs refl) [
+      inl i ↦ absurd (h.none vs (ap (λ (s : Rule). Err (s, vs)) i) a us e)
+    | inr i ↦ absurd (let over = h.deep vs (ap (λ (s : Rule). Err (s, vs)) i) a us e in omega (arith, over, low))
+    ]
 
 -- ---- expressions
 

@@ -8,14 +8,14 @@ use Rattle.tla_tree.specs.Tree.{Word}
 use Rattle.tla_tree.specs.Lexical.{TokenView, Token, token, mark, sign, key}
 use Rattle.tla_tree.specs.Lexical as tk
 use Rattle.tla_tree.specs.Spelling.{Right, spell, word}
-use Rattle.tla_tree.specs.Reader.{Reader, ◌>>=◌, gives, next, tail, peek, take, is_mark, a_mark}
+use Rattle.tla_tree.specs.Reader.{◌>>=◌, gives, next, tail, peek, take, is_mark}
 use Rattle.tla_tree.proofs.SoundTokens.{then_ok, given, seen, take_ok, mark_ok, sign_ok, word_ok}
 use Rattle.tla_tree.proofs.SoundLists.{read_is_spelled}
 use Rattle.module_tree.specs.Grammar.{see, keyword, CallForm, call_form, call_with_form, spell_call, GoodCall, WayForm, one_form, some_form, spell_way, GoodWay}
 use Rattle.module_tree.specs.Units.{OverForm, GuardForm, FairForm, spell_over, spell_guard, spell_fair, GoodOver, GoodGuard, GoodFair, SpecForm, start_line, steps_line, fair_line, spell_spec, GoodSpec, fair_specs}
 use Rattle.module_tree.proofs.OneItem.{calm_at}
 use Rattle.region_reading.specs.Bound.{Bound, unbounded}
-use Rattle.region_reading.specs.CallReader.{call_by, call_in, way_by, way_in, over_by, behind_over, guard_by, behind_guard, strong_if, strong_of, fair_from, fair_in, start_if, spec_by, spec_in, one_fair_more, fairs_of}
+use Rattle.region_reading.specs.CallReader.{call_by, call_in, way_by, way_in, over_by, behind_over, guard_by, behind_guard, strong_if, strong_of, fair_end, fair_from, fair_in, start_if, spec_by, spec_in, one_fair_more, fairs_of}
 use Rattle.region_reading.proofs.NamesRead.{next_is, phrase_read, shorter, title_ok}
 use Rattle.region_reading.proofs.ItemsRead.{keyword_seen}
 
@@ -193,15 +193,11 @@ fair_ok e ts f us o =
     let c = mark_ok e tk.open_bracket u.1 z.0 z.1 z.2 in
     let i = then_ok z.3 in
     let d = guard_by_ok e (next e z.1).place (next e z.1).kind z.1 i.0 i.1 refl i.2 in
-    let j = then_ok (ap (λ (m : Bound). guarded m v.0 u.0 z.0 i.0 i.1) (sym (guard_is i.0)) ∙ i.3) in
+    let j = then_ok (ap (λ (m : Bound). fair_end m e v.0 u.0 z.0 i.0 i.1) (sym (guard_is i.0)) ∙ i.3) in
     let g = call_ok e i.1 j.0 j.1 j.2 in
     let k = then_ok j.3 in
     let h = mark_ok e tk.close_bracket j.1 k.0 k.1 k.2 in
     given (λ d vs. GoodFair e d × (spell_fair d vs ≡ ts)) k.3 ((a.0, b.0, c.0, d.0, g.0, h.0), rw (h.1, g.1, d.1, c.1, b.1, a.1) refl)
-  where
-    -- what is behind the guard
-    guarded : Bound → Option OverForm → Place × Bool → Place → Option GuardForm → Reader FairForm
-    guarded m o b p g = call_in m e >>= λ u. a_mark e tk.close_bracket >>= λ q. gives (record { over = o; at = b.0; strong = b.1; left = p; guard = g; action = u; right = q })
 
 over_read : (e : ℕ) (f : Option OverForm) (p : Place) (w : Word) (r : List Token) → GoodOver e f → Right e p → peek e (over_by unbounded e) (spell_over f (keyword p w r)) ≡ Ok (f, keyword p w r)
 over_read e None p w r g h = rw h refl

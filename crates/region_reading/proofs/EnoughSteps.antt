@@ -19,7 +19,7 @@ use Rattle.module_tree.specs.Units as un
 use Rattle.region_reading.specs.Bound.{Bound, unbounded, deeper, phrase_by, a_phrase, if_room, opened, deep_at, token_by, opening, rest, Shortens}
 use Rattle.region_reading.specs.NameReader.{is_title, a_title, names_by, names_step, some_names, names_in, is_bullet_in, bulleted_if, bulleted_step, bulleted, bulleted_from}
 use Rattle.region_reading.specs.ItemReader.{ItemReaders, operand_if, an_operand, test_from, setting_from, unchanged_from, exists_from, local_from, choice_from, unchanged_if, item_by, list_by, items_if, branches_if, item_step, item_readers, whole_items}
-use Rattle.region_reading.specs.CallReader.{call_from, call_by, call_in, some_way_from, way_by, way_in, over_from, over_by, behind_over, guard_from, guard_by, behind_guard, strong_of, fair_with, fair_from, fair_in, start_if, steps_from, spec_by, spec_in}
+use Rattle.region_reading.specs.CallReader.{call_from, call_by, call_in, some_way_from, way_by, way_in, over_from, over_by, behind_over, guard_from, guard_by, behind_guard, strong_of, fair_end, fair_with, fair_from, fair_in, start_if, steps_from, spec_by, spec_in}
 
 -- ---- readers without steps of their own leave no more tokens than there were
 
@@ -218,8 +218,11 @@ module _ {b : ℕ} where
   fair_guard_by {m} s e p (mark tk.open_bracket) = fair_room (m 1) (fair_skip (omega arith) (guard_rest m (deepens s) e p))
   fair_guard_by s e p k = fair_gives
 
+  fair_fair_end : {m : Bound} → Shortens m → (e : ℕ) (o : Option un.OverForm) (x : Place × Bool) (p : Place) (g : Option un.GuardForm) → IsFair b (fair_end m e o x p g) (fair_end m e o x p g)
+  fair_fair_end s e o x p g = fair_bind (fair_call s e) (λ u. fair_bind (one_mark e tk.close_bracket) (λ q. fair_gives))
+
   fair_fair_with : {m : Bound} → Shortens m → (e : ℕ) (o : Option un.OverForm) (x : Place × Bool) (p : Place) → IsFair b (fair_with m e o x p) (fair_with m e o x p)
-  fair_fair_with s e o x p = fair_bind (fair_peek e (fair_guard_by s e)) (λ g. fair_bind (fair_call (guard_shortens s g) e) (λ u. fair_bind (one_mark e tk.close_bracket) (λ q. fair_gives)))
+  fair_fair_with s e o x p = fair_bind (fair_peek e (fair_guard_by s e)) (λ g. fair_fair_end (guard_shortens s g) e o x p g)
 
   fair_fair_from : {m : Bound} → Shortens m → (e : ℕ) (o : Option un.OverForm) → IsFair b (fair_from m e o) (fair_from m e o)
   fair_fair_from {m} s e o = fair_bind (one_token e strong_of) (λ x. fair_bind (fair_opening m (one_mark e tk.open_bracket)) (λ p. fair_fair_with (deepens s) e o x p))

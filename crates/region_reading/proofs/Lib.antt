@@ -9,4 +9,6 @@ pub mod ModulesRead
 pub mod EnoughSteps
 pub mod BoundedSteps
 pub mod BoundedItems
+pub mod BoundedCalls
+pub mod BoundedUnits
 mod Rows

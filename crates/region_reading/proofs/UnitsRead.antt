@@ -274,7 +274,7 @@ unit_by_ok p (tk.word x) ts f o = by (is_own x) refl o
     by false n o = defined_ok p x n ts f o
 unit_by_ok p k ts f o = absurd cc
 
-whole_ok : {A : Type 0} (o : Out A) (a : A) → whole o ≡ Some a → o ≡ Ok (a, [])
+pub whole_ok : {A : Type 0} (o : Out A) (a : A) → whole o ≡ Some a → o ≡ Ok (a, [])
 whole_ok (Ok (b, [])) a h = ap (λ b. Ok (b, [])) (same_Some b a h)
 whole_ok (Ok (b, t ∷ ts)) a h = absurd (none-some a h)
 whole_ok (Err s) a h = absurd (none-some a h)

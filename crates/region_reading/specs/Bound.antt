@@ -58,8 +58,8 @@ opening m p = token_by (m 1) p
 
 -- ---- what a bound does
 
--- Beside what is read without a bound, where l forms may be open: what is read is the same, and opens so many forms at most; where it is no unit, none is read without a bound;
--- and where it is too deep, what is read without a bound opens more forms.
+-- With a bound, where l forms may be open, beside without: what is read is read without it too, and opens so many at most; where it is refused by `Syntax`, it is refused without the bound too;
+-- where it is too deep, that is so too, or what is read opens more; and there is no other rule.
 pub record OnlyRefuses {A : Type 0} (l : ℕ) (opens : A → ℕ) (o q : Out A) : Type 0 where
   pub same : (a : A) (us : List Token) → o ≡ Ok (a, us) → (q ≡ Ok (a, us)) × (opens a ≤ l)
   pub none : (us : List Token) → o ≡ Err (Syntax, us) → (a : A) (vs : List Token) → q ≡ Ok (a, vs) → ⊥

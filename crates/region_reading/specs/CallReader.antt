@@ -72,9 +72,12 @@ abbrev pub strong_of : Place → TokenView → Option (Place × Bool)
 strong_of p (tk.other w) = strong_if (bytes_eq w (codes "SF_vars")) (bytes_eq w (codes "WF_vars")) p
 strong_of p k = None
 
+abbrev pub fair_end : Bound → ℕ → Option OverForm → Place × Bool → Place → Option GuardForm → Reader FairForm
+fair_end m e o b p g = call_in m e >>= λ u. a_mark e tk.close_bracket >>= λ q. gives (record { over = o; at = b.0; strong = b.1; left = p; guard = g; action = u; right = q })
+
 -- right of the bracket
 abbrev pub fair_with : Bound → ℕ → Option OverForm → Place × Bool → Place → Reader FairForm
-fair_with m e o b p = peek e (guard_by m e) >>= λ g. call_in (behind_guard m g) e >>= λ u. a_mark e tk.close_bracket >>= λ q. gives (record { over = o; at = b.0; strong = b.1; left = p; guard = g; action = u; right = q })
+fair_with m e o b p = peek e (guard_by m e) >>= λ g. fair_end (behind_guard m g) e o b p g
 
 abbrev pub fair_from : Bound → ℕ → Option OverForm → Reader FairForm
 fair_from m e o = take e strong_of >>= λ b. opening m (a_mark e tk.open_bracket) >>= λ p. fair_with (deeper m) e o b p
