@@ -11,4 +11,5 @@ pub mod BoundedSteps
 pub mod BoundedItems
 pub mod BoundedCalls
 pub mod BoundedUnits
+pub mod BoundLaws
 mod Rows

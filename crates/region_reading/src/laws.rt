@@ -1,17 +1,21 @@
 //! Laws of reading a translation, stated as what functions without a body ensure.
 
-ghost use Rattle.std.specs.Prelude.{◌≡◌, ℕ, List, [], Some};
+ghost use Rattle.std.specs.Prelude.{◌≡◌, ℕ, ◌≤◌, List, [], Some};
+ghost use Rattle.tla_token.specs.declared.place.Place.{Place};
 ghost use Rattle.tla_tree.specs.declared.op.Op.TheVariants as op;
-ghost use Rattle.tla_tree.specs.Lexical.{Token};
+ghost use Rattle.tla_tree.specs.Lexical.{TokenView, Token};
+ghost use Rattle.tla_tree.specs.Spelling.{Phrase};
+ghost use Rattle.tla_tree.specs.Reader.{Reader};
 ghost use Rattle.module_tree.specs.Module.{RegionUnit, Region, units_of, Module};
 ghost use Rattle.module_tree.specs.TextFront.{Text};
 ghost use Rattle.module_tree.specs.Units.{UnitForm, spell_unit, GoodUnit, IsUnit};
 ghost use Rattle.module_tree.specs.Reading.{Reads};
-ghost use Rattle.region_reading.specs.Bound.{Bound, unbounded, a_phrase, Shortens};
+ghost use Rattle.region_reading.specs.Bound.{Bound, unbounded, bounded, a_phrase, OnlyRefuses, ReadsWithin, Shortens};
+ghost use Rattle.region_reading.specs.Opens.{unit_opens};
 ghost use Rattle.region_reading.specs.NameReader.{names_step, names_in, bulleted_step, bulleted_from};
 ghost use Rattle.region_reading.specs.ItemReader.{item_step, whole_items};
 ghost use Rattle.region_reading.specs.CallReader.{way_in, spec_in};
-ghost use Rattle.region_reading.specs.UnitReader.{form_in, unit_in};
+ghost use Rattle.region_reading.specs.UnitReader.{unit_by, form_by, form_in, unit_in};
 ghost use Rattle.region_reading.specs.RegionReader.{region_in};
 ghost use Rattle.region_reading.specs.ModuleReader.{module_in};
 
@@ -49,4 +53,22 @@ pub fn enough_steps_are_enough()
     ensures items { (m : Bound) → Shortens m → (ts : List Token) (edge c : ℕ) → whole_items.items m edge c ts ≡ (item_step whole_items).items m edge c ts }
     ensures branches { (m : Bound) → Shortens m → (ts : List Token) (edge c : ℕ) → whole_items.branches m edge c ts ≡ (item_step whole_items).branches m edge c ts }
     ensures any { Shortens unbounded }
+{}
+
+/// A bound only refuses, where expressions are read so that theirs does: what is read of a unit is what is read without a bound, and opens no more forms than may be
+/// open; it is refused by `Syntax` only where it is refused without a bound, and by `TooDeep` only where that is so or what is read opens more.
+/// So each unit that opens no more forms is read.
+pub fn bounds_only_refuse()
+    ensures unit {
+        (x : ℕ → ℕ → Reader Phrase) (bare : Phrase → ℕ) → ReadsWithin x bare → (l : ℕ) (p : Place) (k : TokenView) (ts : List Token) →
+            OnlyRefuses l (unit_opens bare) (unit_by (bounded x l) p k ts) (unit_by unbounded p k ts)
+    }
+    ensures same {
+        (x : ℕ → ℕ → Reader Phrase) (bare : Phrase → ℕ) → ReadsWithin x bare → (l : ℕ) (ts : List Token) (f : UnitForm) → form_by (bounded x l) ts ≡ Some f →
+            (form_in ts ≡ Some f) × (unit_opens bare f ≤ l)
+    }
+    ensures fits {
+        (x : ℕ → ℕ → Reader Phrase) (bare : Phrase → ℕ) → ReadsWithin x bare → (l : ℕ) (ts : List Token) (f : UnitForm) → form_in ts ≡ Some f → unit_opens bare f ≤ l →
+            form_by (bounded x l) ts ≡ Some f
+    }
 {}
