@@ -17,7 +17,7 @@ use Rattle.region_reading.specs.Opens.{item_opens, list_opens, bullets_open, cal
 use Rattle.region_reading.specs.NameReader.{whole, gives_if, is_title, names_in, parameters_in, bulleted_in}
 use Rattle.region_reading.specs.ItemReader.{whole_items, list_in}
 use Rattle.region_reading.specs.CallReader.{call_in, way_in, fair_in, spec_in, fairs_of}
-use Rattle.region_reading.specs.UnitReader.{vars_from, process_set_from, init_from, terminating_after, terminating_from, next_from, spec_with, spec_of, spec_from, termination_from, own_from, body_by, body_in, one_parameter, action_of, action_with, action_from, definition_from, defined_by, defined_from, constant_from, variables_from, declared_from, unit_by, form_by, form_in}
+use Rattle.region_reading.specs.UnitReader.{vars_from, process_set_from, init_from, terminating_after, terminating_from, next_from, spec_with, spec_of, spec_from, termination_from, own_from, body_by, body_in, one_parameter, action_of, action_with, action_from, definition_from, defined_by, defined_from, constant_from, variables_from, declared_from, unit_by, form_within, form_in}
 use Rattle.region_reading.proofs.CallsRead.{fairs_ok}
 use Rattle.region_reading.proofs.UnitsRead.{whole_ok}
 use Rattle.region_reading.proofs.BoundedSteps.{Bounded, within, bounded_gives, bounded_refuses, bounded_bind, then_part, then_plain, then_token, then_opening, bounded_phrase, only_refuses, what_fits_is_read}
@@ -214,12 +214,12 @@ module _ (x : ℕ → ℕ → Reader Phrase) (bare : Phrase → ℕ) (w : ReadsW
   unit_refuses p k ts = only_refuses l (unit_opens bare) (unit_by (bounded x l) p k ts) (unit_by unbounded p k ts) (bounded_unit x bare w l 0 p k ts)
 
   -- what is read within a bound is the form that is read without, and opens no more
-  pub form_same : (ts : List Token) (f : UnitForm) → form_by (bounded x l) ts ≡ Some f → (form_in ts ≡ Some f) × (unit_opens bare f ≤ l)
+  pub form_same : (ts : List Token) (f : UnitForm) → form_within (bounded x l) ts ≡ Some f → (form_in ts ≡ Some f) × (unit_opens bare f ≤ l)
   form_same [] f h = absurd (none-some f h)
   form_same (t ∷ ts) f h = (let e = (unit_refuses t.place t.kind ts).same f [] (whole_ok (unit_by (bounded x l) t.place t.kind ts) f h) in (ap whole e.0, e.1))
 
   -- and each form that opens no more is read
-  pub form_fits : (ts : List Token) (f : UnitForm) → form_in ts ≡ Some f → unit_opens bare f ≤ l → form_by (bounded x l) ts ≡ Some f
+  pub form_fits : (ts : List Token) (f : UnitForm) → form_in ts ≡ Some f → unit_opens bare f ≤ l → form_within (bounded x l) ts ≡ Some f
   form_fits [] f h low = absurd (none-some f h)
   form_fits (t ∷ ts) f h low =
       ap whole (what_fits_is_read l (unit_opens bare) (unit_by unbounded t.place t.kind ts) f [] (whole_ok (unit_by unbounded t.place t.kind ts) f h) low

@@ -11,5 +11,6 @@ pub mod BoundedSteps
 pub mod BoundedItems
 pub mod BoundedCalls
 pub mod BoundedUnits
+pub mod BoundedModules
 pub mod BoundLaws
 mod Rows

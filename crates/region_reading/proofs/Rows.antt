@@ -17,7 +17,7 @@ use Rattle.region_reading.specs.Bound.{Bound, unbounded, bounded}
 use Rattle.region_reading.specs.Opens.{unit_opens}
 use Rattle.region_reading.specs.NameReader.{names_in, parameters_in}
 use Rattle.region_reading.specs.ItemReader.{item_readers}
-use Rattle.region_reading.specs.UnitReader.{unit_by, form_by, form_in, unit_in}
+use Rattle.region_reading.specs.UnitReader.{unit_by, form_within, form_in, unit_in}
 use Rattle.region_reading.specs.RegionReader.{region_in}
 use Rattle.region_reading.specs.ModuleReader.{module_in}
 
@@ -212,7 +212,7 @@ unfolding readers item_readers
 no_tuple = refl
 
 -- and with one form more it is read
-deep_enough : form_by (up_to 2) (seen (codes "A ==\n  /\\ (x)")) ≡ form_in (seen (codes "A ==\n  /\\ (x)"))
+deep_enough : form_within (up_to 2) (seen (codes "A ==\n  /\\ (x)")) ≡ form_in (seen (codes "A ==\n  /\\ (x)"))
 unfolding readers item_readers
 deep_enough = refl
 

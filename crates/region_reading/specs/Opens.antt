@@ -1,11 +1,17 @@
 -- The most forms that are open at a token of what was read, where bare tells it of an expression.
 -- A form counts from its own token on: a list behind bullets to its end, brackets to theirs, an open form and a prefix operator to the end of the last part, and an infix operator to the end of its chain.
-use Rattle.std.specs.Prelude.{ℕ, ◌+◌, max, List, [], ◌∷◌, Option, Some, None}
+use Rattle.std.specs.Prelude.{◌≡◌, ℕ, ◌+◌, ◌≤◌, max, List, [], ◌∷◌, Option, Some, None}
 use Rattle.tla_token.specs.declared.place.Place.{Place}
 use Rattle.tla_tree.specs.Tree.{Word}
+use Rattle.tla_tree.specs.Lexical.{Token}
 use Rattle.tla_tree.specs.Spelling.{Phrase}
+use Rattle.module_tree.specs.TextFront.{Text}
+use Rattle.module_tree.specs.Walk.{Located, walk}
+use Rattle.module_tree.specs.FileParts.{region_of, inside_region}
+use Rattle.module_tree.specs.FileUnits.{units_in}
 use Rattle.module_tree.specs.Grammar.{ItemForm, test_form, setting_form, unchanged_form, exists_form, local_form, choice_form, either_form, ListForm, last_item, more_items, BranchForms, last_branch, more_branches, CallForm, call_form, call_with_form, WayForm, one_form, some_form}
 use Rattle.module_tree.specs.Units.{OverForm, GuardForm, FairForm, SpecForm, start_line, steps_line, fair_line, fair_specs, ParameterForm, BodyForm, all_form, some_form, UnitForm, constant_form, variables_form, definition_form, vars_form, process_set_form, init_form, action_form, terminating_form, next_form, spec_form, termination_form}
+use Rattle.region_reading.specs.UnitReader.{form_in}
 
 -- ---- items
 abbrev mutual
@@ -84,3 +90,14 @@ unit_opens bare (terminating_form p q s t a u v w z) = 1 + max (1 + bare a) 1
 unit_opens bare (next_form p q ys) = bullets_open (way_opens bare) ys
 unit_opens bare (spec_form p q s t u f fs) = bullets_open (spec_opens bare) ((s, start_line t) ∷ (u, f) ∷ fair_specs fs)
 unit_opens bare (termination_form p q s t u a v) = 1 + (1 + bare a)
+
+-- ---- translations
+
+-- each of these that is a unit opens so many forms at most
+abbrev pub UnitsOpen : (Phrase → ℕ) → ℕ → List (List Token) → Type 0
+UnitsOpen bare l [] = Unit {0}
+UnitsOpen bare l (ts ∷ tss) = ((f : UnitForm) → form_in ts ≡ Some f → unit_opens bare f ≤ l) × UnitsOpen bare l tss
+
+-- and so does each unit of the translation in a text
+abbrev pub TextOpens : (Phrase → ℕ) → ℕ → Text → Type 0
+TextOpens bare l w = (d : Located) → region_of (walk w) ≡ Some d → UnitsOpen bare l (units_in (inside_region d)).units

@@ -122,13 +122,16 @@ unit_by m p (tk.word x) = if is_own x then own_from m p x else defined_from m p 
 unit_by m p k = refuses
 
 -- the unit that these tokens spell, within a bound
-abbrev pub form_by : Bound → List Token → Option UnitForm
-form_by m [] = None
-form_by m (t ∷ ts) = whole (unit_by m t.place t.kind ts)
+abbrev pub form_within : Bound → List Token → Option UnitForm
+form_within m [] = None
+form_within m (t ∷ ts) = whole (unit_by m t.place t.kind ts)
 
 -- however deep it nests
 abbrev pub form_in : List Token → Option UnitForm
-form_in ts = form_by unbounded ts
+form_in ts = form_within unbounded ts
+
+abbrev pub unit_within : Bound → List Token → Option RegionUnit
+unit_within m ts = option_map unit_of (form_within m ts)
 
 abbrev pub unit_in : List Token → Option RegionUnit
-unit_in ts = option_map unit_of (form_in ts)
+unit_in ts = unit_within unbounded ts

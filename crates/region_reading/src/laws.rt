@@ -15,7 +15,7 @@ ghost use Rattle.region_reading.specs.Opens.{unit_opens};
 ghost use Rattle.region_reading.specs.NameReader.{names_step, names_in, bulleted_step, bulleted_from};
 ghost use Rattle.region_reading.specs.ItemReader.{item_step, whole_items};
 ghost use Rattle.region_reading.specs.CallReader.{way_in, spec_in};
-ghost use Rattle.region_reading.specs.UnitReader.{unit_by, form_by, form_in, unit_in};
+ghost use Rattle.region_reading.specs.UnitReader.{unit_by, form_within, form_in, unit_in};
 ghost use Rattle.region_reading.specs.RegionReader.{region_in};
 ghost use Rattle.region_reading.specs.ModuleReader.{module_in};
 
@@ -64,11 +64,11 @@ pub fn bounds_only_refuse()
             OnlyRefuses l (unit_opens bare) (unit_by (bounded x l) p k ts) (unit_by unbounded p k ts)
     }
     ensures same {
-        (x : ℕ → ℕ → Reader Phrase) (bare : Phrase → ℕ) → ReadsWithin x bare → (l : ℕ) (ts : List Token) (f : UnitForm) → form_by (bounded x l) ts ≡ Some f →
+        (x : ℕ → ℕ → Reader Phrase) (bare : Phrase → ℕ) → ReadsWithin x bare → (l : ℕ) (ts : List Token) (f : UnitForm) → form_within (bounded x l) ts ≡ Some f →
             (form_in ts ≡ Some f) × (unit_opens bare f ≤ l)
     }
     ensures fits {
         (x : ℕ → ℕ → Reader Phrase) (bare : Phrase → ℕ) → ReadsWithin x bare → (l : ℕ) (ts : List Token) (f : UnitForm) → form_in ts ≡ Some f → unit_opens bare f ≤ l →
-            form_by (bounded x l) ts ≡ Some f
+            form_within (bounded x l) ts ≡ Some f
     }
 {}
