@@ -1,5 +1,5 @@
 -- What a bound is where so many forms may open: a form deeper it is the bound of one form less, so code that counts down what may open reads within it.
-use Rattle.std.proofs.Common.{◌≡◌, ℕ, zero, suc, ◌-◌, ◌≤◌, nat_le, Bool, true, false, if◌then◌else◌, List, length, Option, Some, None, refl, sym, ap, ◌∙◌, subst, arith}
+use Rattle.std.proofs.Common.{◌≡◌, ℕ, suc, ◌-◌, ◌≤◌, nat_le, Bool, true, false, if◌then◌else◌, List, length, Option, Some, None, refl, ap, ◌∙◌, subst, arith}
 use Rattle.std.proofs.Math.Dec.{leb-suc-suc, leb-zero}
 use Rattle.std.proofs.lemmas.Option.{none-some, same_Some}
 use Rattle.tla_tree.specs.Lexical.{Token}

@@ -1,5 +1,5 @@
 -- Reading within a bound beside reading without: calls of actions, ways of a step, fairness, and conjuncts of Spec.
-use Rattle.std.proofs.Common.{◌≡◌, ℕ, suc, ◌+◌, ◌≤◌, max, bytes_eq, Bool, true, false, List, codes, Option, Some, None, refl, sym, ap, ◌∙◌, subst, arith}
+use Rattle.std.proofs.Common.{◌≡◌, ℕ, suc, ◌+◌, ◌≤◌, max, bytes_eq, Bool, true, false, List, codes, Option, Some, None, refl, arith}
 use Rattle.tla_token.specs.declared.place.Place.{Place}
 use Rattle.tla_tree.specs.declared.op.Op.TheVariants as op
 use Rattle.tla_tree.specs.Tree.{Word}
@@ -7,9 +7,9 @@ use Rattle.tla_tree.specs.Lexical.{TokenView, Token, mark, key}
 use Rattle.tla_tree.specs.Lexical as tk
 use Rattle.tla_tree.specs.Spelling.{Phrase}
 use Rattle.tla_tree.specs.Reader.{Reader, ◌>>=◌, gives, next, tail, place_if, is_mark, is_sign, word_of}
-use Rattle.module_tree.specs.Grammar.{CallForm, call_form, call_with_form, WayForm, one_form, some_form}
-use Rattle.module_tree.specs.Units.{OverForm, GuardForm, FairForm, SpecForm, start_line, steps_line, fair_line}
-use Rattle.region_reading.specs.Bound.{Bound, unbounded, deeper, ReadsWithin}
+use Rattle.module_tree.specs.Grammar.{CallForm, call_form, call_with_form, one_form, some_form}
+use Rattle.module_tree.specs.Units.{OverForm, GuardForm, FairForm, start_line, steps_line, fair_line}
+use Rattle.region_reading.specs.Bound.{unbounded, ReadsWithin}
 use Rattle.region_reading.specs.Opens.{call_opens, way_opens, over_opens, guard_opens, fair_opens, spec_opens}
 use Rattle.region_reading.specs.NameReader.{is_title}
 use Rattle.region_reading.specs.CallReader.{call_from, call_by, call_in, some_way_from, way_by, way_in, over_from, over_by, behind_over, guard_from, guard_by, behind_guard, strong_of, fair_end, fair_with, fair_from, fair_in, start_if, steps_from, spec_by, spec_in}

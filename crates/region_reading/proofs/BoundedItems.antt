@@ -1,5 +1,5 @@
 -- Reading within a bound beside reading without: names and parameters, forms behind bullets, and items.
-use Rattle.std.proofs.Common.{◌≡◌, ℕ, zero, suc, ◌+◌, ◌*◌, max, bytes_eq, Bool, true, false, List, [], ◌∷◌, codes, length, Option, Some, None, refl, arith}
+use Rattle.std.proofs.Common.{ℕ, zero, suc, ◌+◌, ◌*◌, max, bytes_eq, Bool, true, false, List, [], ◌∷◌, codes, length, Some, None, refl, arith}
 use Rattle.tla_token.specs.declared.place.Place.{Place}
 use Rattle.tla_tree.specs.declared.op.Op.{Op}
 use Rattle.tla_tree.specs.declared.op.Op.TheVariants as op
@@ -8,8 +8,7 @@ use Rattle.tla_tree.specs.Lexical.{TokenView, Token, mark, sign, key}
 use Rattle.tla_tree.specs.Lexical as tk
 use Rattle.tla_tree.specs.Spelling.{Phrase, head, is_primary}
 use Rattle.tla_tree.specs.Reader.{Reader, ◌>>=◌, gives, next, tail, place_if, is_mark, is_key, is_sign, word_of, bullet_of}
-use Rattle.module_tree.specs.Grammar.{Names, last_name, more_names, ItemForm, test_form, setting_form, unchanged_form, exists_form, local_form, choice_form, either_form, ListForm, last_item, more_items, BranchForms, last_branch, more_branches}
-use Rattle.module_tree.specs.Units.{ParameterForm}
+use Rattle.module_tree.specs.Grammar.{Names, ItemForm, test_form, setting_form, unchanged_form, exists_form, local_form, choice_form, either_form, ListForm, last_item, more_items, last_branch, more_branches}
 use Rattle.region_reading.specs.Bound.{Bound, unbounded, opened_if, ReadsWithin}
 use Rattle.region_reading.specs.Opens.{item_opens, list_opens, branches_open, bullets_open, parameters_open}
 use Rattle.region_reading.specs.NameReader.{names_by, some_names, names_in, parameters_from, parameters_by, parameters_in, is_bullet_in, bulleted_if, bulleted, bulleted_from, bulleted_in}

@@ -15,7 +15,7 @@ use Rattle.module_tree.specs.Units.{UnitForm, unit_of}
 use Rattle.region_reading.specs.Bound.{Bound, unbounded, bounded, ReadsWithin}
 use Rattle.region_reading.specs.Opens.{unit_opens, UnitsOpen, TextOpens}
 use Rattle.region_reading.specs.UnitReader.{form_within, form_in, unit_within}
-use Rattle.region_reading.specs.ModuleReader.{one_unit_more, units_are, region_of_units, is_sound_region, translation_in, translation_of, is_sound_file, module_of, outside_of_file, module_of_file, module_within, module_in}
+use Rattle.region_reading.specs.ModuleReader.{one_unit_more, units_are, region_of_units, is_sound_region, translation_of, is_sound_file, module_of, outside_of_file, module_of_file, module_within, module_in}
 use Rattle.region_reading.proofs.UnitsRead.{some_mapped}
 use Rattle.region_reading.proofs.BoundedUnits.{form_same, form_fits}
 

@@ -1,15 +1,15 @@
 -- Reading within a bound beside reading without: where it goes on, both read the same, and so many forms are open at most at the tokens so far; what is refused by `Syntax` is refused by both;
 -- and where it is too deep, what is read without a bound opens more.
-use Rattle.std.proofs.Common.{◌≡◌, ◌⊎◌, ℕ, zero, suc, ◌+◌, ◌-◌, ◌≤◌, ◌<◌, max, nat_le, Bool, true, false, if◌then◌else◌, List, [], ◌∷◌, Option, Some, None, Ok, Err, inl, inr, refl, sym, ap, ◌∙◌, subst, arith}
+use Rattle.std.proofs.Common.{◌≡◌, ◌⊎◌, ℕ, zero, suc, ◌+◌, ◌-◌, ◌≤◌, ◌<◌, max, nat_le, Bool, true, false, if◌then◌else◌, List, Option, Some, None, Ok, Err, inl, inr, refl, sym, ap, ◌∙◌, subst, arith}
 use Rattle.std.proofs.lemmas.Bool.Decides.{leb_tells}
 use Rattle.tla_token.specs.declared.place.Place.{Place}
 use Rattle.tla_token.specs.declared.rule.Rule.{Rule}
 use Rattle.tla_token.specs.declared.rule.Rule.TheVariants.{TooDeep, Syntax}
 use Rattle.tla_tree.specs.Lexical.{TokenView, Token}
 use Rattle.tla_tree.specs.Spelling.{Phrase}
-use Rattle.tla_tree.specs.Reader.{Stop, Out, Reader, then_read, gives, refuses, too_deep, next, took, take, read}
+use Rattle.tla_tree.specs.Reader.{Out, Reader, then_read, gives, refuses, too_deep, next, took, take, read}
 use Rattle.tla_tree.proofs.SoundTokens.{then_ok, ok_is}
-use Rattle.region_reading.specs.Bound.{Bound, unbounded, bounded, deeper, phrase_by, a_phrase, if_room, opened, token_by, opening, OnlyRefuses, ReadsWithin}
+use Rattle.region_reading.specs.Bound.{Bound, bounded, deeper, phrase_by, a_phrase, if_room, opened, token_by, opening, OnlyRefuses, ReadsWithin}
 
 -- ---- what is told of both
 
@@ -190,9 +190,9 @@ module _ {A : Type 0} (l d : ℕ) (opens : A → ℕ) where
       by : (o : Out A) → OnlyRefuses (l - d) opens o q → Told l d (λ a. d + opens a) o q
       by (Ok (a, us)) h = (let w = h.same a us refl in (w.0, λ z. (let low = w.1 in omega (arith, low, k))))
       by (Err (r, us)) h = elim (h.rule r us refl) [
-          inl e ↦ inl (e, h.none us (ap (λ (s : Rule). Err (s, us)) e))
+        | inl e ↦ inl (e, h.none us (ap (λ (s : Rule). Err (s, us)) e))
         | inr e ↦ inr (e, λ a vs i. (let over = h.deep us (ap (λ (s : Rule). Err (s, us)) e) a vs i in omega (arith, over, k)))
-        ]
+      ]
 
 -- where none is open round it
 module _ {A : Type 0} (l : ℕ) (opens : A → ℕ) (o q : Out A) (h : Bounded l 0 (λ a. 0 + opens a) o q) where
@@ -227,9 +227,9 @@ module _ {A : Type 0} (l : ℕ) (opens : A → ℕ) (q : Out A) (a : A) (us : Li
   pub what_fits_is_read : (o : Out A) → OnlyRefuses l opens o q → o ≡ Ok (a, us)
   what_fits_is_read (Ok (b, vs)) h = sym (h.same b vs refl).0 ∙ e
   what_fits_is_read (Err (r, vs)) h = elim (h.rule r vs refl) [
-      inl i ↦ absurd (h.none vs (ap (λ (s : Rule). Err (s, vs)) i) a us e)
+    | inl i ↦ absurd (h.none vs (ap (λ (s : Rule). Err (s, vs)) i) a us e)
     | inr i ↦ absurd (let over = h.deep vs (ap (λ (s : Rule). Err (s, vs)) i) a us e in omega (arith, over, low))
-    ]
+  ]
 
 -- ---- expressions
 

@@ -1,5 +1,5 @@
 -- Reading within a bound beside reading without: the units of a translation.
-use Rattle.std.proofs.Common.{◌≡◌, ℕ, suc, ◌+◌, ◌≤◌, max, bytes_eq, Bool, true, false, if◌then◌else◌, List, [], ◌∷◌, codes, Option, Some, None, Ok, refl, sym, ap, ◌∙◌, arith}
+use Rattle.std.proofs.Common.{◌≡◌, ℕ, suc, ◌+◌, ◌≤◌, max, bytes_eq, Bool, true, false, if◌then◌else◌, List, [], ◌∷◌, codes, Option, Some, None, refl, ap, ◌∙◌, arith}
 use Rattle.std.proofs.lemmas.Option.{none-some, same_Some}
 use Rattle.tla_token.specs.declared.place.Place.{Place}
 use Rattle.tla_token.specs.Words.{is_own}
@@ -8,16 +8,16 @@ use Rattle.tla_tree.specs.Tree.{Word}
 use Rattle.tla_tree.specs.Lexical.{TokenView, Token, sign}
 use Rattle.tla_tree.specs.Lexical as tk
 use Rattle.tla_tree.specs.Spelling.{Phrase}
-use Rattle.tla_tree.specs.Reader.{Out, Reader, ◌>>=◌, gives, next, place_if, is_mark, is_sign, bullet_of}
+use Rattle.tla_tree.specs.Reader.{Reader, next, place_if, is_mark, is_sign, bullet_of}
 use Rattle.module_tree.specs.Grammar.{Names, last_name, more_names}
-use Rattle.module_tree.specs.Units.{SpecForm, start_line, steps_line, fair_line, FairForm, fair_specs, ParameterForm, BodyForm, all_form, some_form, begins_list, UnitForm, constant_form, variables_form, definition_form, vars_form, process_set_form, init_form, action_form, terminating_form, next_form, spec_form, termination_form}
+use Rattle.module_tree.specs.Units.{SpecForm, start_line, steps_line, FairForm, ParameterForm, BodyForm, all_form, some_form, begins_list, UnitForm, constant_form, variables_form, definition_form, vars_form, process_set_form, init_form, action_form, terminating_form, next_form, spec_form, termination_form}
 use Rattle.outside_reading.specs.PlainUnits.{is_keyword}
-use Rattle.region_reading.specs.Bound.{Bound, unbounded, deeper, a_phrase, bounded, OnlyRefuses, ReadsWithin}
+use Rattle.region_reading.specs.Bound.{Bound, unbounded, a_phrase, bounded, OnlyRefuses, ReadsWithin}
 use Rattle.region_reading.specs.Opens.{item_opens, list_opens, bullets_open, call_opens, way_opens, fair_opens, spec_opens, parameters_open, body_opens, unit_opens}
 use Rattle.region_reading.specs.NameReader.{whole, gives_if, is_title, names_in, parameters_in, bulleted_in}
 use Rattle.region_reading.specs.ItemReader.{whole_items, list_in}
 use Rattle.region_reading.specs.CallReader.{call_in, way_in, fair_in, spec_in, fairs_of}
-use Rattle.region_reading.specs.UnitReader.{vars_from, process_set_from, init_from, terminating_after, terminating_from, next_from, spec_with, spec_of, spec_from, termination_from, own_from, body_by, body_in, one_parameter, action_of, action_with, action_from, definition_from, defined_by, defined_from, constant_from, variables_from, declared_from, unit_by, form_within, form_in}
+use Rattle.region_reading.specs.UnitReader.{vars_from, process_set_from, init_from, terminating_from, next_from, spec_with, spec_of, spec_from, termination_from, own_from, body_by, body_in, one_parameter, action_of, action_with, action_from, definition_from, defined_from, constant_from, variables_from, declared_from, unit_by, form_within, form_in}
 use Rattle.region_reading.proofs.CallsRead.{fairs_ok}
 use Rattle.region_reading.proofs.UnitsRead.{whole_ok}
 use Rattle.region_reading.proofs.BoundedSteps.{Bounded, within, bounded_gives, bounded_refuses, bounded_bind, then_part, then_plain, then_token, then_opening, bounded_phrase, only_refuses, what_fits_is_read}
@@ -150,7 +150,7 @@ module _ (x : ℕ → ℕ → Reader Phrase) (bare : Phrase → ℕ) (w : ReadsW
       bounded_bind (bounded_parameters x l d ts)
       (λ f us. then_token 1 (place_if (is_mark tk.defines)) us
       (λ q vs. bounded_choice (begins_list vs) (action_from (within x l d) p y f q) (action_from unbounded p y f q) (definition_from (within x l d) p y f q) (definition_from unbounded p y f q) vs
-          (bounded_action p y f q vs) (bounded_definition p y f q vs)))
+      (bounded_action p y f q vs) (bounded_definition p y f q vs)))
 
   -- ---- units, by their first token
 

@@ -16,7 +16,7 @@ use Rattle.tla_tree.proofs.Whole.{fair_same}
 use Rattle.module_tree.specs.Grammar.{ItemForm, ListForm, Names}
 use Rattle.module_tree.specs.Grammar as gr
 use Rattle.module_tree.specs.Units as un
-use Rattle.region_reading.specs.Bound.{Bound, unbounded, deeper, phrase_by, a_phrase, if_room, opened, deep_at, token_by, opening, rest, Shortens}
+use Rattle.region_reading.specs.Bound.{Bound, unbounded, deeper, phrase_by, a_phrase, if_room, token_by, opening, rest, Shortens}
 use Rattle.region_reading.specs.NameReader.{is_title, a_title, names_by, names_step, some_names, names_in, is_bullet_in, bulleted_if, bulleted_step, bulleted, bulleted_from}
 use Rattle.region_reading.specs.ItemReader.{ItemReaders, operand_if, an_operand, test_from, setting_from, unchanged_from, exists_from, local_from, choice_from, unchanged_if, item_by, list_by, items_if, branches_if, item_step, item_readers, whole_items}
 use Rattle.region_reading.specs.CallReader.{call_from, call_by, call_in, some_way_from, way_by, way_in, over_from, over_by, behind_over, guard_from, guard_by, behind_guard, strong_of, fair_end, fair_with, fair_from, fair_in, start_if, steps_from, spec_by, spec_in}

@@ -14,7 +14,7 @@ Bound = ℕ → Option (ℕ → Reader Phrase)
 abbrev pub unbounded : Bound
 unbounded k = Some read
 
--- so many forms may be open; x reads an expression in which so many may open, right of an edge
+-- l forms may be open; x reads an expression in which so many may be, right of an edge
 abbrev pub bounded : (ℕ → ℕ → Reader Phrase) → ℕ → Bound
 bounded x l k = if nat_le k l then Some (x (l - k)) else None
 
@@ -58,8 +58,8 @@ opening m p = token_by (m 1) p
 
 -- ---- what a bound does
 
--- With a bound, where l forms may be open, beside without: what is read is read without it too, and opens so many at most; where it is refused by `Syntax`, it is refused without the bound too;
--- where it is too deep, that is so too, or what is read opens more; and there is no other rule.
+-- o is read where l forms may be open, and q without a bound: what is read is the same, and opens so many at most; what is refused by `Syntax` is refused without a bound;
+-- where it is too deep, it is refused without a bound, or what is read opens more; and no other rule is answered.
 pub record OnlyRefuses {A : Type 0} (l : ℕ) (opens : A → ℕ) (o q : Out A) : Type 0 where
   pub same : (a : A) (us : List Token) → o ≡ Ok (a, us) → (q ≡ Ok (a, us)) × (opens a ≤ l)
   pub none : (us : List Token) → o ≡ Err (Syntax, us) → (a : A) (vs : List Token) → q ≡ Ok (a, vs) → ⊥

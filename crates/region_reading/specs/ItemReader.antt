@@ -26,7 +26,7 @@ operand_if false a = refuses
 abbrev pub an_operand : Bound → ℕ → Reader Phrase
 an_operand m e = a_phrase m e >>= λ a. operand_if (is_primary (head a)) a
 
--- ---- one item, by its first token; what opens a form there is past it
+-- ---- one item, by its first token; the bound is of what is behind that
 
 abbrev pub test_from : Bound → ℕ → Place → Reader ItemForm
 test_from m e p = a_phrase m e >>= λ a. a_mark e tk.close_bracket >>= λ q. gives (test_form p a q)

@@ -1,5 +1,5 @@
 -- The most forms that are open at a token of what was read, where bare tells it of an expression.
--- A form counts from its own token on: a list behind bullets to its end, brackets to theirs, an open form and a prefix operator to the end of the last part, and an infix operator to the end of its chain.
+-- A form counts from its own token on: a list behind bullets to its end, brackets to theirs, an open form and a prefix operator to the end of the last part, an infix operator to that of its chain.
 use Rattle.std.specs.Prelude.{◌≡◌, ℕ, ◌+◌, ◌≤◌, max, List, [], ◌∷◌, Option, Some, None}
 use Rattle.tla_token.specs.declared.place.Place.{Place}
 use Rattle.tla_tree.specs.Tree.{Word}
@@ -48,7 +48,7 @@ way_opens bare (some_form p q x s a t u) = 1 + max (bare a) (call_opens bare u)
 
 -- ---- fairness
 
--- with so many open behind `\A x \in S :`, or behind `(e) /\`
+-- with n open behind `\A x \in S :`, or behind `(e) /\`
 abbrev pub over_opens : (Phrase → ℕ) → Option OverForm → ℕ → ℕ
 over_opens bare None n = n
 over_opens bare (Some f) n = 1 + max (bare f.set) n

@@ -11,13 +11,13 @@ ghost use Rattle.module_tree.specs.TextFront.{Text};
 ghost use Rattle.module_tree.specs.Units.{UnitForm, spell_unit, GoodUnit, IsUnit};
 ghost use Rattle.module_tree.specs.Reading.{Reads};
 ghost use Rattle.region_reading.specs.Bound.{Bound, unbounded, bounded, a_phrase, OnlyRefuses, ReadsWithin, Shortens};
-ghost use Rattle.region_reading.specs.Opens.{unit_opens};
+ghost use Rattle.region_reading.specs.Opens.{unit_opens, TextOpens};
 ghost use Rattle.region_reading.specs.NameReader.{names_step, names_in, bulleted_step, bulleted_from};
 ghost use Rattle.region_reading.specs.ItemReader.{item_step, whole_items};
 ghost use Rattle.region_reading.specs.CallReader.{way_in, spec_in};
 ghost use Rattle.region_reading.specs.UnitReader.{unit_by, form_within, form_in, unit_in};
 ghost use Rattle.region_reading.specs.RegionReader.{region_in};
-ghost use Rattle.region_reading.specs.ModuleReader.{module_in};
+ghost use Rattle.region_reading.specs.ModuleReader.{module_within, module_in};
 
 /// The unit that is read of tokens is one that may be spelled, and spelled just so; and each unit that may be spelled is read of its tokens.
 /// So what is read of tokens is the unit of a translation that they are, and where none is read they are no unit.
@@ -57,18 +57,16 @@ pub fn enough_steps_are_enough()
 
 /// A bound only refuses, where expressions are read so that theirs does: what is read of a unit is what is read without a bound, and opens no more forms than may be
 /// open; it is refused by `Syntax` only where it is refused without a bound, and by `TooDeep` only where that is so or what is read opens more.
-/// So each unit that opens no more forms is read.
+/// So each unit that opens no more forms is read, and a text is read as a module within the bound exactly if it is one and no unit of its translation opens more.
 pub fn bounds_only_refuse()
-    ensures unit {
-        (x : ℕ → ℕ → Reader Phrase) (bare : Phrase → ℕ) → ReadsWithin x bare → (l : ℕ) (p : Place) (k : TokenView) (ts : List Token) →
-            OnlyRefuses l (unit_opens bare) (unit_by (bounded x l) p k ts) (unit_by unbounded p k ts)
-    }
-    ensures same {
-        (x : ℕ → ℕ → Reader Phrase) (bare : Phrase → ℕ) → ReadsWithin x bare → (l : ℕ) (ts : List Token) (f : UnitForm) → form_within (bounded x l) ts ≡ Some f →
-            (form_in ts ≡ Some f) × (unit_opens bare f ≤ l)
-    }
-    ensures fits {
-        (x : ℕ → ℕ → Reader Phrase) (bare : Phrase → ℕ) → ReadsWithin x bare → (l : ℕ) (ts : List Token) (f : UnitForm) → form_in ts ≡ Some f → unit_opens bare f ≤ l →
-            form_within (bounded x l) ts ≡ Some f
-    }
+    ensures unit { (x : ℕ → ℕ → Reader Phrase) (bare : Phrase → ℕ) → ReadsWithin x bare → (l : ℕ) (p : Place) (k : TokenView) (ts : List Token) →
+        OnlyRefuses l (unit_opens bare) (unit_by (bounded x l) p k ts) (unit_by unbounded p k ts) }
+    ensures same { (x : ℕ → ℕ → Reader Phrase) (bare : Phrase → ℕ) → ReadsWithin x bare → (l : ℕ) (ts : List Token) (f : UnitForm) → form_within (bounded x l) ts ≡ Some f →
+        (form_in ts ≡ Some f) × (unit_opens bare f ≤ l) }
+    ensures fits { (x : ℕ → ℕ → Reader Phrase) (bare : Phrase → ℕ) → ReadsWithin x bare → (l : ℕ) (ts : List Token) (f : UnitForm) → form_in ts ≡ Some f → unit_opens bare f ≤ l →
+        form_within (bounded x l) ts ≡ Some f }
+    ensures sound { (x : ℕ → ℕ → Reader Phrase) (bare : Phrase → ℕ) → ReadsWithin x bare → (l : ℕ) (w : Text) (m : Module) → module_within (bounded x l) w ≡ Some m →
+        (module_in w ≡ Some m) × TextOpens bare l w }
+    ensures complete { (x : ℕ → ℕ → Reader Phrase) (bare : Phrase → ℕ) → ReadsWithin x bare → (l : ℕ) (w : Text) → TextOpens bare l w → (m : Module) → module_in w ≡ Some m →
+        module_within (bounded x l) w ≡ Some m }
 {}
