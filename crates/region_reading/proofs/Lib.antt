@@ -13,4 +13,5 @@ pub mod BoundedCalls
 pub mod BoundedUnits
 pub mod BoundedModules
 pub mod BoundLaws
+pub mod BoundMet
 mod Rows
