@@ -11,7 +11,8 @@ use Rattle.tla_tree.specs.Reader.{Reader, next, take, bullet_of, is_sign}
 use Rattle.tla_tree.proofs.ReadStops.{is_calm}
 use Rattle.tla_tree.proofs.SoundTokens.{then_ok, given, taken, take_ok, if_some, sign_is}
 use Rattle.module_tree.specs.Grammar.{Tokens, see, spell_bullets, GoodBullets, GoodSome}
-use Rattle.region_reading.specs.NameReader.{is_bullet_in, bulleted_if, bulleted, bulleted_in}
+use Rattle.region_reading.specs.Bound.{Bound, unbounded, opened_if}
+use Rattle.region_reading.specs.NameReader.{is_bullet_in, bulleted_if, bulleted, bulleted_from, bulleted_in}
 
 -- ---- one bullet
 
@@ -78,13 +79,22 @@ module _ {A : Type 0} (o : Op) (P : ℕ → A → Type 0) (S : A → Tokens) (f 
   are_some c [] g h = absurd g
   are_some c (x ∷ xs) g h = (g, subst (λ (n : ℕ). GoodBullets P n (x ∷ xs)) (sym h.0) h)
 
-  pub bulleted_in_ok : IsSound P S f → (ts : List Token) (xs : List (Place × A)) (us : List Token) → bulleted_in o f ts ≡ Ok (xs, us) → GoodSome P xs × (spell_bullets (sign o) S xs us ≡ ts)
-  bulleted_in_ok s ts xs us i =
-      let w = bulleted_ok s (length ts) (next 1 ts).place.col ts xs us i in
-      (are_some (next 1 ts).place.col xs w.0 w.1, w.2)
+  bulleted_from_ok : IsSound P S f → (c : ℕ) (ts : List Token) (xs : List (Place × A)) (us : List Token) → bulleted_from o f c ts ≡ Ok (xs, us) → GoodSome P xs × (spell_bullets (sign o) S xs us ≡ ts)
+  bulleted_from_ok s c ts xs us i = (let w = bulleted_ok s (length ts) c ts xs us i in (are_some c xs w.0 w.1, w.2))
+
+module _ {A : Type 0} (o : Op) (P : ℕ → A → Type 0) (S : A → Tokens) (f : Bound → ℕ → Reader A) where
+  pub bulleted_in_ok : IsSound P S (f unbounded) → (ts : List Token) (xs : List (Place × A)) (us : List Token) → bulleted_in unbounded o f ts ≡ Ok (xs, us) → GoodSome P xs × (spell_bullets (sign o) S xs us ≡ ts)
+  bulleted_in_ok s ts xs us i = by (is_sign o (next 1 ts).kind) i
+    where
+      by : (b : Bool) → opened_if b unbounded (λ n. bulleted_from o (f n) (next 1 ts).place.col) ts ≡ Ok (xs, us) → GoodSome P xs × (spell_bullets (sign o) S xs us ≡ ts)
+      by true i = bulleted_from_ok o P S (f unbounded) s (next 1 ts).place.col ts xs us i
+      by false i = absurd cc
 
 first_column : (p : Place) (k : TokenView) (r : List Token) → Right 1 p → (next 1 (see p k r)).place.col ≡ p.col
 first_column p k r g = rw g refl
+
+first_sign : (o : Op) (p : Place) (r : List Token) → Right 1 p → is_sign o (next 1 (see p (sign o) r)).kind ≡ true
+first_sign o p r g = rw (g, same_sign o) refl
 
 -- before tokens of which K holds, f reads what is spelled
 abbrev pub IsComplete : {A : Type 0} → (ℕ → List Token → Type 0) → (ℕ → A → Type 0) → (A → Tokens) → (ℕ → Reader A) → Type 0
@@ -110,9 +120,17 @@ module _ {A : Type 0} (o : Op) (K : ℕ → List Token → Type 0) (P : ℕ → 
       let z = bulleted_read d s m n c l y xs g.2 (omega (arith, h, m x.1 (bullets (y ∷ xs)))) in
       rw (t, u, b, z) refl
 
-  pub bulleted_in_read : Ends o K → IsComplete K P S f → ((a : A) (r : List Token) → length r ≤ length (S a r)) → (xs : List (Place × A)) → GoodSome P xs
-      → bulleted_in o f (bullets xs) ≡ Ok (xs, [])
-  bulleted_in_read d s m [] g = absurd g
-  bulleted_in_read d s m (x ∷ xs) g =
+  bulleted_from_read : Ends o K → IsComplete K P S f → ((a : A) (r : List Token) → length r ≤ length (S a r)) → (x : Place × A) (xs : List (Place × A)) → GoodSome P (x ∷ xs)
+      → bulleted_from o f (next 1 (bullets (x ∷ xs))).place.col (bullets (x ∷ xs)) ≡ Ok (x ∷ xs, [])
+  bulleted_from_read d s m x xs g =
       let z = bulleted_read d s m (length (bullets (x ∷ xs))) x.0.col g.0 x xs g.1 (omega arith) in
       ap (λ (c : ℕ). bulleted (length (bullets (x ∷ xs))) o f c (bullets (x ∷ xs))) (first_column x.0 (sign o) (S x.1 (bullets xs)) g.0) ∙ z
+
+module _ {A : Type 0} (o : Op) (K : ℕ → List Token → Type 0) (P : ℕ → A → Type 0) (S : A → Tokens) (f : Bound → ℕ → Reader A) where
+  pub bulleted_in_read : Ends o K → IsComplete K P S (f unbounded) → ((a : A) (r : List Token) → length r ≤ length (S a r)) → (xs : List (Place × A)) → GoodSome P xs
+      → bulleted_in unbounded o f (spell_bullets (sign o) S xs []) ≡ Ok (xs, [])
+  bulleted_in_read d s m [] g = absurd g
+  bulleted_in_read d s m (x ∷ xs) g =
+      let ts = spell_bullets (sign o) S (x ∷ xs) [] in
+      ap (λ (b : Bool). opened_if b unbounded (λ n. bulleted_from o (f n) (next 1 ts).place.col) ts) (first_sign o x.0 (S x.1 (spell_bullets (sign o) S xs [])) g.0)
+      ∙ bulleted_from_read o K P S (f unbounded) d s m x xs g

@@ -1,5 +1,6 @@
 -- Enough steps are enough: with more of them each reader does the same, so the readers with as many as they need are one step over themselves.
-use Rattle.std.proofs.Common.{◌≡◌, ℕ, zero, suc, ◌+◌, ◌*◌, ◌≤◌, min, bytes_eq, Bool, true, false, List, [], ◌∷◌, length, codes, Option, Some, None, Err, refl, sym, ◌∙◌, arith}
+use Rattle.std.proofs.Common.{◌≡◌, ℕ, zero, suc, ◌+◌, ◌*◌, ◌≤◌, min, bytes_eq, Bool, true, false, List, [], ◌∷◌, length, codes, Option, Some, None, Ok, Err, refl, sym, subst, ◌∙◌, arith}
+use Rattle.std.proofs.lemmas.Option.{same_Some}
 use Rattle.tla_token.specs.declared.place.Place.{Place}
 use Rattle.tla_token.specs.declared.rule.Rule.TheVariants.{Syntax}
 use Rattle.tla_tree.specs.declared.op.Op.{Op}
@@ -8,16 +9,17 @@ use Rattle.tla_tree.specs.Tree.{Word}
 use Rattle.tla_tree.specs.Lexical.{Mark, Key, TokenView, Token, mark, sign, key}
 use Rattle.tla_tree.specs.Lexical as tk
 use Rattle.tla_tree.specs.Spelling.{Phrase, head, is_primary}
-use Rattle.tla_tree.specs.Reader.{Reader, free, ◌>>=◌, gives, next, took, take, place_if, is_mark, is_key, is_sign, word_of, bullet_of, a_mark, a_key, a_sign, a_word, read}
+use Rattle.tla_tree.specs.Reader.{Out, Reader, free, then_read, ◌>>=◌, too_deep, gives, next, took, take, place_if, is_mark, is_key, is_sign, word_of, bullet_of, a_mark, a_key, a_sign, a_word, read}
 use Rattle.tla_tree.proofs.Alike.{rest_of}
-use Rattle.tla_tree.proofs.Enough.{IsFair, weaker, fair_gives, fair_refuses, fair_skip, fair_peek, fair_bind, fair_take}
+use Rattle.tla_tree.proofs.Enough.{IsFair, weaker, fair_gives, fair_refuses, fair_deep, fair_skip, fair_peek, fair_bind, fair_take}
 use Rattle.tla_tree.proofs.Whole.{fair_same}
 use Rattle.module_tree.specs.Grammar.{ItemForm, ListForm, Names}
 use Rattle.module_tree.specs.Grammar as gr
 use Rattle.module_tree.specs.Units as un
+use Rattle.region_reading.specs.Bound.{Bound, unbounded, deeper, phrase_by, a_phrase, if_room, token_by, opening, rest, Shortens}
 use Rattle.region_reading.specs.NameReader.{is_title, a_title, names_by, names_step, some_names, names_in, is_bullet_in, bulleted_if, bulleted_step, bulleted, bulleted_from}
 use Rattle.region_reading.specs.ItemReader.{ItemReaders, operand_if, an_operand, test_from, setting_from, unchanged_from, exists_from, local_from, choice_from, unchanged_if, item_by, list_by, items_if, branches_if, item_step, item_readers, whole_items}
-use Rattle.region_reading.specs.CallReader.{call_by, call_in, some_way_from, way_by, way_in, over_from, over_by, guard_from, guard_by, strong_of, fair_in, start_if, steps_from, spec_by, spec_in}
+use Rattle.region_reading.specs.CallReader.{call_from, call_by, call_in, some_way_from, way_by, way_in, over_from, over_by, behind_over, guard_from, guard_by, behind_guard, strong_of, fair_end, fair_with, fair_from, fair_in, start_if, steps_from, spec_by, spec_in}
 
 -- ---- readers without steps of their own leave no more tokens than there were
 
@@ -45,11 +47,45 @@ module _ {b : ℕ} where
   one_title : (e : ℕ) (w : Word) → IsFair b (a_title e w) (a_title e w)
   one_title e w = one_token e (place_if (is_title w))
 
-  phrase : (e : ℕ) → IsFair b (read e) (read e)
-  phrase e = record { less = λ ts. ((fair_same true (4 * length ts) None).expr e free).less ts; same = λ ts m. refl }
+-- ---- within a bound
 
-  operand : (e : ℕ) → IsFair b (an_operand e) (an_operand e)
-  operand e = fair_bind (phrase e) (λ a. by (is_primary (head a)) a)
+rest_is : {A : Type 0} (o : Out A) → rest o ≡ rest_of o
+rest_is (Ok x) = refl
+rest_is (Err s) = refl
+
+deepens : {m : Bound} → Shortens m → Shortens (deeper m)
+deepens s k f h e ts = s (suc k) f h e ts
+
+-- without one, expressions leave no more tokens than there were
+pub any_shortens : Shortens unbounded
+any_shortens k f h e ts = subst (λ (g : ℕ → Reader Phrase). length (rest (g e ts)) ≤ length ts) (same_Some read f h) (rw (rest_is (read e ts)) (((fair_same true (4 * length ts) None).expr e free).less ts))
+
+module _ {A : Type 0} {b : ℕ} where
+  fair_room : {p q : Reader A} (o : Option (ℕ → Reader Phrase)) → IsFair b p q → IsFair b (if_room o p) (if_room o q)
+  fair_room (Some f) h = h
+  fair_room None h = fair_deep
+
+  fair_opening : {p : Reader A} (m : Bound) → IsFair b p p → IsFair b (opening m p) (opening m p)
+  fair_opening {p} m h = by (m 1)
+    where
+      less : (ts : List Token) (o : Out A) → length (rest_of o) ≤ length ts → length (rest_of (then_read o (λ a us. too_deep {A = A} ts))) ≤ length ts
+      less ts (Ok x) l = omega arith
+      less ts (Err s) l = l
+
+      by : (o : Option (ℕ → Reader Phrase)) → IsFair b (token_by o p) (token_by o p)
+      by (Some x) = h
+      by None = record { less = λ ts. less ts (p ts) (h.less ts); same = λ ts n. refl }
+
+module _ {b : ℕ} where
+  phrase : {m : Bound} → Shortens m → (e : ℕ) → IsFair b (a_phrase m e) (a_phrase m e)
+  phrase {m} s e = by (m 0) refl
+    where
+      by : (o : Option (ℕ → Reader Phrase)) → m 0 ≡ o → IsFair b (phrase_by o e) (phrase_by o e)
+      by (Some f) h = record { less = λ ts. subst (λ (us : List Token). length us ≤ length ts) (rest_is (f e ts)) (s 0 f h e ts); same = λ ts n. refl }
+      by None h = fair_deep
+
+  operand : {m : Bound} → Shortens m → (e : ℕ) → IsFair b (an_operand m e) (an_operand m e)
+  operand s e = fair_bind (phrase s e) (λ a. by (is_primary (head a)) a)
     where
       by : (p : Bool) (a : Phrase) → IsFair b (operand_if p a) (operand_if p a)
       by true a = fair_gives
@@ -136,164 +172,181 @@ module _ {A : Type 0} (o : Op) (f : ℕ → Reader A) (h : (b e : ℕ) → IsFai
 
 -- ---- calls, ways and conjuncts of Spec
 
+over_shortens : {m : Bound} → Shortens m → (o : Option un.OverForm) → Shortens (behind_over m o)
+over_shortens s (Some f) = deepens s
+over_shortens s None = s
+
+guard_shortens : {m : Bound} → Shortens m → (o : Option un.GuardForm) → Shortens (behind_guard m o)
+guard_shortens s (Some f) = deepens s
+guard_shortens s None = s
+
 module _ {b : ℕ} where
-  call_rest : (e : ℕ) (p : Place) (x : Word) (q : Place) → IsFair b (read e >>= λ a. a_mark e tk.close_bracket >>= λ s. gives (gr.call_with_form p x q a s)) (read e >>= λ a. a_mark e tk.close_bracket >>= λ s. gives (gr.call_with_form p x q a s))
-  call_rest e p x q = fair_bind (phrase e) (λ a. fair_bind (one_mark e tk.close_bracket) (λ s. fair_gives))
+  call_rest : {m : Bound} → Shortens m → (e : ℕ) (p : Place) (x : Word) (q : Place) → IsFair b (call_from m e p x q) (call_from m e p x q)
+  call_rest s e p x q = fair_bind (phrase s e) (λ a. fair_bind (one_mark e tk.close_bracket) (λ t. fair_gives))
 
-  fair_call_by : (e : ℕ) (p : Place) (x : Word) (q : Place) (k : TokenView) → IsFair b (call_by e p x q k) (call_by e p x q k)
-  fair_call_by e p x q (mark tk.open_bracket) = fair_skip (omega arith) (call_rest e p x q)
-  fair_call_by e p x q k = fair_gives
+  fair_call_by : {m : Bound} → Shortens m → (e : ℕ) (p : Place) (x : Word) (q : Place) (k : TokenView) → IsFair b (call_by m e p x q k) (call_by m e p x q k)
+  fair_call_by {m} s e p x q (mark tk.open_bracket) = fair_room (m 1) (fair_skip (omega arith) (call_rest (deepens s) e p x q))
+  fair_call_by s e p x q k = fair_gives
 
-  fair_call : (e : ℕ) → IsFair b (call_in e) (call_in e)
-  fair_call e = fair_bind (one_word e) (λ x. fair_peek e (fair_call_by e x.0 x.1))
+  fair_call : {m : Bound} → Shortens m → (e : ℕ) → IsFair b (call_in m e) (call_in m e)
+  fair_call s e = fair_bind (one_word e) (λ x. fair_peek e (fair_call_by s e x.0 x.1))
 
-  one_call : (e : ℕ) → IsFair b (call_in e >>= λ u. gives (gr.one_form u)) (call_in e >>= λ u. gives (gr.one_form u))
-  one_call e = fair_bind (fair_call e) (λ u. fair_gives)
+  one_call : {m : Bound} → Shortens m → (e : ℕ) → IsFair b (call_in m e >>= λ u. gives (gr.one_form u)) (call_in m e >>= λ u. gives (gr.one_form u))
+  one_call s e = fair_bind (fair_call s e) (λ u. fair_gives)
 
-  some_call : (e : ℕ) (p : Place) → IsFair b (some_way_from e p) (some_way_from e p)
-  some_call e p = fair_bind (one_word e) (λ x. fair_bind (one_sign e op.In) (λ s. fair_bind (phrase e) (λ a. fair_bind (one_mark e tk.colon) (λ t. fair_bind (fair_call e) (λ u. fair_gives)))))
+  some_call : {m : Bound} → Shortens m → (e : ℕ) (p : Place) → IsFair b (some_way_from m e p) (some_way_from m e p)
+  some_call s e p = fair_bind (one_word e) (λ x. fair_bind (one_sign e op.In) (λ y. fair_bind (phrase s e) (λ a. fair_bind (one_mark e tk.colon) (λ t. fair_bind (fair_call s e) (λ u. fair_gives)))))
 
-  fair_way_by : (e : ℕ) (p : Place) (k : TokenView) → IsFair b (way_by e p k) (way_by e p k)
-  fair_way_by e p (key tk.exists_key) = fair_skip (omega arith) (some_call e p)
-  fair_way_by e p k = one_call e
+  fair_way_by : {m : Bound} → Shortens m → (e : ℕ) (p : Place) (k : TokenView) → IsFair b (way_by m e p k) (way_by m e p k)
+  fair_way_by {m} s e p (key tk.exists_key) = fair_room (m 1) (fair_skip (omega arith) (some_call (deepens s) e p))
+  fair_way_by s e p k = one_call s e
 
-  fair_way : (e : ℕ) → IsFair b (way_in e) (way_in e)
-  fair_way e = fair_peek e (fair_way_by e)
+  fair_way : {m : Bound} → Shortens m → (e : ℕ) → IsFair b (way_in m e) (way_in m e)
+  fair_way s e = fair_peek e (fair_way_by s e)
 
-  over_rest : (e : ℕ) (p : Place) → IsFair b (over_from e p) (over_from e p)
-  over_rest e p = fair_bind (one_word e) (λ x. fair_bind (one_sign e op.In) (λ s. fair_bind (phrase e) (λ a. fair_bind (one_mark e tk.colon) (λ t. fair_gives))))
+  over_rest : {m : Bound} → Shortens m → (e : ℕ) (p : Place) → IsFair b (over_from m e p) (over_from m e p)
+  over_rest s e p = fair_bind (one_word e) (λ x. fair_bind (one_sign e op.In) (λ y. fair_bind (phrase s e) (λ a. fair_bind (one_mark e tk.colon) (λ t. fair_gives))))
 
-  fair_over_by : (e : ℕ) (p : Place) (k : TokenView) → IsFair b (over_by e p k) (over_by e p k)
-  fair_over_by e p (key tk.for_all_key) = fair_skip (omega arith) (over_rest e p)
-  fair_over_by e p k = fair_gives
+  fair_over_by : {m : Bound} → Shortens m → (e : ℕ) (p : Place) (k : TokenView) → IsFair b (over_by m e p k) (over_by m e p k)
+  fair_over_by {m} s e p (key tk.for_all_key) = fair_room (m 1) (fair_skip (omega arith) (over_rest (deepens s) e p))
+  fair_over_by s e p k = fair_gives
 
-  guard_rest : (e : ℕ) (p : Place) → IsFair b (guard_from e p) (guard_from e p)
-  guard_rest e p = fair_bind (phrase e) (λ a. fair_bind (one_mark e tk.close_bracket) (λ q. fair_bind (one_sign e op.And) (λ s. fair_gives)))
+  guard_rest : (m : Bound) {n : Bound} → Shortens n → (e : ℕ) (p : Place) → IsFair b (guard_from m n e p) (guard_from m n e p)
+  guard_rest m s e p = fair_bind (phrase s e) (λ a. fair_bind (one_mark e tk.close_bracket) (λ q. fair_bind (fair_opening m (one_sign e op.And)) (λ y. fair_gives)))
 
-  fair_guard_by : (e : ℕ) (p : Place) (k : TokenView) → IsFair b (guard_by e p k) (guard_by e p k)
-  fair_guard_by e p (mark tk.open_bracket) = fair_skip (omega arith) (guard_rest e p)
-  fair_guard_by e p k = fair_gives
+  fair_guard_by : {m : Bound} → Shortens m → (e : ℕ) (p : Place) (k : TokenView) → IsFair b (guard_by m e p k) (guard_by m e p k)
+  fair_guard_by {m} s e p (mark tk.open_bracket) = fair_room (m 1) (fair_skip (omega arith) (guard_rest m (deepens s) e p))
+  fair_guard_by s e p k = fair_gives
 
-  fair_fair : (e : ℕ) → IsFair b (fair_in e) (fair_in e)
-  fair_fair e =
-      fair_bind (fair_peek e (fair_over_by e)) (λ o. fair_bind (one_token e strong_of) (λ s. fair_bind (one_mark e tk.open_bracket) (λ p.
-      fair_bind (fair_peek e (fair_guard_by e)) (λ g. fair_bind (fair_call e) (λ u. fair_bind (one_mark e tk.close_bracket) (λ q. fair_gives))))))
+  fair_fair_end : {m : Bound} → Shortens m → (e : ℕ) (o : Option un.OverForm) (x : Place × Bool) (p : Place) (g : Option un.GuardForm) → IsFair b (fair_end m e o x p g) (fair_end m e o x p g)
+  fair_fair_end s e o x p g = fair_bind (fair_call s e) (λ u. fair_bind (one_mark e tk.close_bracket) (λ q. fair_gives))
 
-  fair_line : (e : ℕ) → IsFair b (fair_in e >>= λ f. gives (un.fair_line f)) (fair_in e >>= λ f. gives (un.fair_line f))
-  fair_line e = fair_bind (fair_fair e) (λ f. fair_gives)
+  fair_fair_with : {m : Bound} → Shortens m → (e : ℕ) (o : Option un.OverForm) (x : Place × Bool) (p : Place) → IsFair b (fair_with m e o x p) (fair_with m e o x p)
+  fair_fair_with s e o x p = fair_bind (fair_peek e (fair_guard_by s e)) (λ g. fair_fair_end (guard_shortens s g) e o x p g)
+
+  fair_fair_from : {m : Bound} → Shortens m → (e : ℕ) (o : Option un.OverForm) → IsFair b (fair_from m e o) (fair_from m e o)
+  fair_fair_from {m} s e o = fair_bind (one_token e strong_of) (λ x. fair_bind (fair_opening m (one_mark e tk.open_bracket)) (λ p. fair_fair_with (deepens s) e o x p))
+
+  fair_fair : {m : Bound} → Shortens m → (e : ℕ) → IsFair b (fair_in m e) (fair_in m e)
+  fair_fair s e = fair_bind (fair_peek e (fair_over_by s e)) (λ o. fair_fair_from (over_shortens s o) e o)
+
+  fair_line : {m : Bound} → Shortens m → (e : ℕ) → IsFair b (fair_in m e >>= λ f. gives (un.fair_line f)) (fair_in m e >>= λ f. gives (un.fair_line f))
+  fair_line s e = fair_bind (fair_fair s e) (λ f. fair_gives)
 
   fair_start : (t : Bool) (p : Place) → IsFair b (start_if t p) (start_if t p)
   fair_start true p = fair_skip {n = b} (omega arith) fair_gives
   fair_start false p = fair_refuses
 
-  steps_rest : (e : ℕ) (p : Place) → IsFair b (steps_from e p) (steps_from e p)
-  steps_rest e p =
-      fair_bind (one_mark e tk.open_square) (λ q. fair_bind (one_title e (codes "Next")) (λ s. fair_bind (one_mark e tk.close_square) (λ t. fair_bind (one_title e (codes "_vars")) (λ u. fair_gives))))
+  steps_rest : (m : Bound) (e : ℕ) (p : Place) → IsFair b (steps_from m e p) (steps_from m e p)
+  steps_rest m e p =
+      fair_bind (fair_opening m (one_mark e tk.open_square)) (λ q. fair_bind (one_title e (codes "Next")) (λ s. fair_bind (one_mark e tk.close_square) (λ t. fair_bind (one_title e (codes "_vars")) (λ u. fair_gives))))
 
-  fair_spec_by : (e : ℕ) (p : Place) (k : TokenView) → IsFair b (spec_by e p k) (spec_by e p k)
-  fair_spec_by e p (tk.word x) = fair_start (bytes_eq x (codes "Init")) p
-  fair_spec_by e p (mark tk.box) = fair_skip (omega arith) (steps_rest e p)
-  fair_spec_by e p k = fair_line e
+  fair_spec_by : {m : Bound} → Shortens m → (e : ℕ) (p : Place) (k : TokenView) → IsFair b (spec_by m e p k) (spec_by m e p k)
+  fair_spec_by s e p (tk.word x) = fair_start (bytes_eq x (codes "Init")) p
+  fair_spec_by {m} s e p (mark tk.box) = fair_room (m 1) (fair_skip (omega arith) (steps_rest (deeper m) e p))
+  fair_spec_by s e p k = fair_line s e
 
-  fair_spec : (e : ℕ) → IsFair b (spec_in e) (spec_in e)
-  fair_spec e = fair_peek e (fair_spec_by e)
+  fair_spec : {m : Bound} → Shortens m → (e : ℕ) → IsFair b (spec_in m e) (spec_in m e)
+  fair_spec s e = fair_peek e (fair_spec_by s e)
 
 -- the forms of Init, Next and Spec
-pub phrases_are : (c : ℕ) (ts : List Token) → bulleted_from op.And read c ts ≡ bulleted_step op.And read c (bulleted_from op.And read c) ts
-phrases_are c ts = bulleted_are op.And read (λ b e. phrase e) c ts
+module _ (m : Bound) (s : Shortens m) (c : ℕ) (ts : List Token) where
+  pub phrases_are : bulleted_from op.And (a_phrase m) c ts ≡ bulleted_step op.And (a_phrase m) c (bulleted_from op.And (a_phrase m) c) ts
+  phrases_are = bulleted_are op.And (a_phrase m) (λ b e. phrase s e) c ts
 
-pub ways_are : (c : ℕ) (ts : List Token) → bulleted_from op.Or way_in c ts ≡ bulleted_step op.Or way_in c (bulleted_from op.Or way_in c) ts
-ways_are c ts = bulleted_are op.Or way_in (λ b e. fair_way e) c ts
+  pub ways_are : bulleted_from op.Or (way_in m) c ts ≡ bulleted_step op.Or (way_in m) c (bulleted_from op.Or (way_in m) c) ts
+  ways_are = bulleted_are op.Or (way_in m) (λ b e. fair_way s e) c ts
 
-pub specs_are : (c : ℕ) (ts : List Token) → bulleted_from op.And spec_in c ts ≡ bulleted_step op.And spec_in c (bulleted_from op.And spec_in c) ts
-specs_are c ts = bulleted_are op.And spec_in (λ b e. fair_spec e) c ts
+  pub specs_are : bulleted_from op.And (spec_in m) c ts ≡ bulleted_step op.And (spec_in m) c (bulleted_from op.And (spec_in m) c) ts
+  specs_are = bulleted_are op.And (spec_in m) (λ b e. fair_spec s e) c ts
 
 -- ---- items
 
 -- with j steps and more: two for each token, and lists in a column with one less
 record AreFair (j : ℕ) (r q : ItemReaders) : Type 0 where
-  item : (e : ℕ) → IsFair (2 * j) (r.item e) (q.item e)
-  list : (e : ℕ) → IsFair (2 * j) (r.list e) (q.list e)
-  items : (e c : ℕ) → IsFair (2 * j + 2) (r.items e c) (q.items e c)
-  branches : (e c : ℕ) → IsFair (2 * j + 2) (r.branches e c) (q.branches e c)
+  item : (m : Bound) → Shortens m → (e : ℕ) → IsFair (2 * j) (r.item m e) (q.item m e)
+  list : (m : Bound) → Shortens m → (e : ℕ) → IsFair (2 * j) (r.list m e) (q.list m e)
+  items : (m : Bound) → Shortens m → (e c : ℕ) → IsFair (2 * j + 2) (r.items m e c) (q.items m e c)
+  branches : (m : Bound) → Shortens m → (e c : ℕ) → IsFair (2 * j + 2) (r.branches m e c) (q.branches m e c)
 
 module _ (j : ℕ) (r q : ItemReaders) (h : AreFair j r q) where
-  test_rest : (e : ℕ) (p : Place) → IsFair (2 * j) (test_from e p) (test_from e p)
-  test_rest e p = fair_bind (phrase e) (λ a. fair_bind (one_mark e tk.close_bracket) (λ s. fair_gives))
+  module _ (m : Bound) (s : Shortens m) where
+    test_rest : (e : ℕ) (p : Place) → IsFair (2 * j) (test_from m e p) (test_from m e p)
+    test_rest e p = fair_bind (phrase s e) (λ a. fair_bind (one_mark e tk.close_bracket) (λ y. fair_gives))
 
-  setting_rest : (e : ℕ) (p : Place) (x : Word) → IsFair (2 * j) (setting_from e p x) (setting_from e p x)
-  setting_rest e p x = fair_bind (one_mark e tk.prime) (λ q. fair_bind (one_sign e op.Equal) (λ s. fair_bind (operand e) (λ a. fair_gives)))
+    setting_rest : (e : ℕ) (p : Place) (x : Word) → IsFair (2 * j) (setting_from m e p x) (setting_from m e p x)
+    setting_rest e p x = fair_bind (one_mark e tk.prime) (λ q. fair_bind (fair_opening m (one_sign e op.Equal)) (λ y. fair_bind (operand (deepens s) e) (λ a. fair_gives)))
 
-  unchanged_rest : (e : ℕ) (p : Place) → IsFair (2 * j) (unchanged_from e p) (unchanged_from e p)
-  unchanged_rest e p = fair_bind (one_mark e tk.open_tuple) (λ q. fair_bind (all_names e) (λ ns. fair_bind (one_mark e tk.close_tuple) (λ s. fair_gives)))
+    unchanged_rest : (e : ℕ) (p : Place) → IsFair (2 * j) (unchanged_from m e p) (unchanged_from m e p)
+    unchanged_rest e p = fair_bind (fair_opening m (one_mark e tk.open_tuple)) (λ q. fair_bind (all_names e) (λ ns. fair_bind (one_mark e tk.close_tuple) (λ y. fair_gives)))
 
-  exists_rest : (e : ℕ) (p : Place) → IsFair (2 * j) (exists_from r e p) (exists_from q e p)
-  exists_rest e p = fair_bind (one_word e) (λ x. fair_bind (one_sign e op.In) (λ s. fair_bind (phrase e) (λ a. fair_bind (one_mark e tk.colon) (λ t. fair_bind (h.list e) (λ is. fair_gives)))))
+    exists_rest : (e : ℕ) (p : Place) → IsFair (2 * j) (exists_from m r e p) (exists_from m q e p)
+    exists_rest e p = fair_bind (one_word e) (λ x. fair_bind (one_sign e op.In) (λ y. fair_bind (phrase s e) (λ a. fair_bind (one_mark e tk.colon) (λ t. fair_bind (h.list m s e) (λ is. fair_gives)))))
 
-  local_rest : (e : ℕ) (p : Place) → IsFair (2 * j) (local_from r e p) (local_from q e p)
-  local_rest e p = fair_bind (one_word e) (λ x. fair_bind (one_mark e tk.defines) (λ s. fair_bind (phrase e) (λ a. fair_bind (one_key e tk.in_key) (λ t. fair_bind (h.list e) (λ is. fair_gives)))))
+    local_rest : (e : ℕ) (p : Place) → IsFair (2 * j) (local_from m r e p) (local_from m q e p)
+    local_rest e p = fair_bind (one_word e) (λ x. fair_bind (one_mark e tk.defines) (λ y. fair_bind (phrase s e) (λ a. fair_bind (one_key e tk.in_key) (λ t. fair_bind (h.list m s e) (λ is. fair_gives)))))
 
-  choice_rest : (e : ℕ) (p : Place) → IsFair (2 * j) (choice_from r e p) (choice_from q e p)
-  choice_rest e p = fair_bind (phrase e) (λ a. fair_bind (one_key e tk.then_key) (λ t. fair_bind (h.list e) (λ is. fair_bind (one_key e tk.else_key) (λ s. fair_bind (h.list e) (λ js. fair_gives)))))
+    choice_rest : (e : ℕ) (p : Place) → IsFair (2 * j) (choice_from m r e p) (choice_from m q e p)
+    choice_rest e p = fair_bind (phrase s e) (λ a. fair_bind (one_key e tk.then_key) (λ t. fair_bind (h.list m s e) (λ is. fair_bind (one_key e tk.else_key) (λ y. fair_bind (h.list m s e) (λ js. fair_gives)))))
 
-  fair_unchanged : (t : Bool) (e : ℕ) (p : Place) → IsFair (2 * suc j) (unchanged_if t e p) (unchanged_if t e p)
-  fair_unchanged true e p = fair_skip (omega arith) (unchanged_rest e p)
-  fair_unchanged false e p = fair_refuses
+  fair_unchanged : (t : Bool) (m : Bound) → Shortens m → (e : ℕ) (p : Place) → IsFair (2 * suc j) (unchanged_if t m e p) (unchanged_if t m e p)
+  fair_unchanged true m s e p = fair_room (m 1) (fair_skip (omega arith) (unchanged_rest (deeper m) (deepens s) e p))
+  fair_unchanged false m s e p = fair_refuses
 
-  fair_item_by : (e : ℕ) (p : Place) (k : TokenView) → IsFair (2 * suc j) (item_by r e p k) (item_by q e p k)
-  fair_item_by e p (mark tk.open_bracket) = fair_skip (omega arith) (test_rest e p)
-  fair_item_by e p (tk.word x) = fair_skip (omega arith) (setting_rest e p x)
-  fair_item_by e p (tk.other w) = fair_unchanged (bytes_eq w (codes "UNCHANGED")) e p
-  fair_item_by e p (key tk.exists_key) = fair_skip (omega arith) (exists_rest e p)
-  fair_item_by e p (key tk.let_key) = fair_skip (omega arith) (local_rest e p)
-  fair_item_by e p (key tk.if_key) = fair_skip (omega arith) (choice_rest e p)
-  fair_item_by e p (sign op.Or) = fair_bind (weaker (omega arith) (h.branches e p.col)) (λ bs. fair_gives)
-  fair_item_by e p k = fair_refuses
+  fair_item_by : (m : Bound) → Shortens m → (e : ℕ) (p : Place) (k : TokenView) → IsFair (2 * suc j) (item_by m r e p k) (item_by m q e p k)
+  fair_item_by m s e p (mark tk.open_bracket) = fair_room (m 1) (fair_skip (omega arith) (test_rest (deeper m) (deepens s) e p))
+  fair_item_by m s e p (tk.word x) = fair_skip (omega arith) (setting_rest m s e p x)
+  fair_item_by m s e p (tk.other w) = fair_unchanged (bytes_eq w (codes "UNCHANGED")) m s e p
+  fair_item_by m s e p (key tk.exists_key) = fair_room (m 1) (fair_skip (omega arith) (exists_rest (deeper m) (deepens s) e p))
+  fair_item_by m s e p (key tk.let_key) = fair_room (m 1) (fair_skip (omega arith) (local_rest (deeper m) (deepens s) e p))
+  fair_item_by m s e p (key tk.if_key) = fair_room (m 1) (fair_skip (omega arith) (choice_rest (deeper m) (deepens s) e p))
+  fair_item_by m s e p (sign op.Or) = fair_room (m 1) (fair_bind (weaker (omega arith) (h.branches (deeper m) (deepens s) e p.col)) (λ bs. fair_gives))
+  fair_item_by m s e p k = fair_refuses
 
-  fair_list_by : (e : ℕ) (p : Place) (k : TokenView) → IsFair (2 * suc j) (list_by r e p k) (list_by q e p k)
-  fair_list_by e p (sign op.And) = weaker (omega arith) (h.items e p.col)
-  fair_list_by e p k = fair_refuses
+  fair_list_by : (m : Bound) → Shortens m → (e : ℕ) (p : Place) (k : TokenView) → IsFair (2 * suc j) (list_by m r e p k) (list_by m q e p k)
+  fair_list_by m s e p (sign op.And) = fair_room (m 1) (weaker (omega arith) (h.items (deeper m) (deepens s) e p.col))
+  fair_list_by m s e p k = fair_refuses
 
-  fair_items_if : (t : Bool) (e c : ℕ) (p : Place) (i : ItemForm) → IsFair (2 * j) (items_if t r e c p i) (items_if t q e c p i)
-  fair_items_if true e c p i = fair_bind (weaker (omega arith) (h.items e c)) (λ is. fair_gives)
-  fair_items_if false e c p i = fair_gives
+  fair_items_if : (t : Bool) (m : Bound) → Shortens m → (e c : ℕ) (p : Place) (i : ItemForm) → IsFair (2 * j) (items_if t m r e c p i) (items_if t m q e c p i)
+  fair_items_if true m s e c p i = fair_bind (weaker (omega arith) (h.items m s e c)) (λ is. fair_gives)
+  fair_items_if false m s e c p i = fair_gives
 
-  fair_branches_if : (t : Bool) (e c : ℕ) (p : Place) (is : ListForm) → IsFair (2 * j) (branches_if t r e c p is) (branches_if t q e c p is)
-  fair_branches_if true e c p is = fair_bind (weaker (omega arith) (h.branches e c)) (λ bs. fair_gives)
-  fair_branches_if false e c p is = fair_gives
+  fair_branches_if : (t : Bool) (m : Bound) → Shortens m → (e c : ℕ) (p : Place) (is : ListForm) → IsFair (2 * j) (branches_if t m r e c p is) (branches_if t m q e c p is)
+  fair_branches_if true m s e c p is = fair_bind (weaker (omega arith) (h.branches m s e c)) (λ bs. fair_gives)
+  fair_branches_if false m s e c p is = fair_gives
 
   fair_step : AreFair (suc j) (item_step r) (item_step q)
   fair_step = record {
-    item = λ e. fair_peek e (fair_item_by e);
-    list = λ e. fair_peek e (fair_list_by e);
-    items = λ e c. fair_take {n = 2 * j} (omega arith) (λ p. fair_bind (h.item c) (λ i. fair_peek e (λ y k. fair_items_if (is_bullet_in op.And c y k) e c p i))) e (bullet_of op.And c);
-    branches = λ e c. fair_take {n = 2 * j} (omega arith) (λ p. fair_bind (h.list c) (λ is. fair_peek e (λ y k. fair_branches_if (is_bullet_in op.Or c y k) e c p is))) e (bullet_of op.Or c);
+    item = λ m s e. fair_peek e (fair_item_by m s e);
+    list = λ m s e. fair_peek e (fair_list_by m s e);
+    items = λ m s e c. fair_take {n = 2 * j} (omega arith) (λ p. fair_bind (h.item m s c) (λ i. fair_peek e (λ y k. fair_items_if (is_bullet_in op.And c y k) m s e c p i))) e (bullet_of op.And c);
+    branches = λ m s e c. fair_take {n = 2 * j} (omega arith) (λ p. fair_bind (h.list m s c) (λ is. fair_peek e (λ y k. fair_branches_if (is_bullet_in op.Or c y k) m s e c p is))) e (bullet_of op.Or c);
   }
 
 fair_self : (n : ℕ) → AreFair n (item_readers n) (item_readers n)
 unfolding item_readers
-fair_self zero = record { item = λ e. fair_refuses; list = λ e. fair_refuses; items = λ e c. fair_refuses; branches = λ e c. fair_refuses }
+fair_self zero = record { item = λ m s e. fair_refuses; list = λ m s e. fair_refuses; items = λ m s e c. fair_refuses; branches = λ m s e c. fair_refuses }
 fair_self (suc n) = fair_step n (item_readers n) (item_readers n) (fair_self n)
 
 -- at the end of the tokens each refuses
 record Ended (r : ItemReaders) : Type 0 where
-  item : (e : ℕ) → r.item e [] ≡ Err (Syntax, [])
-  list : (e : ℕ) → r.list e [] ≡ Err (Syntax, [])
-  items : (e c : ℕ) → r.items e c [] ≡ Err (Syntax, [])
-  branches : (e c : ℕ) → r.branches e c [] ≡ Err (Syntax, [])
+  item : (m : Bound) (e : ℕ) → r.item m e [] ≡ Err (Syntax, [])
+  list : (m : Bound) (e : ℕ) → r.list m e [] ≡ Err (Syntax, [])
+  items : (m : Bound) (e c : ℕ) → r.items m e c [] ≡ Err (Syntax, [])
+  branches : (m : Bound) (e c : ℕ) → r.branches m e c [] ≡ Err (Syntax, [])
 
 all_ended : (n : ℕ) → Ended (item_readers n)
 unfolding item_readers
-all_ended zero = record { item = λ e. refl; list = λ e. refl; items = λ e c. refl; branches = λ e c. refl }
-all_ended (suc n) = record { item = λ e. refl; list = λ e. refl; items = λ e c. refl; branches = λ e c. refl }
+all_ended zero = record { item = λ m e. refl; list = λ m e. refl; items = λ m e c. refl; branches = λ m e c. refl }
+all_ended (suc n) = record { item = λ m e. refl; list = λ m e. refl; items = λ m e c. refl; branches = λ m e c. refl }
 
 fair_pair : (j n m : ℕ) → j ≤ n → j ≤ m → AreFair j (item_readers n) (item_readers m)
 unfolding item_readers
 fair_pair zero n m i k = (let h = fair_self n in let x = all_ended n in let y = all_ended m in record {
-  item = λ e. only_none (omega arith) (h.item e).less (x.item e ∙ sym (y.item e));
-  list = λ e. only_none (omega arith) (h.list e).less (x.list e ∙ sym (y.list e));
-  items = λ e c. only_none (omega arith) (h.items e c).less (x.items e c ∙ sym (y.items e c));
-  branches = λ e c. only_none (omega arith) (h.branches e c).less (x.branches e c ∙ sym (y.branches e c));
+  item = λ b s e. only_none (omega arith) (h.item b s e).less (x.item b e ∙ sym (y.item b e));
+  list = λ b s e. only_none (omega arith) (h.list b s e).less (x.list b e ∙ sym (y.list b e));
+  items = λ b s e c. only_none (omega arith) (h.items b s e c).less (x.items b e c ∙ sym (y.items b e c));
+  branches = λ b s e c. only_none (omega arith) (h.branches b s e c).less (x.branches b e c ∙ sym (y.branches b e c));
 })
 fair_pair (suc j) zero m i k = absurd (omega (arith, i))
 fair_pair (suc j) (suc n) zero i k = absurd (omega (arith, k))
@@ -301,10 +354,10 @@ fair_pair (suc j) (suc n) (suc m) i k = fair_step j (item_readers n) (item_reade
 
 fair_whole : (n : ℕ) → AreFair n (item_readers n) whole_items
 fair_whole n = (let h = fair_self n in record {
-  item = λ e. record { less = (h.item e).less; same = λ ts l. ((fair_pair (min n (2 * length ts)) n (2 * length ts) (omega arith) (omega arith)).item e).same ts (omega (arith, l)) };
-  list = λ e. record { less = (h.list e).less; same = λ ts l. ((fair_pair (min n (2 * length ts)) n (2 * length ts) (omega arith) (omega arith)).list e).same ts (omega (arith, l)) };
-  items = λ e c. record { less = (h.items e c).less; same = λ ts l. ((fair_pair (min n (2 * length ts)) n (2 * length ts) (omega arith) (omega arith)).items e c).same ts (omega (arith, l)) };
-  branches = λ e c. record { less = (h.branches e c).less; same = λ ts l. ((fair_pair (min n (2 * length ts)) n (2 * length ts) (omega arith) (omega arith)).branches e c).same ts (omega (arith, l)) };
+  item = λ b s e. record { less = (h.item b s e).less; same = λ ts l. ((fair_pair (min n (2 * length ts)) n (2 * length ts) (omega arith) (omega arith)).item b s e).same ts (omega (arith, l)) };
+  list = λ b s e. record { less = (h.list b s e).less; same = λ ts l. ((fair_pair (min n (2 * length ts)) n (2 * length ts) (omega arith) (omega arith)).list b s e).same ts (omega (arith, l)) };
+  items = λ b s e c. record { less = (h.items b s e c).less; same = λ ts l. ((fair_pair (min n (2 * length ts)) n (2 * length ts) (omega arith) (omega arith)).items b s e c).same ts (omega (arith, l)) };
+  branches = λ b s e c. record { less = (h.branches b s e c).less; same = λ ts l. ((fair_pair (min n (2 * length ts)) n (2 * length ts) (omega arith) (omega arith)).branches b s e c).same ts (omega (arith, l)) };
 })
 
 fair_over : (n : ℕ) → AreFair (suc n) (item_readers (suc n)) (item_step whole_items)
@@ -312,18 +365,18 @@ unfolding item_readers
 fair_over n = fair_step n (item_readers n) whole_items (fair_whole n)
 
 -- one step over themselves
-module _ (ts : List Token) where
+module _ (m : Bound) (s : Shortens m) (ts : List Token) where
   abbrev enough : ℕ
   enough = 2 * length ts
 
-  pub item_is : (e : ℕ) → whole_items.item e ts ≡ (item_step whole_items).item e ts
-  item_is e = ((fair_pair enough enough (suc enough) (omega arith) (omega arith)).item e).same ts (omega arith) ∙ ((fair_over enough).item e).same ts (omega arith)
+  pub item_is : (e : ℕ) → whole_items.item m e ts ≡ (item_step whole_items).item m e ts
+  item_is e = ((fair_pair enough enough (suc enough) (omega arith) (omega arith)).item m s e).same ts (omega arith) ∙ ((fair_over enough).item m s e).same ts (omega arith)
 
-  pub list_is : (e : ℕ) → whole_items.list e ts ≡ (item_step whole_items).list e ts
-  list_is e = ((fair_pair enough enough (suc enough) (omega arith) (omega arith)).list e).same ts (omega arith) ∙ ((fair_over enough).list e).same ts (omega arith)
+  pub list_is : (e : ℕ) → whole_items.list m e ts ≡ (item_step whole_items).list m e ts
+  list_is e = ((fair_pair enough enough (suc enough) (omega arith) (omega arith)).list m s e).same ts (omega arith) ∙ ((fair_over enough).list m s e).same ts (omega arith)
 
-  pub items_are : (e c : ℕ) → whole_items.items e c ts ≡ (item_step whole_items).items e c ts
-  items_are e c = ((fair_pair enough enough (suc enough) (omega arith) (omega arith)).items e c).same ts (omega arith) ∙ ((fair_over enough).items e c).same ts (omega arith)
+  pub items_are : (e c : ℕ) → whole_items.items m e c ts ≡ (item_step whole_items).items m e c ts
+  items_are e c = ((fair_pair enough enough (suc enough) (omega arith) (omega arith)).items m s e c).same ts (omega arith) ∙ ((fair_over enough).items m s e c).same ts (omega arith)
 
-  pub branches_are : (e c : ℕ) → whole_items.branches e c ts ≡ (item_step whole_items).branches e c ts
-  branches_are e c = ((fair_pair enough enough (suc enough) (omega arith) (omega arith)).branches e c).same ts (omega arith) ∙ ((fair_over enough).branches e c).same ts (omega arith)
+  pub branches_are : (e c : ℕ) → whole_items.branches m e c ts ≡ (item_step whole_items).branches m e c ts
+  branches_are e c = ((fair_pair enough enough (suc enough) (omega arith) (omega arith)).branches m s e c).same ts (omega arith) ∙ ((fair_over enough).branches m s e c).same ts (omega arith)

@@ -14,6 +14,7 @@ use Rattle.tla_tree.proofs.SoundTokens.{then_ok, given, seen, mark_ok, key_ok, s
 use Rattle.tla_tree.proofs.SoundLists.{read_is_spelled}
 use Rattle.module_tree.specs.Grammar.{see, keyword, GoodOperand, ItemForm, test_form, setting_form, unchanged_form, exists_form, local_form, choice_form, either_form, ListForm, last_item, more_items, BranchForms, last_branch, more_branches, spell_item, spell_list, spell_branches, list_column, branch_column, GoodItem, GoodList, GoodBranches}
 use Rattle.module_tree.proofs.OneItem.{calm_at, bullet_calm, list_calm}
+use Rattle.region_reading.specs.Bound.{unbounded}
 use Rattle.region_reading.specs.NameReader.{is_bullet_in}
 use Rattle.region_reading.specs.ItemReader.{ItemReaders, operand_if, an_operand, unchanged_if, item_by, list_by, items_if, branches_if, item_step, no_items_read, item_readers, list_in}
 use Rattle.region_reading.proofs.NamesRead.{phrase_read, shorter, names_ok, names_read, names_shorter}
@@ -22,10 +23,10 @@ use Rattle.region_reading.proofs.BulletsRead.{bullet_ok, bullet_read, bullet_see
 -- ---- what is read is spelled
 
 pub record Sound (r : ItemReaders) : Type 0 where
-  pub item : (e : ℕ) (ts : List Token) (i : ItemForm) (us : List Token) → r.item e ts ≡ Ok (i, us) → GoodItem e i × (spell_item i us ≡ ts)
-  pub list : (e : ℕ) (ts : List Token) (is : ListForm) (us : List Token) → r.list e ts ≡ Ok (is, us) → (nat_lt e (list_column is) ≡ true) × GoodList (list_column is) is × (spell_list is us ≡ ts)
-  pub items : (e c : ℕ) (ts : List Token) (is : ListForm) (us : List Token) → r.items e c ts ≡ Ok (is, us) → (nat_lt e c ≡ true) × GoodList c is × (spell_list is us ≡ ts)
-  pub branches : (e c : ℕ) (ts : List Token) (bs : BranchForms) (us : List Token) → r.branches e c ts ≡ Ok (bs, us) → (nat_lt e c ≡ true) × GoodBranches c bs × (spell_branches bs us ≡ ts)
+  pub item : (e : ℕ) (ts : List Token) (i : ItemForm) (us : List Token) → r.item unbounded e ts ≡ Ok (i, us) → GoodItem e i × (spell_item i us ≡ ts)
+  pub list : (e : ℕ) (ts : List Token) (is : ListForm) (us : List Token) → r.list unbounded e ts ≡ Ok (is, us) → (nat_lt e (list_column is) ≡ true) × GoodList (list_column is) is × (spell_list is us ≡ ts)
+  pub items : (e c : ℕ) (ts : List Token) (is : ListForm) (us : List Token) → r.items unbounded e c ts ≡ Ok (is, us) → (nat_lt e c ≡ true) × GoodList c is × (spell_list is us ≡ ts)
+  pub branches : (e c : ℕ) (ts : List Token) (bs : BranchForms) (us : List Token) → r.branches unbounded e c ts ≡ Ok (bs, us) → (nat_lt e c ≡ true) × GoodBranches c bs × (spell_branches bs us ≡ ts)
 
 pub column_is : (c : ℕ) (is : ListForm) → GoodList c is → list_column is ≡ c
 column_is c (last_item p i) g = g.0
@@ -60,7 +61,7 @@ operand_if_ok : (e : ℕ) (ts : List Token) (b : Phrase) (vs : List Token) → r
 operand_if_ok e ts b vs o true h a us g = (let w = read_is_spelled e ts vs b o in given (λ d ws. GoodOperand e d × (spell d ws ≡ ts)) g ((h, w.0), sym w.1))
 operand_if_ok e ts b vs o false h a us g = absurd cc
 
-operand_ok : (e : ℕ) (ts : List Token) (a : Phrase) (us : List Token) → an_operand e ts ≡ Ok (a, us) → GoodOperand e a × (spell a us ≡ ts)
+operand_ok : (e : ℕ) (ts : List Token) (a : Phrase) (us : List Token) → an_operand unbounded e ts ≡ Ok (a, us) → GoodOperand e a × (spell a us ≡ ts)
 operand_ok e ts a us o = (let v = then_ok o in operand_if_ok e ts v.0 v.1 v.2 (is_primary (head v.0)) refl a us v.3)
 
 module _ (r : ItemReaders) (h : Sound r) where
@@ -68,7 +69,7 @@ module _ (r : ItemReaders) (h : Sound r) where
   IsItem e ts i us = GoodItem e i × (spell_item i us ≡ ts)
 
   unchanged_ok : (e : ℕ) (p : Place) (ts : List Token) (i : ItemForm) (us : List Token) → next e ts ≡ token p (tk.other (codes "UNCHANGED"))
-      → unchanged_if true e p ts ≡ Ok (i, us) → IsItem e ts i us
+      → unchanged_if true unbounded e p ts ≡ Ok (i, us) → IsItem e ts i us
   unchanged_ok e p ts i us s o =
       let n = keyword_seen e ts p (codes "UNCHANGED") s refl in
       let v = then_ok o in
@@ -80,7 +81,7 @@ module _ (r : ItemReaders) (h : Sound r) where
       given (λ d vs. IsItem e ts d vs) x.3 ((n.0, m.0, w.0, k.0), rw (k.1, w.1, m.1, n.1) refl)
 
   item_by_ok : (e : ℕ) (p : Place) (k : TokenView) (ts : List Token) (i : ItemForm) (us : List Token) → next e ts ≡ token p k
-      → item_by r e p k ts ≡ Ok (i, us) → IsItem e ts i us
+      → item_by unbounded r e p k ts ≡ Ok (i, us) → IsItem e ts i us
   item_by_ok e p (mark tk.open_bracket) ts i us s o =
       let n = seen e ts p (mark tk.open_bracket) s refl in
       let v = then_ok o in
@@ -99,7 +100,7 @@ module _ (r : ItemReaders) (h : Sound r) where
       given (λ d vs. IsItem e ts d vs) z.3 ((n.0, m.0, k.0, w.0), rw (w.1, k.1, m.1, n.1) refl)
   item_by_ok e p (tk.other w) ts i us s o = by (bytes_eq w (codes "UNCHANGED")) refl o
     where
-      by : (b : Bool) → bytes_eq w (codes "UNCHANGED") ≡ b → unchanged_if b e p ts ≡ Ok (i, us) → IsItem e ts i us
+      by : (b : Bool) → bytes_eq w (codes "UNCHANGED") ≡ b → unchanged_if b unbounded e p ts ≡ Ok (i, us) → IsItem e ts i us
       by true q o = unchanged_ok e p ts i us (s ∙ ap (λ (v : Word). token p (tk.other v)) (same_bytes w (codes "UNCHANGED") q)) o
       by false q o = absurd cc
   item_by_ok e p (key tk.exists_key) ts i us s o =
@@ -149,7 +150,7 @@ module _ (r : ItemReaders) (h : Sound r) where
   item_by_ok e p k ts i us s o = absurd cc
 
   list_by_ok : (e : ℕ) (p : Place) (k : TokenView) (ts : List Token) (is : ListForm) (us : List Token)
-      → list_by r e p k ts ≡ Ok (is, us) → (nat_lt e (list_column is) ≡ true) × GoodList (list_column is) is × (spell_list is us ≡ ts)
+      → list_by unbounded r e p k ts ≡ Ok (is, us) → (nat_lt e (list_column is) ≡ true) × GoodList (list_column is) is × (spell_list is us ≡ ts)
   list_by_ok e p (sign op.And) ts is us o =
       let w = h.items e p.col ts is us o in
       let c = column_is p.col is w.1 in
@@ -157,7 +158,7 @@ module _ (r : ItemReaders) (h : Sound r) where
   list_by_ok e p k ts is us o = absurd cc
 
   items_ok : (e c : ℕ) (p : Place) → p.col ≡ c → (i : ItemForm) → GoodItem c i → (b : Bool) (ts : List Token) (is : ListForm) (us : List Token)
-      → items_if b r e c p i ts ≡ Ok (is, us) → GoodList c is × (spell_list is us ≡ see p (sign op.And) (spell_item i ts))
+      → items_if b unbounded r e c p i ts ≡ Ok (is, us) → GoodList c is × (spell_list is us ≡ see p (sign op.And) (spell_item i ts))
   items_ok e c p q i g true ts is us o =
       let v = then_ok o in
       let w = h.items e c ts v.0 v.1 v.2 in
@@ -165,7 +166,7 @@ module _ (r : ItemReaders) (h : Sound r) where
   items_ok e c p q i g false ts is us o = given (λ d vs. GoodList c d × (spell_list d vs ≡ see p (sign op.And) (spell_item i ts))) o ((q, g), refl)
 
   branches_ok : (e c : ℕ) (p : Place) → p.col ≡ c → (is : ListForm) → nat_lt c (list_column is) ≡ true → GoodList (list_column is) is → (b : Bool) (ts : List Token) (bs : BranchForms) (us : List Token)
-      → branches_if b r e c p is ts ≡ Ok (bs, us) → GoodBranches c bs × (spell_branches bs us ≡ see p (sign op.Or) (spell_list is ts))
+      → branches_if b unbounded r e c p is ts ≡ Ok (bs, us) → GoodBranches c bs × (spell_branches bs us ≡ see p (sign op.Or) (spell_list is ts))
   branches_ok e c p q is l g true ts bs us o =
       let v = then_ok o in
       let w = h.branches e c ts v.0 v.1 v.2 in
@@ -200,7 +201,7 @@ unfolding item_readers
 items_sound zero = none_sound
 items_sound (suc n) = step_sound (item_readers n) (items_sound n)
 
-pub list_ok : (e : ℕ) (ts : List Token) (is : ListForm) (us : List Token) → list_in e ts ≡ Ok (is, us) → (nat_lt e (list_column is) ≡ true) × GoodList (list_column is) is × (spell_list is us ≡ ts)
+pub list_ok : (e : ℕ) (ts : List Token) (is : ListForm) (us : List Token) → list_in unbounded e ts ≡ Ok (is, us) → (nat_lt e (list_column is) ≡ true) × GoodList (list_column is) is × (spell_list is us ≡ ts)
 list_ok e ts is us o = (items_sound (2 * length ts)).list e ts is us o
 
 -- ---- what is spelled is read
@@ -242,16 +243,16 @@ branches_calm c (more_branches p is bs) g r = bullet_calm c (token p (sign op.Or
 
 -- with enough steps, before tokens that go on nothing
 abbrev ReadsItem : ItemForm → Type 0
-ReadsItem i = (e : ℕ) → GoodItem e i → (r : List Token) → Calm e r → (n : ℕ) → 2 * length (spell_item i r) ≤ n → (item_readers n).item e (spell_item i r) ≡ Ok (i, r)
+ReadsItem i = (e : ℕ) → GoodItem e i → (r : List Token) → Calm e r → (n : ℕ) → 2 * length (spell_item i r) ≤ n → (item_readers n).item unbounded e (spell_item i r) ≡ Ok (i, r)
 
 abbrev ReadsItems : ListForm → Type 0
-ReadsItems is = (e c : ℕ) → nat_lt e c ≡ true → GoodList c is → (r : List Token) → Calm e r → (n : ℕ) → 2 * length (spell_list is r) ≤ suc n → (item_readers n).items e c (spell_list is r) ≡ Ok (is, r)
+ReadsItems is = (e c : ℕ) → nat_lt e c ≡ true → GoodList c is → (r : List Token) → Calm e r → (n : ℕ) → 2 * length (spell_list is r) ≤ suc n → (item_readers n).items unbounded e c (spell_list is r) ≡ Ok (is, r)
 
 abbrev ReadsList : ListForm → Type 0
-ReadsList is = (e : ℕ) → nat_lt e (list_column is) ≡ true → GoodList (list_column is) is → (r : List Token) → Calm e r → (n : ℕ) → 2 * length (spell_list is r) ≤ n → (item_readers n).list e (spell_list is r) ≡ Ok (is, r)
+ReadsList is = (e : ℕ) → nat_lt e (list_column is) ≡ true → GoodList (list_column is) is → (r : List Token) → Calm e r → (n : ℕ) → 2 * length (spell_list is r) ≤ n → (item_readers n).list unbounded e (spell_list is r) ≡ Ok (is, r)
 
 abbrev ReadsBranches : BranchForms → Type 0
-ReadsBranches bs = (e c : ℕ) → nat_lt e c ≡ true → GoodBranches c bs → (r : List Token) → Calm e r → (n : ℕ) → 2 * length (spell_branches bs r) ≤ suc n → (item_readers n).branches e c (spell_branches bs r) ≡ Ok (bs, r)
+ReadsBranches bs = (e c : ℕ) → nat_lt e c ≡ true → GoodBranches c bs → (r : List Token) → Calm e r → (n : ℕ) → 2 * length (spell_branches bs r) ≤ suc n → (item_readers n).branches unbounded e c (spell_branches bs r) ≡ Ok (bs, r)
 
 list_from : (is : ListForm) → ReadsItems is → ReadsList is
 unfolding item_readers
@@ -331,5 +332,5 @@ mutual
       let v = branches_read bs e c l g.3 r k n (omega (arith, m, list_shorter is us)) in
       rw (t, w, branches_seen e c bs r l g.3, v) refl
 
-pub list_read : (e : ℕ) (is : ListForm) → nat_lt e (list_column is) ≡ true → GoodList (list_column is) is → (r : List Token) → Calm e r → list_in e (spell_list is r) ≡ Ok (is, r)
+pub list_read : (e : ℕ) (is : ListForm) → nat_lt e (list_column is) ≡ true → GoodList (list_column is) is → (r : List Token) → Calm e r → list_in unbounded e (spell_list is r) ≡ Ok (is, r)
 list_read e is l g r c = list_from is (items_read is) e l g r c (2 * length (spell_list is r)) (omega arith)

@@ -7,4 +7,11 @@ pub mod UnitsRead
 pub mod RegionsRead
 pub mod ModulesRead
 pub mod EnoughSteps
+pub mod BoundedSteps
+pub mod BoundedItems
+pub mod BoundedCalls
+pub mod BoundedUnits
+pub mod BoundedModules
+pub mod BoundLaws
+pub mod BoundMet
 mod Rows

@@ -23,6 +23,7 @@ use Rattle.module_tree.specs.Reading.{AllAre, AreModule, Reads}
 use Rattle.module_tree.specs.laws.Outsides.{HasOutside}
 use Rattle.module_tree.proofs.SomeOutside.{one_outside_of}
 use Rattle.outside_reading.proofs.OutsideFound.{found_outside}
+use Rattle.region_reading.specs.Bound.{unbounded}
 use Rattle.region_reading.specs.UnitReader.{unit_in}
 use Rattle.region_reading.specs.ModuleReader.{is_nothing, is_small, are_small, one_unit_more, units_are, region_of_units, is_sound_region, translation_in, translation_of, is_sound_file, terminates_alike, module_if, module_of, outside_of_file, module_of_file, module_in}
 use Rattle.region_reading.proofs.UnitsRead.{unit_ok, unit_read}
@@ -56,17 +57,17 @@ are_small_from (t ∷ ts) h = and_from (is_small t.kind) (are_small ts) (is_smal
 
 -- ---- all units
 
-units_ok : (tss : List (List Token)) (us : List RegionUnit) → units_are tss ≡ Some us → AllAre IsUnit tss us
+units_ok : (tss : List (List Token)) (us : List RegionUnit) → units_are unbounded tss ≡ Some us → AllAre IsUnit tss us
 units_ok [] us h = subst (λ (us : List RegionUnit). AllAre IsUnit [] us) (same_Some [] us h) tt
-units_ok (ts ∷ tss) us h = by (unit_in ts) refl (units_are tss) refl h (units_ok tss)
+units_ok (ts ∷ tss) us h = by (unit_in ts) refl (units_are unbounded tss) refl h (units_ok tss)
   where
-    by : (o : Option RegionUnit) → unit_in ts ≡ o → (n : Option (List RegionUnit)) → units_are tss ≡ n → one_unit_more o n ≡ Some us
-        → ((us : List RegionUnit) → units_are tss ≡ Some us → AllAre IsUnit tss us) → AllAre IsUnit (ts ∷ tss) us
+    by : (o : Option RegionUnit) → unit_in ts ≡ o → (n : Option (List RegionUnit)) → units_are unbounded tss ≡ n → one_unit_more o n ≡ Some us
+        → ((us : List RegionUnit) → units_are unbounded tss ≡ Some us → AllAre IsUnit tss us) → AllAre IsUnit (ts ∷ tss) us
     by (Some u) e (Some vs) f h more = subst (λ (us : List RegionUnit). AllAre IsUnit (ts ∷ tss) us) (same_Some (u ∷ vs) us h) (unit_ok ts u e, more vs f)
     by (Some u) e None f h more = absurd (none-some us h)
     by None e n f h more = absurd (none-some us h)
 
-units_read : (tss : List (List Token)) (us : List RegionUnit) → AllAre IsUnit tss us → units_are tss ≡ Some us
+units_read : (tss : List (List Token)) (us : List RegionUnit) → AllAre IsUnit tss us → units_are unbounded tss ≡ Some us
 units_read [] [] h = refl
 units_read [] (u ∷ us) h = absurd h
 units_read (ts ∷ tss) [] h = absurd h
@@ -102,22 +103,22 @@ region_of_ok : (o : Option (List RegionUnit)) (r : Region) → region_of_units o
 region_of_ok (Some us) r h = ap Some (sym (region_ok us r h))
 region_of_ok None r h = absurd (none-some r h)
 
-translation_ok : (ds : List Located) (r : Region) → translation_in ds ≡ Some r → Translated ds r
+translation_ok : (ds : List Located) (r : Region) → translation_in unbounded ds ≡ Some r → Translated ds r
 translation_ok ds r h = by (is_sound_region ds) refl h
   where
-    by : (b : Bool) → is_sound_region ds ≡ b → (if b then region_of_units (units_are (units_in ds).units) else None) ≡ Some r → Translated ds r
-    by true s h = record { is_sound = sound_region ds s; units = units_ok (units_in ds).units (units_of r) (region_of_ok (units_are (units_in ds).units) r h) }
+    by : (b : Bool) → is_sound_region ds ≡ b → (if b then region_of_units (units_are unbounded (units_in ds).units) else None) ≡ Some r → Translated ds r
+    by true s h = record { is_sound = sound_region ds s; units = units_ok (units_in ds).units (units_of r) (region_of_ok (units_are unbounded (units_in ds).units) r h) }
     by false s h = absurd (none-some r h)
 
-translation_read : (ds : List Located) (r : Region) → Translated ds r → translation_in ds ≡ Some r
+translation_read : (ds : List Located) (r : Region) → Translated ds r → translation_in unbounded ds ≡ Some r
 translation_read ds r h =
-    ap (λ (b : Bool). if b then region_of_units (units_are (units_in ds).units) else None) (is_sound_from ds h.is_sound)
+    ap (λ (b : Bool). if b then region_of_units (units_are unbounded (units_in ds).units) else None) (is_sound_from ds h.is_sound)
     ∙ ap region_of_units (units_read (units_in ds).units (units_of r) h.units) ∙ region_read r
 
 -- ---- the module
 
 -- where there is a region, its translation
-found_in : (o : Option Located) (r : Region) → translation_of o ≡ Some r → (d : Located) × (o ≡ Some d) × Translated (inside_region d) r
+found_in : (o : Option Located) (r : Region) → translation_of unbounded o ≡ Some r → (d : Located) × (o ≡ Some d) × Translated (inside_region d) r
 found_in (Some d) r h = (d, refl, translation_ok (inside_region d) r h)
 found_in None r h = absurd (none-some r h)
 
@@ -125,7 +126,7 @@ found_in None r h = absurd (none-some r h)
 record Parts (ds : List Located) (m : Module) : Type 0 where
   title : title ds ≡ Some m.title
   outside : outside_of_file ds ≡ m.outside
-  region : translation_of (region_of ds) ≡ Some m.region
+  region : translation_of unbounded (region_of ds) ≡ Some m.region
   terminating : terminates_alike m.region ≡ true
 
 module_if_ok : (b : Bool) (t : Text) (o : Outside) (r : Region) (m : Module) → module_if b t o r ≡ Some m → (b ≡ true) × (t ≡ m.title) × (o ≡ m.outside) × (r ≡ m.region)
@@ -134,10 +135,10 @@ module_if_ok true t o r m h =
     (refl, ap (λ (m : Module). m.title) e, ap (λ (m : Module). m.outside) e, ap (λ (m : Module). m.region) e)
 module_if_ok false t o r m h = absurd (none-some m h)
 
-module_parts : (ds : List Located) (m : Module) → module_of (title ds) (outside_of_file ds) (translation_of (region_of ds)) ≡ Some m → Parts ds m
-module_parts ds m h = by (title ds) refl (translation_of (region_of ds)) refl h
+module_parts : (ds : List Located) (m : Module) → module_of (title ds) (outside_of_file ds) (translation_of unbounded (region_of ds)) ≡ Some m → Parts ds m
+module_parts ds m h = by (title ds) refl (translation_of unbounded (region_of ds)) refl h
   where
-    by : (t : Option Text) → title ds ≡ t → (r : Option Region) → translation_of (region_of ds) ≡ r → module_of t (outside_of_file ds) r ≡ Some m → Parts ds m
+    by : (t : Option Text) → title ds ≡ t → (r : Option Region) → translation_of unbounded (region_of ds) ≡ r → module_of t (outside_of_file ds) r ≡ Some m → Parts ds m
     by (Some t) e (Some r) f h =
         let w = module_if_ok (terminates_alike r) t (outside_of_file ds) r m h in
         record { title = e ∙ ap Some w.1; outside = w.2; region = f ∙ ap Some w.3; terminating = ap terminates_alike (sym w.3) ∙ w.0 }
@@ -147,7 +148,7 @@ module_parts ds m h = by (title ds) refl (translation_of (region_of ds)) refl h
 has_outside : (ds : List Located) (m : Module) → AreModule ds m → HasOutside ds m.outside
 has_outside ds m h = record { before = h.before; are_before = h.are_before; after = h.after; are_after = h.are_after; is = h.outside }
 
-pub file_ok : (ds : List Located) (m : Module) → module_of_file ds ≡ Some m → AreModule ds m
+pub file_ok : (ds : List Located) (m : Module) → module_of_file unbounded ds ≡ Some m → AreModule ds m
 file_ok ds m h = by (is_sound_file ds) refl h
   where
     made : is_sound_file ds ≡ true → Parts ds m → AreModule ds m
@@ -173,21 +174,21 @@ file_ok ds m h = by (is_sound_file ds) refl h
           terminating = (booleans_Decides (is_some m.region.ended) (list_any is_terminating m.region.next)).0 p.terminating;
         }
 
-    by : (b : Bool) → is_sound_file ds ≡ b → (if b then module_of (title ds) (outside_of_file ds) (translation_of (region_of ds)) else None) ≡ Some m → AreModule ds m
+    by : (b : Bool) → is_sound_file ds ≡ b → (if b then module_of (title ds) (outside_of_file ds) (translation_of unbounded (region_of ds)) else None) ≡ Some m → AreModule ds m
     by true s h = made s (module_parts ds m h)
     by false s h = absurd (none-some m h)
 
-pub file_read : (ds : List Located) (m : Module) → AreModule ds m → module_of_file ds ≡ Some m
+pub file_read : (ds : List Located) (m : Module) → AreModule ds m → module_of_file unbounded ds ≡ Some m
 file_read ds m h =
     let s : is_sound_file ds ≡ true = and_from (is_some (module_end ds)) (is_nothing (offences_of ds) && is_nothing (units_in (after_spot ds)).front) h.ended
     (and_from (is_nothing (offences_of ds)) (is_nothing (units_in (after_spot ds)).front) (ap is_nothing h.sound) (ap is_nothing h.none_before_after)) in
     let g = h.reads_region in
     let t : Translated (inside_region h.region) m.region =
     record { is_sound = record { sound = g.sound; open_ended = g.open_ended; small = g.small; no_front = g.no_front }; units = g.units } in
-    let region : translation_of (region_of ds) ≡ Some m.region = ap translation_of h.is_region ∙ translation_read (inside_region h.region) m.region t in
+    let region : translation_of unbounded (region_of ds) ≡ Some m.region = ap (translation_of unbounded) h.is_region ∙ translation_read (inside_region h.region) m.region t in
     let outside : outside_of_file ds ≡ m.outside = one_outside_of ds (outside_of_file ds) m.outside (found_outside ds) (has_outside ds m h) in
     let alike : terminates_alike m.region ≡ true = (booleans_Decides (is_some m.region.ended) (list_any is_terminating m.region.next)).1 h.terminating in
-    ap (λ (b : Bool). if b then module_of (title ds) (outside_of_file ds) (translation_of (region_of ds)) else None) s
+    ap (λ (b : Bool). if b then module_of (title ds) (outside_of_file ds) (translation_of unbounded (region_of ds)) else None) s
     ∙ (λ i. module_of (h.title i) (outside i) (region i)) ∙ ap (λ (b : Bool). module_if b m.title m.outside m.region) alike
 
 pub module_ok : (w : Text) (m : Module) → module_in w ≡ Some m → Reads w m

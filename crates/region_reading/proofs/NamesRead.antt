@@ -18,6 +18,7 @@ use Rattle.module_tree.specs.Grammar.{see, keyword, Names, last_name, more_names
 use Rattle.module_tree.specs.Units.{ParameterForm, spell_parameters, GoodParameters}
 use Rattle.region_reading.specs.NameReader.{a_keyword, is_title, a_title, names_by, some_names, names_in, parameters_by, parameters_in}
 use Rattle.outside_reading.specs.PlainUnits.{is_keyword}
+use Rattle.region_reading.specs.Bound.{unbounded}
 
 -- a token right of the edge is seen
 pub next_is : (e : ℕ) (p : Place) (k : TokenView) (r : List Token) → Right e p → next e (see p k r) ≡ token p k
@@ -130,7 +131,7 @@ abbrev pub AreParameters : List Token → Option ParameterForm → List Token �
 AreParameters ts f us = GoodParameters 1 f × (spell_parameters f us ≡ ts)
 
 parameters_by_ok : (p : Place) (k : TokenView) (ts : List Token) (f : Option ParameterForm) (us : List Token) → next 1 ts ≡ token p k
-    → parameters_by p k ts ≡ Ok (f, us) → AreParameters ts f us
+    → parameters_by unbounded p k ts ≡ Ok (f, us) → AreParameters ts f us
 parameters_by_ok p (mark tk.open_bracket) ts f us s o =
     let n = seen 1 ts p (mark tk.open_bracket) s refl in
     let v = then_ok o in
@@ -140,11 +141,11 @@ parameters_by_ok p (mark tk.open_bracket) ts f us s o =
     given (λ d vs. AreParameters ts d vs) u.3 ((n.0, w.0, m.0), rw (m.1, w.1, n.1) refl)
 parameters_by_ok p k ts f us s o = given (λ d vs. AreParameters ts d vs) o (tt, refl)
 
-pub parameters_ok : (ts : List Token) (f : Option ParameterForm) (us : List Token) → parameters_in ts ≡ Ok (f, us) → AreParameters ts f us
+pub parameters_ok : (ts : List Token) (f : Option ParameterForm) (us : List Token) → parameters_in unbounded ts ≡ Ok (f, us) → AreParameters ts f us
 parameters_ok ts f us o = parameters_by_ok (next 1 ts).place (next 1 ts).kind ts f us refl o
 
 pub parameters_read : (f : Option ParameterForm) (q : Place) (r : List Token) → GoodParameters 1 f → Right 1 q
-    → parameters_in (spell_parameters f (see q (mark tk.defines) r)) ≡ Ok (f, see q (mark tk.defines) r)
+    → parameters_in unbounded (spell_parameters f (see q (mark tk.defines) r)) ≡ Ok (f, see q (mark tk.defines) r)
 parameters_read None q r g h = rw h refl
 parameters_read (Some f) q r g h =
     let w = names_read 1 f.names (see f.right (mark tk.close_bracket) (see q (mark tk.defines) r)) g.1 (rw g.2 refl) in

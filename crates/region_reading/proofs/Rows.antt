@@ -1,17 +1,23 @@
--- Worked rows: units that are read of their texts, translations of their units, and a module of its text, by computation.
-use Rattle.std.proofs.Common.{◌≡◌, ℕ, false, List, [], ◌∷◌, Some, None, Ok, codes, refl}
+-- Worked rows: units that are read of their texts, how many forms open in them and what is refused at a bound, translations of their units, and a module of its text, by computation.
+use Rattle.std.proofs.Common.{◌≡◌, ℕ, false, List, [], ◌∷◌, Option, Some, None, Ok, Err, codes, refl}
 use Rattle.std.specs.Prelude.{option_map}
 use Rattle.tla_token.specs.declared.place.Place.{Place}
+use Rattle.tla_token.specs.declared.rule.Rule.{Rule}
+use Rattle.tla_token.specs.declared.rule.Rule.TheVariants.{TooDeep, Syntax}
 use Rattle.tla_token.specs.Cut.{tokens}
 use Rattle.tla_tree.specs.Tree.{Word, Tree, name, node, no_trees}
 use Rattle.tla_tree.specs.Lexical.{Token}
 use Rattle.tla_tree.specs.TokenViews.{views}
-use Rattle.tla_tree.specs.Reader.{readers, readers_in}
+use Rattle.tla_tree.specs.Nesting.{text_nesting}
+use Rattle.tla_tree.specs.Reader.{Out, readers, readers_in, read}
 use Rattle.module_tree.specs.Module.{test, setting, unchanged, exists, local, if_then_else, either, no_items, item, no_branches, branch, call, call_with, one_way, some_way, Body, all_of, some_of, Fairness, Way, Region, Module, RegionUnit, constant_unit, variables_unit, definition_unit, vars_unit, process_set_unit, init_unit, action_unit, terminating_unit, next_unit, spec_unit, termination_unit, units_of}
 use Rattle.module_tree.specs.Grammar.{last_name, more_names}
+use Rattle.module_tree.specs.Units.{UnitForm}
+use Rattle.region_reading.specs.Bound.{Bound, unbounded, bounded}
+use Rattle.region_reading.specs.Opens.{unit_opens}
 use Rattle.region_reading.specs.NameReader.{names_in, parameters_in}
 use Rattle.region_reading.specs.ItemReader.{item_readers}
-use Rattle.region_reading.specs.UnitReader.{unit_in}
+use Rattle.region_reading.specs.UnitReader.{unit_by, form_within, form_in, unit_in}
 use Rattle.region_reading.specs.RegionReader.{region_in}
 use Rattle.region_reading.specs.ModuleReader.{module_in}
 
@@ -29,7 +35,7 @@ name_at l c x = node (name x) (at l c) no_trees
 names : names_in 1 (seen (codes "  a, b)")) ≡ Ok (more_names (at 1 3) (codes "a") (at 1 4) (last_name (at 1 6) (codes "b")), seen (codes "      )"))
 names = refl
 
-no_parameters : parameters_in (seen (codes "  == a")) ≡ Ok (None, seen (codes "  == a"))
+no_parameters : parameters_in unbounded (seen (codes "  == a")) ≡ Ok (None, seen (codes "  == a"))
 no_parameters = refl
 
 -- ---- units
@@ -121,6 +127,94 @@ no_steps = refl
 termination : unit_in (seen (codes "Termination == <>(x)")) ≡ Some (termination_unit (name_at 1 19 (codes "x")))
 unfolding readers_in
 termination = refl
+
+-- ---- how many forms open, and bounds on them
+
+abbrev opens : List ℕ → Option ℕ
+opens text = option_map (unit_opens text_nesting) (form_in (seen text))
+
+none_opens : opens (codes "VARIABLES x, y") ≡ Some 0
+none_opens = refl
+
+-- the brackets of parameters, and those of the body
+parameters_open : opens (codes "N(a, b) == a") ≡ Some 1
+unfolding readers_in
+parameters_open = refl
+
+tuple_opens : opens (codes "vars == <<x, y>>") ≡ Some 1
+tuple_opens = refl
+
+-- the list, and what is added in it
+init_opens : opens (codes "Init ==\n  /\\ x = 1\n  /\\ y") ≡ Some 2
+unfolding readers_in
+init_opens = refl
+
+-- the list, and `=`, `UNCHANGED` and its tuple
+settings_open : opens (codes "A ==\n  /\\ x' = (y)\n  /\\ UNCHANGED <<y, z>>") ≡ Some 3
+unfolding readers_in item_readers
+settings_open = refl
+
+-- the list, `IF`, its list, branches, their list, and the brackets of the test
+branches_open : opens (codes "A ==\n  /\\ IF (x) THEN\n    /\\ \\/ /\\ (y)\n    ELSE\n    /\\ (z)") ≡ Some 6
+unfolding readers_in item_readers
+branches_open = refl
+
+-- the list, `\E`, and the brackets of the call
+next_opens : opens (codes "Next ==\n  \\/ \\E self \\in S : P(self)\n  \\/ Terminating") ≡ Some 3
+unfolding readers_in
+next_opens = refl
+
+-- the list, `[]`, and the brackets of its step
+steps_open : opens (codes "Spec ==\n  /\\ Init\n  /\\ [][Next]_vars") ≡ Some 3
+steps_open = refl
+
+-- the list, `\A`, the brackets of `WF_vars`, the `/\` in them, and the brackets of the call
+fairness_opens : opens (codes "Spec ==\n  /\\ Init\n  /\\ [][Next]_vars\n  /\\ \\A self \\in S : WF_vars((x) /\\ P(self))") ≡ Some 5
+unfolding readers_in
+fairness_opens = refl
+
+-- `<>` and the brackets
+termination_opens : opens (codes "Termination == <>(x)") ≡ Some 2
+unfolding readers_in
+termination_opens = refl
+
+-- where so many forms may open, and expressions are read however deep they nest
+abbrev up_to : ℕ → Bound
+up_to l = bounded (λ n e. read e) l
+
+-- the rule of a refusal, and the tokens from the refused one on
+abbrev stop_of : Out UnitForm → Option (Rule × List Token)
+stop_of (Err s) = Some s
+stop_of (Ok x) = None
+
+abbrev stop : ℕ → List Token → Option (Rule × List Token)
+stop l [] = None
+stop l (t ∷ ts) = stop_of (unit_by (up_to l) t.place t.kind ts)
+
+-- too deep at the bracket, in the list
+bracket_too_deep : stop 1 (seen (codes "A ==\n  /\\ (x)")) ≡ Some (TooDeep, seen (codes "\n     (x)"))
+unfolding readers_in item_readers
+bracket_too_deep = refl
+
+-- at the list itself
+list_too_deep : stop 0 (seen (codes "A ==\n  /\\ (x)")) ≡ Some (TooDeep, seen (codes "\n  /\\ (x)"))
+unfolding readers_in item_readers
+list_too_deep = refl
+
+-- at a tuple, past `UNCHANGED`
+tuple_too_deep : stop 2 (seen (codes "A ==\n  /\\ UNCHANGED <<y, z>>")) ≡ Some (TooDeep, seen (codes "\n               <<y, z>>"))
+unfolding readers_in item_readers
+tuple_too_deep = refl
+
+-- what stands there in place of what would open a form is refused as it is without a bound
+no_tuple : stop 2 (seen (codes "A ==\n  /\\ UNCHANGED y")) ≡ Some (Syntax, seen (codes "\n               y"))
+unfolding readers_in item_readers
+no_tuple = refl
+
+-- and with one form more it is read
+deep_enough : form_within (up_to 2) (seen (codes "A ==\n  /\\ (x)")) ≡ form_in (seen (codes "A ==\n  /\\ (x)"))
+unfolding readers_in item_readers
+deep_enough = refl
 
 -- ---- translations
 

@@ -19,6 +19,7 @@ use Rattle.module_tree.specs.Module.{RegionUnit}
 use Rattle.module_tree.specs.Grammar.{see, keyword, Names, last_name, more_names, spell_names, ListForm, last_item, more_items, spell_item, spell_list, list_column, WayForm, spell_way, GoodWay, spell_bullets, GoodSome}
 use Rattle.module_tree.specs.Units.{SpecForm, start_line, steps_line, fair_line, is_steps, FairForm, fair_specs, spell_spec, GoodSpec, ParameterForm, spell_parameters, GoodParameters, BodyForm, all_form, some_form, spell_body, GoodBody, begins_list, UnitForm, constant_form, variables_form, definition_form, vars_form, process_set_form, init_form, action_form, terminating_form, next_form, spec_form, termination_form, spell_unit, unit_of, GoodUnit, IsUnit}
 use Rattle.module_tree.proofs.OneItem.{bullet_calm, calm_at}
+use Rattle.region_reading.specs.Bound.{unbounded, a_phrase}
 use Rattle.region_reading.specs.NameReader.{whole, gives_if, bulleted_in}
 use Rattle.region_reading.specs.ItemReader.{list_in}
 use Rattle.region_reading.specs.CallReader.{way_in, spec_in, fairs_of}
@@ -34,7 +35,7 @@ use Rattle.region_reading.proofs.CallsRead.{way_ok, NoBracket, no_bracket_at, wa
 abbrev pub IsTitled : Place → Word → List Token → UnitForm → List Token → Type 0
 IsTitled p x ts f us = GoodUnit f × (spell_unit f us ≡ word p x ts)
 
-vars_ok : (p : Place) (ts : List Token) (f : UnitForm) (us : List Token) → vars_from p ts ≡ Ok (f, us) → IsTitled p (codes "vars") ts f us
+vars_ok : (p : Place) (ts : List Token) (f : UnitForm) (us : List Token) → vars_from unbounded p ts ≡ Ok (f, us) → IsTitled p (codes "vars") ts f us
 vars_ok p ts f us o =
     let v = then_ok o in
     let a = mark_ok 1 tk.defines ts v.0 v.1 v.2 in
@@ -46,7 +47,7 @@ vars_ok p ts f us o =
     let d = mark_ok 1 tk.close_tuple z.1 i.0 i.1 i.2 in
     given (λ d vs. IsTitled p (codes "vars") ts d vs) i.3 ((a.0, b.0, c.0, d.0), rw (d.1, c.1, b.1, a.1) refl)
 
-process_set_ok : (p : Place) (ts : List Token) (f : UnitForm) (us : List Token) → process_set_from p ts ≡ Ok (f, us) → IsTitled p (codes "ProcSet") ts f us
+process_set_ok : (p : Place) (ts : List Token) (f : UnitForm) (us : List Token) → process_set_from unbounded p ts ≡ Ok (f, us) → IsTitled p (codes "ProcSet") ts f us
 process_set_ok p ts f us o =
     let v = then_ok o in
     let a = mark_ok 1 tk.defines ts v.0 v.1 v.2 in
@@ -57,15 +58,15 @@ process_set_ok p ts f us o =
 phrase_sound : IsSound Good spell read
 phrase_sound e ts a us o = (let w = read_is_spelled e ts us a o in (w.0, sym w.1))
 
-init_ok : (p : Place) (ts : List Token) (f : UnitForm) (us : List Token) → init_from p ts ≡ Ok (f, us) → IsTitled p (codes "Init") ts f us
+init_ok : (p : Place) (ts : List Token) (f : UnitForm) (us : List Token) → init_from unbounded p ts ≡ Ok (f, us) → IsTitled p (codes "Init") ts f us
 init_ok p ts f us o =
     let v = then_ok o in
     let a = mark_ok 1 tk.defines ts v.0 v.1 v.2 in
     let u = then_ok v.3 in
-    let b = bulleted_in_ok op.And Good spell read phrase_sound v.1 u.0 u.1 u.2 in
+    let b = bulleted_in_ok op.And Good spell a_phrase phrase_sound v.1 u.0 u.1 u.2 in
     given (λ d vs. IsTitled p (codes "Init") ts d vs) u.3 ((a.0, b.0), rw (b.1, a.1) refl)
 
-next_ok : (p : Place) (ts : List Token) (f : UnitForm) (us : List Token) → next_from p ts ≡ Ok (f, us) → IsTitled p (codes "Next") ts f us
+next_ok : (p : Place) (ts : List Token) (f : UnitForm) (us : List Token) → next_from unbounded p ts ≡ Ok (f, us) → IsTitled p (codes "Next") ts f us
 next_ok p ts f us o =
     let v = then_ok o in
     let a = mark_ok 1 tk.defines ts v.0 v.1 v.2 in
@@ -73,7 +74,7 @@ next_ok p ts f us o =
     let b = bulleted_in_ok op.Or GoodWay spell_way way_in way_ok v.1 u.0 u.1 u.2 in
     given (λ d vs. IsTitled p (codes "Next") ts d vs) u.3 ((a.0, b.0), rw (b.1, a.1) refl)
 
-terminating_ok : (p : Place) (ts : List Token) (f : UnitForm) (us : List Token) → terminating_from p ts ≡ Ok (f, us) → IsTitled p (codes "Terminating") ts f us
+terminating_ok : (p : Place) (ts : List Token) (f : UnitForm) (us : List Token) → terminating_from unbounded p ts ≡ Ok (f, us) → IsTitled p (codes "Terminating") ts f us
 terminating_ok p ts f us o =
     let v = then_ok o in
     let a = mark_ok 1 tk.defines ts v.0 v.1 v.2 in
@@ -94,7 +95,7 @@ terminating_ok p ts f us o =
     let q = title_ok e (codes "vars") l.1 n.0 n.1 n.2 in
     given (λ d vs. IsTitled p (codes "Terminating") ts d vs) n.3 ((a.0, b.0, c.0, d.0, g.0, h.1, m.0, q.0), rw (q.1, m.1, h.2, g.1, sym d.1, c.1, b.1, a.1) refl)
 
-termination_ok : (p : Place) (ts : List Token) (f : UnitForm) (us : List Token) → termination_from p ts ≡ Ok (f, us) → IsTitled p (codes "Termination") ts f us
+termination_ok : (p : Place) (ts : List Token) (f : UnitForm) (us : List Token) → termination_from unbounded p ts ≡ Ok (f, us) → IsTitled p (codes "Termination") ts f us
 termination_ok p ts f us o =
     let v = then_ok o in
     let a = mark_ok 1 tk.defines ts v.0 v.1 v.2 in
@@ -135,7 +136,7 @@ spec_of_ok p q r ((s, start_line t) ∷ (u, steps_line v w x y z) ∷ xs) us g f
     by None e h = absurd (none-some f h)
 spec_of_ok p q r xs us g f h = absurd cc
 
-spec_unit_ok : (p : Place) (ts : List Token) (f : UnitForm) (us : List Token) → spec_from p ts ≡ Ok (f, us) → IsTitled p (codes "Spec") ts f us
+spec_unit_ok : (p : Place) (ts : List Token) (f : UnitForm) (us : List Token) → spec_from unbounded p ts ≡ Ok (f, us) → IsTitled p (codes "Spec") ts f us
 spec_unit_ok p ts f us o =
     let v = then_ok o in
     let a = mark_ok 1 tk.defines ts v.0 v.1 v.2 in
@@ -156,19 +157,19 @@ title_case p x w ts f us A B go next o = by (bytes_eq x w) refl o
     by true q o = subst (λ (y : Word). IsTitled p y ts f us) (sym (same_bytes x w q)) (go o)
     by false q o = next o
 
-own_ok : (p : Place) (x : Word) (ts : List Token) (f : UnitForm) (us : List Token) → own_from p x ts ≡ Ok (f, us) → IsTitled p x ts f us
+own_ok : (p : Place) (x : Word) (ts : List Token) (f : UnitForm) (us : List Token) → own_from unbounded p x ts ≡ Ok (f, us) → IsTitled p x ts f us
 own_ok p x ts f us =
-    title_case p x (codes "vars") ts f us (vars_from p) _ (vars_ok p ts f us) (
-    title_case p x (codes "ProcSet") ts f us (process_set_from p) _ (process_set_ok p ts f us) (
-    title_case p x (codes "Init") ts f us (init_from p) _ (init_ok p ts f us) (
-    title_case p x (codes "Terminating") ts f us (terminating_from p) _ (terminating_ok p ts f us) (
-    title_case p x (codes "Next") ts f us (next_from p) _ (next_ok p ts f us) (
-    title_case p x (codes "Spec") ts f us (spec_from p) _ (spec_unit_ok p ts f us) (
-    title_case p x (codes "Termination") ts f us (termination_from p) _ (termination_ok p ts f us) (λ o. absurd cc)))))))
+    title_case p x (codes "vars") ts f us (vars_from unbounded p) _ (vars_ok p ts f us) (
+    title_case p x (codes "ProcSet") ts f us (process_set_from unbounded p) _ (process_set_ok p ts f us) (
+    title_case p x (codes "Init") ts f us (init_from unbounded p) _ (init_ok p ts f us) (
+    title_case p x (codes "Terminating") ts f us (terminating_from unbounded p) _ (terminating_ok p ts f us) (
+    title_case p x (codes "Next") ts f us (next_from unbounded p) _ (next_ok p ts f us) (
+    title_case p x (codes "Spec") ts f us (spec_from unbounded p) _ (spec_unit_ok p ts f us) (
+    title_case p x (codes "Termination") ts f us (termination_from unbounded p) _ (termination_ok p ts f us) (λ o. absurd cc)))))))
 
 -- ---- bodies
 
-body_by_ok : (p : Place) (k : TokenView) (ts : List Token) (b : BodyForm) (us : List Token) → body_by p k ts ≡ Ok (b, us) → GoodBody b × (spell_body b us ≡ ts)
+body_by_ok : (p : Place) (k : TokenView) (ts : List Token) (b : BodyForm) (us : List Token) → body_by unbounded p k ts ≡ Ok (b, us) → GoodBody b × (spell_body b us ≡ ts)
 body_by_ok p (sign op.And) ts b us o =
     let v = then_ok o in
     let w = list_ok 1 ts v.0 v.1 v.2 in
@@ -179,7 +180,7 @@ body_by_ok p (sign op.Or) ts b us o =
     given (λ d vs. GoodBody d × (spell_body d vs ≡ ts)) v.3 (w.0, w.1)
 body_by_ok p k ts b us o = absurd cc
 
-body_ok : (ts : List Token) (b : BodyForm) (us : List Token) → body_in ts ≡ Ok (b, us) → GoodBody b × (spell_body b us ≡ ts)
+body_ok : (ts : List Token) (b : BodyForm) (us : List Token) → body_in unbounded ts ≡ Ok (b, us) → GoodBody b × (spell_body b us ≡ ts)
 body_ok ts b us o = body_by_ok (next 1 ts).place (next 1 ts).kind ts b us o
 
 -- ---- definitions and actions
@@ -199,10 +200,10 @@ action_with_ok p x n None g q h b k f us o =
 action_with_ok p x n (Some d) g q h b k f us o = action_of_ok p x n d.left d.names d.right g q h b k f us o
 
 defined_by_ok : (p : Place) (x : Word) → is_own x ≡ false → (g : Option ParameterForm) → GoodParameters 1 g → (q : Place) → Right 1 q → (ts : List Token) (f : UnitForm)
-    → defined_by p x g q ts ≡ Ok (f, []) → IsTitled p x (spell_parameters g (see q (mark tk.defines) ts)) f []
+    → defined_by unbounded p x g q ts ≡ Ok (f, []) → IsTitled p x (spell_parameters g (see q (mark tk.defines) ts)) f []
 defined_by_ok p x n g gg q h ts f o = by (begins_list ts) refl o
   where
-    action : action_from p x g q ts ≡ Ok (f, []) → IsTitled p x (spell_parameters g (see q (mark tk.defines) ts)) f []
+    action : action_from unbounded p x g q ts ≡ Ok (f, []) → IsTitled p x (spell_parameters g (see q (mark tk.defines) ts)) f []
     action o =
         let v = then_ok o in
         let w = body_ok ts v.0 v.1 v.2 in
@@ -211,7 +212,7 @@ defined_by_ok p x n g gg q h ts f o = by (begins_list ts) refl o
         let e : spell_unit f [] ≡ spell_unit f v.1 = ap (spell_unit f) (sym u.1) in
         (z.0, e ∙ z.1 ∙ rw w.1 refl)
 
-    definition : begins_list ts ≡ false → definition_from p x g q ts ≡ Ok (f, []) → IsTitled p x (spell_parameters g (see q (mark tk.defines) ts)) f []
+    definition : begins_list ts ≡ false → definition_from unbounded p x g q ts ≡ Ok (f, []) → IsTitled p x (spell_parameters g (see q (mark tk.defines) ts)) f []
     definition k o =
         let v = then_ok o in
         let w = read_is_spelled 1 ts v.1 v.0 v.2 in
@@ -220,11 +221,11 @@ defined_by_ok p x n g gg q h ts f o = by (begins_list ts) refl o
         let none : begins_list (spell v.0 []) ≡ false = ap begins_list spelled ∙ k in
         subst (λ (f : UnitForm). IsTitled p x (spell_parameters g (see q (mark tk.defines) ts)) f []) u.0 ((rw n refl, gg, h, w.0, ap not none), ap (λ (vs : List Token). word p x (spell_parameters g (see q (mark tk.defines) vs))) spelled)
 
-    by : (b : Bool) → begins_list ts ≡ b → (if b then action_from p x g q else definition_from p x g q) ts ≡ Ok (f, []) → IsTitled p x (spell_parameters g (see q (mark tk.defines) ts)) f []
+    by : (b : Bool) → begins_list ts ≡ b → (if b then action_from unbounded p x g q else definition_from unbounded p x g q) ts ≡ Ok (f, []) → IsTitled p x (spell_parameters g (see q (mark tk.defines) ts)) f []
     by true k o = action o
     by false k o = definition k o
 
-defined_ok : (p : Place) (x : Word) → is_own x ≡ false → (ts : List Token) (f : UnitForm) → defined_from p x ts ≡ Ok (f, []) → IsTitled p x ts f []
+defined_ok : (p : Place) (x : Word) → is_own x ≡ false → (ts : List Token) (f : UnitForm) → defined_from unbounded p x ts ≡ Ok (f, []) → IsTitled p x ts f []
 defined_ok p x n ts f o =
     let v = then_ok o in
     let a = parameters_ok ts v.0 v.1 v.2 in
@@ -264,16 +265,16 @@ declared_ok p w ts f us o = first (bytes_eq w (codes "CONSTANT")) refl o
     first true q o = subst (IsDeclared p ts f us) (sym (same_bytes w (codes "CONSTANT") q)) (constants o)
     first false q o = second (bytes_eq w (codes "VARIABLES")) refl o
 
-unit_by_ok : (p : Place) (k : TokenView) (ts : List Token) (f : UnitForm) → unit_by p k ts ≡ Ok (f, []) → GoodUnit f × (spell_unit f [] ≡ see p k ts)
+unit_by_ok : (p : Place) (k : TokenView) (ts : List Token) (f : UnitForm) → unit_by unbounded p k ts ≡ Ok (f, []) → GoodUnit f × (spell_unit f [] ≡ see p k ts)
 unit_by_ok p (tk.other w) ts f o = declared_ok p w ts f [] o
 unit_by_ok p (tk.word x) ts f o = by (is_own x) refl o
   where
-    by : (b : Bool) → is_own x ≡ b → (if b then own_from p x else defined_from p x) ts ≡ Ok (f, []) → IsTitled p x ts f []
+    by : (b : Bool) → is_own x ≡ b → (if b then own_from unbounded p x else defined_from unbounded p x) ts ≡ Ok (f, []) → IsTitled p x ts f []
     by true n o = own_ok p x ts f [] o
     by false n o = defined_ok p x n ts f o
 unit_by_ok p k ts f o = absurd cc
 
-whole_ok : {A : Type 0} (o : Out A) (a : A) → whole o ≡ Some a → o ≡ Ok (a, [])
+pub whole_ok : {A : Type 0} (o : Out A) (a : A) → whole o ≡ Some a → o ≡ Ok (a, [])
 whole_ok (Ok (b, [])) a h = ap (λ b. Ok (b, [])) (same_Some b a h)
 whole_ok (Ok (b, t ∷ ts)) a h = absurd (none-some a h)
 whole_ok (Err s) a h = absurd (none-some a h)
@@ -281,7 +282,7 @@ whole_ok (Err s) a h = absurd (none-some a h)
 -- the unit that is read is one whose tokens these are
 pub form_ok : (ts : List Token) (f : UnitForm) → form_in ts ≡ Some f → GoodUnit f × (ts ≡ spell_unit f [])
 form_ok [] f h = absurd (none-some f h)
-form_ok (t ∷ ts) f h = (let w = unit_by_ok t.place t.kind ts f (whole_ok (unit_by t.place t.kind ts) f h) in (w.0, sym w.1))
+form_ok (t ∷ ts) f h = (let w = unit_by_ok t.place t.kind ts f (whole_ok (unit_by unbounded t.place t.kind ts) f h) in (w.0, sym w.1))
 
 -- ---- what is spelled is read
 
@@ -297,31 +298,31 @@ Anywhere e ts = Unit {0}
 all_ends : Ends op.And Anywhere
 all_ends = record { before = λ c p r h. tt; ended = λ c. tt }
 
-phrases_read : (es : List (Place × Phrase)) → GoodSome Good es → bulleted_in op.And read (spell_bullets (sign op.And) spell es []) ≡ Ok (es, [])
-phrases_read es g = bulleted_in_read op.And Calm Good spell read calm_ends phrase_read shorter es g
+phrases_read : (es : List (Place × Phrase)) → GoodSome Good es → bulleted_in unbounded op.And a_phrase (spell_bullets (sign op.And) spell es []) ≡ Ok (es, [])
+phrases_read es g = bulleted_in_read op.And Calm Good spell a_phrase calm_ends phrase_read shorter es g
 
-ways_read : (ys : List (Place × WayForm)) → GoodSome GoodWay ys → bulleted_in op.Or way_in (spell_bullets (sign op.Or) spell_way ys []) ≡ Ok (ys, [])
+ways_read : (ys : List (Place × WayForm)) → GoodSome GoodWay ys → bulleted_in unbounded op.Or way_in (spell_bullets (sign op.Or) spell_way ys []) ≡ Ok (ys, [])
 ways_read ys g = bulleted_in_read op.Or NoBracket GoodWay spell_way way_in bracket_ends way_read way_shorter ys g
 
-specs_read : (xs : List (Place × SpecForm)) → GoodSome GoodSpec xs → bulleted_in op.And spec_in (spell_bullets (sign op.And) spell_spec xs []) ≡ Ok (xs, [])
+specs_read : (xs : List (Place × SpecForm)) → GoodSome GoodSpec xs → bulleted_in unbounded op.And spec_in (spell_bullets (sign op.And) spell_spec xs []) ≡ Ok (xs, [])
 specs_read xs g = bulleted_in_read op.And Anywhere GoodSpec spell_spec spec_in all_ends (λ e f g r k. spec_read e f g r) spec_shorter xs g
 
 -- ---- units with titles of their own
 
-vars_read : (p q s : Place) (ns : Names) (t : Place) → GoodUnit (vars_form p q s ns t) → vars_from p (see q (mark tk.defines) (see s (mark tk.open_tuple) (spell_names ns (see t (mark tk.close_tuple) [])))) ≡ Ok (vars_form p q s ns t, [])
+vars_read : (p q s : Place) (ns : Names) (t : Place) → GoodUnit (vars_form p q s ns t) → vars_from unbounded p (see q (mark tk.defines) (see s (mark tk.open_tuple) (spell_names ns (see t (mark tk.close_tuple) [])))) ≡ Ok (vars_form p q s ns t, [])
 vars_read p q s ns t g = (let w = names_read 1 ns (see t (mark tk.close_tuple) []) g.2 (rw g.3 refl) in rw (g.0, g.1, w, g.3) refl)
 
-process_set_read : (p q : Place) (a : Phrase) → GoodUnit (process_set_form p q a) → process_set_from p (see q (mark tk.defines) (spell a [])) ≡ Ok (process_set_form p q a, [])
+process_set_read : (p q : Place) (a : Phrase) → GoodUnit (process_set_form p q a) → process_set_from unbounded p (see q (mark tk.defines) (spell a [])) ≡ Ok (process_set_form p q a, [])
 process_set_read p q a g = rw (g.0, phrase_read 1 a g.1 [] refl) refl
 
-init_read : (p q : Place) (es : List (Place × Phrase)) → GoodUnit (init_form p q es) → init_from p (see q (mark tk.defines) (spell_bullets (sign op.And) spell es [])) ≡ Ok (init_form p q es, [])
+init_read : (p q : Place) (es : List (Place × Phrase)) → GoodUnit (init_form p q es) → init_from unbounded p (see q (mark tk.defines) (spell_bullets (sign op.And) spell es [])) ≡ Ok (init_form p q es, [])
 init_read p q es g = rw (g.0, phrases_read es g.1) refl
 
-next_read : (p q : Place) (ys : List (Place × WayForm)) → GoodUnit (next_form p q ys) → next_from p (see q (mark tk.defines) (spell_bullets (sign op.Or) spell_way ys [])) ≡ Ok (next_form p q ys, [])
+next_read : (p q : Place) (ys : List (Place × WayForm)) → GoodUnit (next_form p q ys) → next_from unbounded p (see q (mark tk.defines) (spell_bullets (sign op.Or) spell_way ys [])) ≡ Ok (next_form p q ys, [])
 next_read p q ys g = rw (g.0, ways_read ys g.1) refl
 
 terminating_read : (p q s t : Place) (a : Phrase) (u v w z : Place) → GoodUnit (terminating_form p q s t a u v w z)
-    → terminating_from p (see q (mark tk.defines) (see s (sign op.And) (see t (mark tk.open_bracket) (spell a (see u (mark tk.close_bracket) (see v (sign op.And) (keyword w (codes "UNCHANGED") (word z (codes "vars") []))))))))
+    → terminating_from unbounded p (see q (mark tk.defines) (see s (sign op.And) (see t (mark tk.open_bracket) (spell a (see u (mark tk.close_bracket) (see v (sign op.And) (keyword w (codes "UNCHANGED") (word z (codes "vars") []))))))))
     ≡ Ok (terminating_form p q s t a u v w z, [])
 terminating_read p q s t a u v w z g =
     let e = s.col in
@@ -336,29 +337,29 @@ steps_are (start_line v) h p q s t u fs = absurd cc
 steps_are (fair_line v) h p q s t u fs = absurd cc
 
 spec_unit_read : (p q s t u : Place) (f : SpecForm) (fs : List (Place × FairForm)) → GoodUnit (spec_form p q s t u f fs)
-    → spec_from p (see q (mark tk.defines) (spell_bullets (sign op.And) spell_spec ((s, start_line t) ∷ (u, f) ∷ fair_specs fs) [])) ≡ Ok (spec_form p q s t u f fs, [])
+    → spec_from unbounded p (see q (mark tk.defines) (spell_bullets (sign op.And) spell_spec ((s, start_line t) ∷ (u, f) ∷ fair_specs fs) [])) ≡ Ok (spec_form p q s t u f fs, [])
 spec_unit_read p q s t u f fs g = rw (g.0, specs_read ((s, start_line t) ∷ (u, f) ∷ fair_specs fs) g.2, steps_are f g.1 p q s t u fs) refl
 
 termination_read : (p q s t u : Place) (a : Phrase) (v : Place) → GoodUnit (termination_form p q s t u a v)
-    → termination_from p (see q (mark tk.defines) (see s (sign op.Less) (see t (sign op.Greater) (see u (mark tk.open_bracket) (spell a (see v (mark tk.close_bracket) [])))))) ≡ Ok (termination_form p q s t u a v, [])
+    → termination_from unbounded p (see q (mark tk.defines) (see s (sign op.Less) (see t (sign op.Greater) (see u (mark tk.open_bracket) (spell a (see v (mark tk.close_bracket) [])))))) ≡ Ok (termination_form p q s t u a v, [])
 termination_read p q s t u a v g =
     let w = phrase_read 1 a g.4 (see v (mark tk.close_bracket) []) (calm_at 1 v (mark tk.close_bracket) [] g.5 refl) in
     rw (g.0, g.1, g.2, g.3, w, g.5) refl
 
 -- ---- definitions and actions
 
-by_item : (is : ListForm) (r : List Token) → nat_lt 1 (list_column is) ≡ true → body_in (spell_list is r) ≡ (list_in 1 >>= λ is. gives (all_form is)) (spell_list is r)
-by_item (last_item p i) r g = (let us = spell_item i r in ap (λ (t : Token). body_by t.place t.kind (see p (sign op.And) us)) (next_is 1 p (sign op.And) us g))
-by_item (more_items p i is) r g = (let us = spell_item i (spell_list is r) in ap (λ (t : Token). body_by t.place t.kind (see p (sign op.And) us)) (next_is 1 p (sign op.And) us g))
+by_item : (is : ListForm) (r : List Token) → nat_lt 1 (list_column is) ≡ true → body_in unbounded (spell_list is r) ≡ (list_in unbounded 1 >>= λ is. gives (all_form is)) (spell_list is r)
+by_item (last_item p i) r g = (let us = spell_item i r in ap (λ (t : Token). body_by unbounded t.place t.kind (see p (sign op.And) us)) (next_is 1 p (sign op.And) us g))
+by_item (more_items p i is) r g = (let us = spell_item i (spell_list is r) in ap (λ (t : Token). body_by unbounded t.place t.kind (see p (sign op.And) us)) (next_is 1 p (sign op.And) us g))
 
 by_way : (ys : List (Place × WayForm)) → GoodSome GoodWay ys
-    → body_in (spell_bullets (sign op.Or) spell_way ys []) ≡ (bulleted_in op.Or way_in >>= λ ys. gives (some_form ys)) (spell_bullets (sign op.Or) spell_way ys [])
+    → body_in unbounded (spell_bullets (sign op.Or) spell_way ys []) ≡ (bulleted_in unbounded op.Or way_in >>= λ ys. gives (some_form ys)) (spell_bullets (sign op.Or) spell_way ys [])
 by_way [] g = absurd g
 by_way (y ∷ ys) g =
     let us = spell_way y.1 (spell_bullets (sign op.Or) spell_way ys []) in
-    ap (λ (t : Token). body_by t.place t.kind (see y.0 (sign op.Or) us)) (next_is 1 y.0 (sign op.Or) us g.0)
+    ap (λ (t : Token). body_by unbounded t.place t.kind (see y.0 (sign op.Or) us)) (next_is 1 y.0 (sign op.Or) us g.0)
 
-body_read : (b : BodyForm) → GoodBody b → body_in (spell_body b []) ≡ Ok (b, [])
+body_read : (b : BodyForm) → GoodBody b → body_in unbounded (spell_body b []) ≡ Ok (b, [])
 body_read (all_form is) g = by_item is [] g.0 ∙ rw (list_read 1 is g.0 g.1 [] refl) refl
 body_read (some_form ys) g = by_way ys g ∙ rw (ways_read ys g) refl
 
@@ -370,24 +371,24 @@ body_begins (some_form (y ∷ ys)) g = refl
 
 -- behind the title and parameters
 defined_read : (p : Place) (x : Word) (f : Option ParameterForm) (q : Place) (r : List Token) → GoodParameters 1 f → Right 1 q
-    → defined_from p x (spell_parameters f (see q (mark tk.defines) r)) ≡ defined_by p x f q r
+    → defined_from unbounded p x (spell_parameters f (see q (mark tk.defines) r)) ≡ defined_by unbounded p x f q r
 defined_read p x f q r g h = rw (parameters_read f q r g h, h) refl
 
-definition_read : (p : Place) (x : Word) (f : Option ParameterForm) (q : Place) (a : Phrase) → GoodUnit (definition_form p x f q a) → defined_by p x f q (spell a []) ≡ Ok (definition_form p x f q a, [])
+definition_read : (p : Place) (x : Word) (f : Option ParameterForm) (q : Place) (a : Phrase) → GoodUnit (definition_form p x f q a) → defined_by unbounded p x f q (spell a []) ≡ Ok (definition_form p x f q a, [])
 definition_read p x f q a g =
-    ap (λ (b : Bool). (if b then action_from p x f q else definition_from p x f q) (spell a [])) (not-true (begins_list (spell a [])) g.4)
+    ap (λ (b : Bool). (if b then action_from unbounded p x f q else definition_from unbounded p x f q) (spell a [])) (not-true (begins_list (spell a [])) g.4)
     ∙ rw (phrase_read 1 a g.3 [] refl) refl
 
 action_read : (p : Place) (x : Word) (f : Option ParameterForm) (q : Place) (b : BodyForm) (u : UnitForm) → GoodBody b → action_with p x f q b ≡ Some u
-    → defined_by p x f q (spell_body b []) ≡ Ok (u, [])
+    → defined_by unbounded p x f q (spell_body b []) ≡ Ok (u, [])
 action_read p x f q b u g h =
-    ap (λ (b2 : Bool). (if b2 then action_from p x f q else definition_from p x f q) (spell_body b [])) (body_begins b g)
+    ap (λ (b2 : Bool). (if b2 then action_from unbounded p x f q else definition_from unbounded p x f q) (spell_body b [])) (body_begins b g)
     ∙ rw (body_read b g, h) refl
 
 -- ---- units
 
-by_title : (p : Place) (x : Word) (ts : List Token) → is_own x ≡ false → unit_by p (tk.word x) ts ≡ defined_from p x ts
-by_title p x ts n = ap (λ (b : Bool). (if b then own_from p x else defined_from p x) ts) n
+by_title : (p : Place) (x : Word) (ts : List Token) → is_own x ≡ false → unit_by unbounded p (tk.word x) ts ≡ defined_from unbounded p x ts
+by_title p x ts n = ap (λ (b : Bool). (if b then own_from unbounded p x else defined_from unbounded p x) ts) n
 
 -- a unit is read of its tokens
 pub form_read : (f : UnitForm) → GoodUnit f → form_in (spell_unit f []) ≡ Some f

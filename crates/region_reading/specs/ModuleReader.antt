@@ -15,7 +15,8 @@ use Rattle.module_tree.specs.FileUnits.{tokens_in, units_in}
 use Rattle.module_tree.specs.FileOffences.{offences_of}
 use Rattle.module_tree.specs.Ways.{is_terminating}
 use Rattle.outside_reading.specs.PlainUnits.{outside_in}
-use Rattle.region_reading.specs.UnitReader.{unit_in}
+use Rattle.region_reading.specs.Bound.{Bound, unbounded}
+use Rattle.region_reading.specs.UnitReader.{unit_within}
 use Rattle.region_reading.specs.RegionReader.{region_in}
 
 abbrev pub is_nothing : {A : Type 0} → List A → Bool
@@ -38,9 +39,9 @@ one_unit_more (Some u) (Some us) = Some (u ∷ us)
 one_unit_more u us = None
 
 -- all of these, if each is the unit of a translation
-abbrev pub units_are : List (List Token) → Option (List RegionUnit)
-units_are [] = Some []
-units_are (ts ∷ tss) = one_unit_more (unit_in ts) (units_are tss)
+abbrev pub units_are : Bound → List (List Token) → Option (List RegionUnit)
+units_are m [] = Some []
+units_are m (ts ∷ tss) = one_unit_more (unit_within m ts) (units_are m tss)
 
 abbrev pub region_of_units : Option (List RegionUnit) → Option Region
 region_of_units (Some us) = region_in us
@@ -51,12 +52,12 @@ abbrev pub is_sound_region : List Located → Bool
 is_sound_region ds = is_nothing (offences_of ds) && (not (is_some (module_end ds)) && (are_small (tokens_in ds) && is_nothing (units_in ds).front))
 
 -- the translation in these segments
-abbrev pub translation_in : List Located → Option Region
-translation_in ds = if is_sound_region ds then region_of_units (units_are (units_in ds).units) else None
+abbrev pub translation_in : Bound → List Located → Option Region
+translation_in m ds = if is_sound_region ds then region_of_units (units_are m (units_in ds).units) else None
 
-abbrev pub translation_of : Option Located → Option Region
-translation_of (Some d) = translation_in (inside_region d)
-translation_of None = None
+abbrev pub translation_of : Bound → Option Located → Option Region
+translation_of m (Some d) = translation_in m (inside_region d)
+translation_of m None = None
 
 -- ---- the module
 
@@ -79,9 +80,13 @@ module_of t o r = None
 abbrev pub outside_of_file : List Located → Outside
 outside_of_file ds = outside_in (units_in (before_spot ds)).units (units_in (after_spot ds)).units
 
-abbrev pub module_of_file : List Located → Option Module
-module_of_file ds = if is_sound_file ds then module_of (title ds) (outside_of_file ds) (translation_of (region_of ds)) else None
+abbrev pub module_of_file : Bound → List Located → Option Module
+module_of_file m ds = if is_sound_file ds then module_of (title ds) (outside_of_file ds) (translation_of m (region_of ds)) else None
 
--- the module that a text is
+-- the module that a text is, within a bound on each unit of its translation
+abbrev pub module_within : Bound → Text → Option Module
+module_within m w = module_of_file m (walk w)
+
+-- however deep it nests
 abbrev pub module_in : Text → Option Module
-module_in w = module_of_file (walk w)
+module_in w = module_within unbounded w

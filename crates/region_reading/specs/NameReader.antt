@@ -9,6 +9,7 @@ use Rattle.tla_tree.specs.Reader.{Out, Reader, ◌>>=◌, gives, refuses, next, 
 use Rattle.module_tree.specs.Grammar.{Names, last_name, more_names}
 use Rattle.module_tree.specs.Units.{ParameterForm}
 use Rattle.outside_reading.specs.PlainUnits.{is_keyword}
+use Rattle.region_reading.specs.Bound.{Bound, opened, opened_if}
 
 -- all of the tokens were read
 abbrev pub whole : {A : Type 0} → Out A → Option A
@@ -54,12 +55,15 @@ names_in e ts = some_names (length ts) e ts
 
 -- ---- the parameters after a title, if there are any
 
-abbrev pub parameters_by : Place → TokenView → Reader (Option ParameterForm)
-parameters_by p (tk.mark tk.open_bracket) = skip (names_in 1 >>= λ ns. a_mark 1 tk.close_bracket >>= λ q. gives (Some (record { left = p; names = ns; right = q })))
-parameters_by p k = gives None
+abbrev pub parameters_from : Place → Reader (Option ParameterForm)
+parameters_from p = names_in 1 >>= λ ns. a_mark 1 tk.close_bracket >>= λ q. gives (Some (record { left = p; names = ns; right = q }))
 
-abbrev pub parameters_in : Reader (Option ParameterForm)
-parameters_in = peek 1 parameters_by
+abbrev pub parameters_by : Bound → Place → TokenView → Reader (Option ParameterForm)
+parameters_by m p (tk.mark tk.open_bracket) = opened m (λ n. skip (parameters_from p))
+parameters_by m p k = gives None
+
+abbrev pub parameters_in : Bound → Reader (Option ParameterForm)
+parameters_in m = peek 1 (parameters_by m)
 
 -- ---- lists of forms, each after its bullet
 
@@ -84,6 +88,6 @@ bulleted (suc n) o f c = bulleted_step o f c (bulleted n o f c)
 abbrev pub bulleted_from : {A : Type 0} → Op → (ℕ → Reader A) → ℕ → Reader (List (Place × A))
 bulleted_from o f c ts = bulleted (length ts) o f c ts
 
--- in the column of the first bullet, right of column 1
-abbrev pub bulleted_in : {A : Type 0} → Op → (ℕ → Reader A) → Reader (List (Place × A))
-bulleted_in o f ts = bulleted_from o f (next 1 ts).place.col ts
+-- in the column of the first bullet, right of column 1: one form
+abbrev pub bulleted_in : {A : Type 0} → Bound → Op → (Bound → ℕ → Reader A) → Reader (List (Place × A))
+bulleted_in m o f ts = opened_if (is_sign o (next 1 ts).kind) m (λ n. bulleted_from o (f n) (next 1 ts).place.col) ts

@@ -1,19 +1,23 @@
 //! Laws of reading a translation, stated as what functions without a body ensure.
 
-ghost use Rattle.std.specs.Prelude.{◌≡◌, ℕ, List, [], Some};
+ghost use Rattle.std.specs.Prelude.{◌≡◌, ℕ, ◌≤◌, List, [], Some};
+ghost use Rattle.tla_token.specs.declared.place.Place.{Place};
 ghost use Rattle.tla_tree.specs.declared.op.Op.TheVariants as op;
-ghost use Rattle.tla_tree.specs.Lexical.{Token};
+ghost use Rattle.tla_tree.specs.Lexical.{TokenView, Token};
+ghost use Rattle.tla_tree.specs.Spelling.{Phrase};
+ghost use Rattle.tla_tree.specs.Reader.{Reader};
 ghost use Rattle.module_tree.specs.Module.{RegionUnit, Region, units_of, Module};
 ghost use Rattle.module_tree.specs.TextFront.{Text};
 ghost use Rattle.module_tree.specs.Units.{UnitForm, spell_unit, GoodUnit, IsUnit};
 ghost use Rattle.module_tree.specs.Reading.{Reads};
-ghost use Rattle.tla_tree.specs.Reader.{read};
+ghost use Rattle.region_reading.specs.Bound.{Bound, unbounded, bounded, a_phrase, OnlyRefuses, ReadsWithin, Shortens};
+ghost use Rattle.region_reading.specs.Opens.{unit_opens, TextOpens};
 ghost use Rattle.region_reading.specs.NameReader.{names_step, names_in, bulleted_step, bulleted_from};
 ghost use Rattle.region_reading.specs.ItemReader.{item_step, whole_items};
 ghost use Rattle.region_reading.specs.CallReader.{way_in, spec_in};
-ghost use Rattle.region_reading.specs.UnitReader.{form_in, unit_in};
+ghost use Rattle.region_reading.specs.UnitReader.{unit_by, form_within, form_in, unit_in};
 ghost use Rattle.region_reading.specs.RegionReader.{region_in};
-ghost use Rattle.region_reading.specs.ModuleReader.{module_in};
+ghost use Rattle.region_reading.specs.ModuleReader.{module_within, module_in};
 
 /// The unit that is read of tokens is one that may be spelled, and spelled just so; and each unit that may be spelled is read of its tokens.
 /// So what is read of tokens is the unit of a translation that they are, and where none is read they are no unit.
@@ -38,13 +42,31 @@ pub fn modules_are_read_exactly()
 
 /// The readers of lists have as many steps as they need, so each of them is one step over itself, however many tokens there are: names with commas, the forms behind
 /// the bullets of Init, Next and Spec, and items, lists of them and branches.
+/// That is so within each bound whose readers of expressions leave no more tokens than they were given, as those without a bound do.
 pub fn enough_steps_are_enough()
     ensures names { (edge : ℕ) (ts : List Token) → names_in edge ts ≡ names_step edge (names_in edge) ts }
-    ensures init { (c : ℕ) (ts : List Token) → bulleted_from op.And read c ts ≡ bulleted_step op.And read c (bulleted_from op.And read c) ts }
-    ensures next { (c : ℕ) (ts : List Token) → bulleted_from op.Or way_in c ts ≡ bulleted_step op.Or way_in c (bulleted_from op.Or way_in c) ts }
-    ensures spec { (c : ℕ) (ts : List Token) → bulleted_from op.And spec_in c ts ≡ bulleted_step op.And spec_in c (bulleted_from op.And spec_in c) ts }
-    ensures item { (ts : List Token) (edge : ℕ) → whole_items.item edge ts ≡ (item_step whole_items).item edge ts }
-    ensures list { (ts : List Token) (edge : ℕ) → whole_items.list edge ts ≡ (item_step whole_items).list edge ts }
-    ensures items { (ts : List Token) (edge c : ℕ) → whole_items.items edge c ts ≡ (item_step whole_items).items edge c ts }
-    ensures branches { (ts : List Token) (edge c : ℕ) → whole_items.branches edge c ts ≡ (item_step whole_items).branches edge c ts }
+    ensures init { (m : Bound) → Shortens m → (c : ℕ) (ts : List Token) → bulleted_from op.And (a_phrase m) c ts ≡ bulleted_step op.And (a_phrase m) c (bulleted_from op.And (a_phrase m) c) ts }
+    ensures next { (m : Bound) → Shortens m → (c : ℕ) (ts : List Token) → bulleted_from op.Or (way_in m) c ts ≡ bulleted_step op.Or (way_in m) c (bulleted_from op.Or (way_in m) c) ts }
+    ensures spec { (m : Bound) → Shortens m → (c : ℕ) (ts : List Token) → bulleted_from op.And (spec_in m) c ts ≡ bulleted_step op.And (spec_in m) c (bulleted_from op.And (spec_in m) c) ts }
+    ensures item { (m : Bound) → Shortens m → (ts : List Token) (edge : ℕ) → whole_items.item m edge ts ≡ (item_step whole_items).item m edge ts }
+    ensures list { (m : Bound) → Shortens m → (ts : List Token) (edge : ℕ) → whole_items.list m edge ts ≡ (item_step whole_items).list m edge ts }
+    ensures items { (m : Bound) → Shortens m → (ts : List Token) (edge c : ℕ) → whole_items.items m edge c ts ≡ (item_step whole_items).items m edge c ts }
+    ensures branches { (m : Bound) → Shortens m → (ts : List Token) (edge c : ℕ) → whole_items.branches m edge c ts ≡ (item_step whole_items).branches m edge c ts }
+    ensures any { Shortens unbounded }
+{}
+
+/// A bound only refuses, where expressions are read so that theirs does: what is read of a unit is what is read without a bound, and opens no more forms than may be
+/// open; it is refused by `Syntax` only where it is refused without a bound, and by `TooDeep` only where that is so or what is read opens more.
+/// So each unit that opens no more forms is read, and a text is read as a module within the bound exactly if it is one and no unit of its translation opens more.
+pub fn bounds_only_refuse()
+    ensures unit { (x : ℕ → ℕ → Reader Phrase) (bare : Phrase → ℕ) → ReadsWithin x bare → (l : ℕ) (p : Place) (k : TokenView) (ts : List Token) →
+        OnlyRefuses l (unit_opens bare) (unit_by (bounded x l) p k ts) (unit_by unbounded p k ts) }
+    ensures same { (x : ℕ → ℕ → Reader Phrase) (bare : Phrase → ℕ) → ReadsWithin x bare → (l : ℕ) (ts : List Token) (f : UnitForm) → form_within (bounded x l) ts ≡ Some f →
+        (form_in ts ≡ Some f) × (unit_opens bare f ≤ l) }
+    ensures fits { (x : ℕ → ℕ → Reader Phrase) (bare : Phrase → ℕ) → ReadsWithin x bare → (l : ℕ) (ts : List Token) (f : UnitForm) → form_in ts ≡ Some f → unit_opens bare f ≤ l →
+        form_within (bounded x l) ts ≡ Some f }
+    ensures sound { (x : ℕ → ℕ → Reader Phrase) (bare : Phrase → ℕ) → ReadsWithin x bare → (l : ℕ) (w : Text) (m : Module) → module_within (bounded x l) w ≡ Some m →
+        (module_in w ≡ Some m) × TextOpens bare l w }
+    ensures complete { (x : ℕ → ℕ → Reader Phrase) (bare : Phrase → ℕ) → ReadsWithin x bare → (l : ℕ) (w : Text) → TextOpens bare l w → (m : Module) → module_in w ≡ Some m →
+        module_within (bounded x l) w ≡ Some m }
 {}

@@ -1,5 +1,5 @@
 -- Proves the law `enough_steps_are_enough`.
-use Rattle.region_reading.proofs.EnoughSteps.{names_are, phrases_are, ways_are, specs_are, item_is, list_is, items_are, branches_are}
+use Rattle.region_reading.proofs.EnoughSteps.{names_are, phrases_are, ways_are, specs_are, item_is, list_is, items_are, branches_are, any_shortens}
 use Rattle.region_reading.proofs.laws.enough_steps_are_enough.Goals as goal
 
 pub returns-clause-names : goal.returns-clause-names
@@ -25,3 +25,6 @@ returns-clause-items c = items_are
 
 pub returns-clause-branches : goal.returns-clause-branches
 returns-clause-branches c = branches_are
+
+pub returns-clause-any : goal.returns-clause-any
+returns-clause-any c = any_shortens
