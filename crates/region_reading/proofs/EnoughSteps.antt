@@ -49,7 +49,7 @@ module _ {b : ℕ} where
 
 -- ---- within a bound
 
-rest_is : {A : Type 0} (o : Out A) → rest o ≡ rest_of o
+pub rest_is : {A : Type 0} (o : Out A) → rest o ≡ rest_of o
 rest_is (Ok x) = refl
 rest_is (Err s) = refl
 

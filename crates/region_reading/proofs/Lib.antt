@@ -13,5 +13,6 @@ pub mod BoundedCalls
 pub mod BoundedUnits
 pub mod BoundedModules
 pub mod BoundLaws
+pub mod BoundIsRead
 pub mod BoundMet
 mod Rows

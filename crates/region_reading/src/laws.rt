@@ -1,11 +1,13 @@
 //! Laws of reading a translation, stated as what functions without a body ensure.
 
-ghost use Rattle.std.specs.Prelude.{◌≡◌, ℕ, ◌≤◌, List, [], Some};
+ghost use Rattle.std.specs.Prelude.{◌≡◌, ℕ, ◌≤◌, false, List, [], Some};
 ghost use Rattle.tla_token.specs.declared.place.Place.{Place};
 ghost use Rattle.tla_tree.specs.declared.op.Op.TheVariants as op;
 ghost use Rattle.tla_tree.specs.Lexical.{TokenView, Token};
 ghost use Rattle.tla_tree.specs.Spelling.{Phrase};
 ghost use Rattle.tla_tree.specs.Reader.{Reader};
+ghost use Rattle.tla_tree.specs.Nesting.{nesting_in};
+ghost use Rattle.tla_tree.specs.Whole.{read_bounded};
 ghost use Rattle.module_tree.specs.Module.{RegionUnit, Region, units_of, Module};
 ghost use Rattle.module_tree.specs.TextFront.{Text};
 ghost use Rattle.module_tree.specs.Units.{UnitForm, spell_unit, GoodUnit, IsUnit};
@@ -69,4 +71,10 @@ pub fn bounds_only_refuse()
         (module_in w ≡ Some m) × TextOpens bare l w }
     ensures complete { (x : ℕ → ℕ → Reader Phrase) (bare : Phrase → ℕ) → ReadsWithin x bare → (l : ℕ) (w : Text) → TextOpens bare l w → (m : Module) → module_in w ≡ Some m →
         module_within (bounded x l) w ≡ Some m }
+{}
+
+/// There are such readers: those that read an expression of a module within a bound, fields and closed applications not counted, and none of them leaves more tokens than it was given.
+pub fn the_bound_of_expressions_will_do()
+    ensures within { ReadsWithin read_bounded (nesting_in false) }
+    ensures shortens { (l : ℕ) → Shortens (bounded read_bounded l) }
 {}
