@@ -5,7 +5,8 @@ use Rattle.tla_token.specs.declared.place.Place.{Place}
 use Rattle.tla_token.specs.declared.rule.Rule.{Rule}
 use Rattle.tla_token.specs.declared.rule.Rule.TheVariants.{TooDeep, Syntax}
 use Rattle.tla_token.specs.Cut.{tokens}
-use Rattle.tla_tree.specs.Tree.{Word, Tree, name, node, no_trees}
+use Rattle.tla_tree.specs.Tree.{Word, Tree, name, number, strict, operator, node, no_trees, tree}
+use Rattle.tla_tree.specs.declared.op.Op.TheVariants as op
 use Rattle.tla_tree.specs.Lexical.{Token}
 use Rattle.tla_tree.specs.TokenViews.{views}
 use Rattle.tla_tree.specs.Nesting.{text_nesting}
@@ -15,6 +16,7 @@ use Rattle.module_tree.specs.Grammar.{last_name, more_names}
 use Rattle.module_tree.specs.Units.{UnitForm}
 use Rattle.region_reading.specs.Bound.{Bound, unbounded, bounded}
 use Rattle.region_reading.specs.Opens.{unit_opens}
+use Rattle.region_reading.specs.Nests.{list_nests, item_nests, region_nests}
 use Rattle.region_reading.specs.NameReader.{names_in, parameters_in}
 use Rattle.region_reading.specs.ItemReader.{item_readers}
 use Rattle.region_reading.specs.UnitReader.{unit_by, form_within, form_in, unit_in}
@@ -234,6 +236,27 @@ no_constant = refl
 -- the units stand in one order
 other_order : region_in (vars_unit (codes "x" ∷ []) ∷ variables_unit (codes "x" ∷ []) ∷ init_unit [] ∷ next_unit [] ∷ spec_unit [] ∷ termination_unit end ∷ []) ≡ None
 other_order = refl
+
+-- ---- how deep the tree nests
+
+abbrev sum : Tree
+sum = node (strict (operator op.Plus)) (at 1 3) (tree end (tree (node (number 1) (at 1 5) no_trees) no_trees))
+
+-- x' = x + 1 in a list: the list, the equation, the sum
+one_setting : list_nests (item (setting (codes "x") sum) no_items) ≡ 3
+one_setting = refl
+
+-- \E y \in x : /\ x' = x + 1
+one_choice : item_nests (exists (codes "y") end (item (setting (codes "x") sum) no_items)) ≡ 4
+one_choice = refl
+
+-- a list in a branch of a list
+one_branch : item_nests (either (branch (item (unchanged (codes "x" ∷ [])) no_items) no_branches)) ≡ 4
+one_branch = refl
+
+-- `Termination == <>(x)` alone
+small_nests : region_nests small ≡ 2
+small_nests = refl
 
 -- ---- a module
 

@@ -6,3 +6,4 @@ pub mod UnitReader
 pub mod RegionReader
 pub mod ModuleReader
 pub mod Opens
+pub mod Nests
