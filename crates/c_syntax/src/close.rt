@@ -16,7 +16,7 @@ use std::alloc::{AllocError, Global};
 use tla_token::Place;
 
 /// What the next token asks of what stands open.
-#[derive(Clone, Copy, PartialEq, Eq, Debug)]
+#[derive(Clone, Copy, PartialEq, Eq)]
 pub enum Ask {
     /// An `else` comes.
     Else,
@@ -27,7 +27,7 @@ pub enum Ask {
 }
 
 /// What a statement that stands open does when the last one in it has ended, and something comes.
-#[derive(Clone, Copy, PartialEq, Eq, Debug)]
+#[derive(Clone, Copy)]
 pub enum Fate {
     /// It takes what comes.
     Takes,

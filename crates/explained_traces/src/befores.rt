@@ -152,7 +152,8 @@ fn label_named<'a>(
     }
 }
 
-/// The label from which the step to the state of a pair is taken; none where all is done, and nothing changes.
+/// The label from which the step to the state of a pair is taken; none where what Next says of no process is true of the pair,
+/// or where the process's `pc` names no label.
 ///
 /// # Errors
 ///

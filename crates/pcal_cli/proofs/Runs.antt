@@ -57,7 +57,7 @@ module _ {H K : Type 0} (texts : H → Option Texts) (given faults : H → ℕ) 
     lacking = λ w h. tt;
     long = λ w. of_all (texts shelf) (name_of names w) (λ x. most_bytes < length x → IsUnread run.Memory) (λ x h. tt);
     offends = of_texts (texts shelf) names (λ f. (w : Which) (r : Refusal) → Refuses forced f w r → IsUnwritten run.Memory) (λ f w r h. tt);
-    runs = of_texts (texts shelf) names (λ f. (w : List ℕ) (s : Option runner.Stop) → IsRun forced f w s → answers.IsRun s run.Memory) (λ f w s h. end_memory s);
+    runs = of_texts (texts shelf) names (λ f. (w : List ℕ) (s : Option runner.Stop) → IsRun forced f w s → answers.IsUnrefused s run.Memory) (λ f w s h. end_memory s);
     complete =
         of_texts (texts shelf) names (λ f. (w : List ℕ) (s : Option runner.Stop) → AreShort f → IsRun forced f w s → (RoseBy 1 (faults shelf) (faults shelf) → ⊥) → (RoseBy 1 (write_faults out) (write_faults out) → ⊥) → IsEnd s run.Memory) (λ f w s l h r o. end_memory s);
     unused = λ h. refl;

@@ -6,7 +6,7 @@ ghost use Rattle.pcal_cli.specs.Answers.{status_number, status_of};
 use tla_token::Refusal;
 
 /// How a run of the program ended. `number` gives the process's exit status.
-#[derive(Clone, Copy, PartialEq, Eq, Debug)]
+#[derive(Clone, Copy)]
 pub enum Status {
     /// The output was written whole.
     Fine,
@@ -52,7 +52,7 @@ pub fn number(status: Status) -> u8
 }
 
 /// How a command ended that writes a module; where its file was refused, by which rule and where.
-#[derive(Clone, Copy, PartialEq, Eq, Debug)]
+#[derive(Clone, Copy)]
 pub enum Answer {
     /// The module was written whole.
     Fine,

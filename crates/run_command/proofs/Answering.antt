@@ -35,7 +35,7 @@ pub memory_end : (o : Option runner.Stop) → IsEnd o answer.Memory
 memory_end None = tt
 memory_end (Some s) = tt
 
-unread_run : (o : Option runner.Stop) (a : RunAnswer) → IsUnread a → answers.IsRun o a
+unread_run : (o : Option runner.Stop) (a : RunAnswer) → IsUnread a → answers.IsUnrefused o a
 unread_run o answer.Fine h = absurd h
 unread_run o answer.Memory h = memory_end o
 unread_run o (answer.ReadFault w) h = tt
@@ -89,7 +89,7 @@ abbrev Offends : Bool → RunAnswer → Files → Type 0
 Offends forced a f = (w : Which) (r : Refusal) → Refuses forced f w r → IsUnwritten a
 
 abbrev Runs : Bool → RunAnswer → Files → Type 0
-Runs forced a f = (w : List ℕ) (s : Option runner.Stop) → IsRun forced f w s → answers.IsRun s a
+Runs forced a f = (w : List ℕ) (s : Option runner.Stop) → IsRun forced f w s → answers.IsUnrefused s a
 
 module _ {H K : Type 0} (texts : H → Option Texts) (given faults : H → ℕ) (wrote : K → Option (List ℕ)) (write_faults : K → ℕ) (n : Names) (forced : Bool) (a : RunAnswer) (shelf after : H) where
   abbrev Completes : K → K → Files → Type 0

@@ -29,7 +29,7 @@ ended_end : (o : Option Stop) → IsEnd (stop_of o) (answer_of o)
 ended_end None = tt
 ended_end (Some s) = refl
 
-ended_run : (o : Option Stop) → answers.IsRun (stop_of o) (answer_of o)
+ended_run : (o : Option Stop) → answers.IsUnrefused (stop_of o) (answer_of o)
 ended_run None = tt
 ended_run (Some s) = refl
 
@@ -111,7 +111,7 @@ module _ {K : Type 0} (wrote : K → Option (List ℕ)) (faults : K → ℕ) (fo
           write_fault = ended_fault o;
           refused = λ v r k. ended_refused o v r k;
           offends = λ v r k. absurd (not_both forced f v r k run.chosen);
-          runs = λ v s k. subst (λ t. answers.IsRun t (answer_of o)) (one_stop v s k) (ended_run o);
+          runs = λ v s k. subst (λ t. answers.IsUnrefused t (answer_of o)) (one_stop v s k) (ended_run o);
           complete = λ v s k never. subst (λ t. IsEnd t (answer_of o)) (one_stop v s k) (ended_end o);
           unused = ended_out o;
           fine = λ k. (b, whole, subst (λ p. IsRun forced f b (stop_of p)) (ended_fine o k) run);

@@ -51,7 +51,7 @@ pub record AnsweredRun {H K : Type 0} (texts : H → Option Texts) (given faults
   -- where one has an offence
   pub offends : OfTexts (texts shelf) names (λ f. (w : Which) (r : Refusal) → Refuses forced f w r → IsUnwritten a)
   -- where the files choose a run
-  pub runs : OfTexts (texts shelf) names (λ f. (w : List ℕ) (s : Option runner.Stop) → IsRun forced f w s → answers.IsRun s a)
+  pub runs : OfTexts (texts shelf) names (λ f. (w : List ℕ) (s : Option runner.Stop) → IsRun forced f w s → answers.IsUnrefused s a)
   -- and where nothing is in the way and no call failed
   pub complete : OfTexts (texts shelf) names (λ f. (w : List ℕ) (s : Option runner.Stop) → AreShort f → IsRun forced f w s → (RoseBy 1 (faults shelf) (faults shelf_after) → ⊥) → (RoseBy 1 (write_faults out) (write_faults out_after) → ⊥) → IsEnd s a)
   -- on these answers the output wasn't called: it is the very same

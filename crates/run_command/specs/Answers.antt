@@ -56,8 +56,8 @@ IsEnd o Memory = Unit {0}
 IsEnd o a = ⊥
 
 -- where no file is refused
-abbrev pub IsRun : Option Stop → RunAnswer → Type 0
-IsRun o (ReadFault w) = Unit {0}
-IsRun o (TooLong w) = Unit {0}
-IsRun o WriteFault = Unit {0}
-IsRun o a = IsEnd o a
+abbrev pub IsUnrefused : Option Stop → RunAnswer → Type 0
+IsUnrefused o (ReadFault w) = Unit {0}
+IsUnrefused o (TooLong w) = Unit {0}
+IsUnrefused o WriteFault = Unit {0}
+IsUnrefused o a = IsEnd o a

@@ -31,7 +31,7 @@ pub record Put {K : Type 0} (wrote : K → Option (List ℕ)) (faults : K → �
   pub write_fault : a ≡ answer.WriteFault → RoseBy 1 (faults out) (faults out_after)
   pub refused : (w : code.Which) (r : Refusal) → a ≡ answer.Refused w r → Refuses forced f (which_of w) r
   pub offends : (w : Which) (r : Refusal) → Refuses forced f w r → IsUnwritten a
-  pub runs : (w : List ℕ) (s : Option runner.Stop) → IsRun forced f w s → answers.IsRun s a
+  pub runs : (w : List ℕ) (s : Option runner.Stop) → IsRun forced f w s → answers.IsUnrefused s a
   pub complete : (w : List ℕ) (s : Option runner.Stop) → IsRun forced f w s → (RoseBy 1 (faults out) (faults out_after) → ⊥) → IsEnd s a
   pub unused : LeavesOut a → out_after ≡ out
   pub fine : a ≡ answer.Fine → Writes (wrote out) (wrote out_after) forced None f

@@ -34,7 +34,7 @@ pub enum RunAnswer {
     Stopped(Stop),
 }
 
-/// How a run ended, with the line that says where it stopped; that is empty for all other answers.
+/// How a run ended, with the line that says where it stopped before its end, if it did; that is empty for all other answers.
 #[derive(Drop)]
 pub struct Ended {
     /// How.

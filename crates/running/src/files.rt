@@ -14,7 +14,7 @@ pub struct Files<'a> {
 }
 
 /// One of the files of a run.
-#[derive(Clone, Copy, PartialEq, Eq, Debug)]
+#[derive(Clone, Copy)]
 pub enum Which {
     /// The module.
     Module,
@@ -25,7 +25,7 @@ pub enum Which {
 }
 
 /// Why there is no run.
-#[derive(Clone, Copy, PartialEq, Eq, Debug)]
+#[derive(Clone, Copy)]
 pub enum NoRun {
     /// Memory could not be had.
     Memory,
