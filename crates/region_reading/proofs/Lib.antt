@@ -14,5 +14,6 @@ pub mod BoundedUnits
 pub mod BoundedModules
 pub mod BoundLaws
 pub mod BoundIsRead
+pub mod AnswersRead
 pub mod BoundMet
 mod Rows

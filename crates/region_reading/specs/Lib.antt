@@ -7,3 +7,4 @@ pub mod RegionReader
 pub mod ModuleReader
 pub mod Opens
 pub mod Nests
+pub mod ReadAnswer

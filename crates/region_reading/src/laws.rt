@@ -1,7 +1,8 @@
 //! Laws of reading a translation, stated as what functions without a body ensure.
 
-ghost use Rattle.std.specs.Prelude.{◌≡◌, ℕ, ◌≤◌, false, List, [], Some};
+ghost use Rattle.std.specs.Prelude.{◌≡◌, ◌⊎◌, ℕ, ◌≤◌, false, List, [], Some};
 ghost use Rattle.tla_token.specs.declared.place.Place.{Place};
+ghost use Rattle.tla_token.specs.declared.rule.Refusal.{Refusal};
 ghost use Rattle.tla_tree.specs.declared.op.Op.TheVariants as op;
 ghost use Rattle.tla_tree.specs.Lexical.{TokenView, Token};
 ghost use Rattle.tla_tree.specs.Spelling.{Phrase};
@@ -19,6 +20,7 @@ ghost use Rattle.region_reading.specs.ItemReader.{item_step, whole_items};
 ghost use Rattle.region_reading.specs.CallReader.{way_in, spec_in};
 ghost use Rattle.region_reading.specs.UnitReader.{unit_by, form_within, form_in, unit_in};
 ghost use Rattle.region_reading.specs.RegionReader.{region_in};
+ghost use Rattle.region_reading.specs.ReadAnswer.{ReadsModule, RefusesModule};
 ghost use Rattle.region_reading.specs.ModuleReader.{module_within, module_in};
 
 /// The unit that is read of tokens is one that may be spelled, and spelled just so; and each unit that may be spelled is read of its tokens.
@@ -77,4 +79,12 @@ pub fn bounds_only_refuse()
 pub fn the_bound_of_expressions_will_do()
     ensures within { ReadsWithin read_bounded (nesting_in false) }
     ensures shortens { (l : ℕ) → Shortens (bounded read_bounded l) }
+{}
+
+/// Each text is read as a module or refused, and never both: it is read as the module that it is where that nests no deeper than 1,200 forms, in the text of its translation, fields and
+/// closed applications not counted, and on its tree; else it is refused at its beginning, since it is no module or nests deeper.
+pub fn each_text_is_read_or_refused()
+    ensures one { (w : Text) → ((m : Module) × ReadsModule w m) ⊎ ((r : Refusal) × RefusesModule w r) }
+    ensures same { (w : Text) (m n : Module) → ReadsModule w m → ReadsModule w n → m ≡ n }
+    ensures apart { (w : Text) (m : Module) (r : Refusal) → ReadsModule w m → RefusesModule w r → ⊥ }
 {}
