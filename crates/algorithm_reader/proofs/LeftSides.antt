@@ -1,5 +1,5 @@
 -- Left sides: their trees in a pool, and how reading goes on behind a subscript or field.
-use Rattle.std.proofs.Common.{◌≡◌, ℕ, zero, suc, ◌+◌, ◌*◌, ◌<◌, ◌≤◌, true, false, List, [], ◌∷◌, length, Ok, Err, Some, refl, sym, ap, subst, ◌∙◌, arith}
+use Rattle.std.proofs.Common.{◌≡◌, ℕ, zero, suc, ◌+◌, ◌*◌, ◌<◌, ◌≤◌, Bool, true, false, List, [], ◌∷◌, length, Ok, Err, Some, refl, sym, ap, subst, ◌∙◌, arith}
 use Rattle.tla_token.specs.declared.place.Place.{Place}
 use Rattle.tla_token.specs.declared.token.Tokens.{Tokens}
 use Rattle.tla_tree.specs.Tree.{Word, Tree, node, tree, no_trees}
@@ -15,7 +15,8 @@ use Rattle.tla_tree.proofs.SpellAhead.{held}
 use Rattle.tla_tree.proofs.Limited.{told_ok}
 use Rattle.tla_tree.proofs.LimitedAll.{limited}
 use Rattle.expr_nodes.specs.declared.cursor.Halt.{Halt}
-use Rattle.expr_nodes.specs.ReadIn.{Reads, Fails, first_of}
+use Rattle.expr_nodes.specs.declared.make.Read.{Read}
+use Rattle.expr_nodes.specs.ReadIn.{Reads, Fails, first_of, IsIn}
 use Rattle.expr_nodes.specs.Ahead.{ahead}
 use Rattle.pcal_tree.specs.InMemory.{past_number}
 use Rattle.syntax_reading.specs.TokenReaders.{first, Parts}
@@ -23,6 +24,12 @@ use Rattle.syntax_reading.specs.ReadSimple.{left_by, read_left}
 use Rattle.algorithm_reader.specs.PartsRead.{StandsFor, parts_in}
 use Rattle.algorithm_reader.specs.SimpleRead.{subscripted, selected, LeftStands, LinkOn}
 use Rattle.algorithm_reader.proofs.Gathered.{fails_then}
+
+-- ---- the name
+
+-- a name that is in the pool stands there
+pub name_stands : (p : Place) (x : Word) (ts : List Tree) (r : Read) → ((w : Bool) → IsIn w ts r (name p x)) → LeftStands p ts r.id (name p x)
+name_stands p x ts r h = (let i = h true in record { below = i.below; tree = i.tree; starts = refl })
 
 -- ---- the place at which a phrase begins is that of its first token
 begins : (a : Phrase) (ts : List Token) → (first (spell a ts)).place ≡ start a
