@@ -35,7 +35,7 @@ region_seen x d = by d.shape
     by shape.Inner = refl
     by shape.Tail = refl
 
-first_region : (x : Text) (ds : List Stand) → position_or_len holds_region (stands_seen x ds) ≡ position_or_len is_region_stand ds
+pub first_region : (x : Text) (ds : List Stand) → position_or_len holds_region (stands_seen x ds) ≡ position_or_len is_region_stand ds
 first_region x [] = refl
 first_region x (d ∷ ds) = (λ i. cond (not (region_seen x d i)) (1 + first_region x ds i) 0)
 

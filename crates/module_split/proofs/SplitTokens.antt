@@ -14,7 +14,7 @@ use Rattle.module_tree.specs.TextFront.{Text, begins}
 use Rattle.module_tree.specs.HeaderAndRegion.{is_header, is_begin, is_end}
 use Rattle.module_tree.specs.Beginnings.{is_rule, begins_bar, ends_module}
 use Rattle.module_tree.specs.ModuleParts.{kind_in, module_part}
-use Rattle.module_tree.specs.Walk.{Segment, State, in_module, opened, at_end_line, segment_at, Located, walk, at_start}
+use Rattle.module_tree.specs.Walk.{Segment, State, in_module, opened, at_end_line, segment_at, Located, walk_from, walk, at_start}
 use Rattle.module_tree.specs.FileParts.{is_newline, holds_algorithm, region_of, before_spot, after_spot, up_to_first, after_first, after_comment}
 use Rattle.module_tree.specs.FileUnits.{kind_of_segment, token_in, with_token, tokens_in}
 use Rattle.module_tree.specs.FileOffences.{segment_offences, offences_of}
@@ -94,13 +94,13 @@ met_plain st d m h =
 
 -- ---- the tokens among them
 
-pub plain_all : (x : Text) (front es bs : List Located) → walk x ≡ front ++ (es ++ bs) → offences_of es ≡ [] → tokens_in es ≡ plain_tokens es
-plain_all x front [] bs w h = refl
-plain_all x front (d ∷ es) bs w h =
+pub plain_all : (st : State) (t : Text) (front es bs : List Located) → walk_from st 0 t ≡ front ++ (es ++ bs) → offences_of es ≡ [] → tokens_in es ≡ plain_tokens es
+plain_all st t front [] bs w h = refl
+plain_all st t front (d ∷ es) bs w h =
     let none = both_empty (segment_offences d.at d.is) (offences_of es) h in
-    let here : token_in d ≡ plain_token d = met_plain _ d (met front d (es ++ bs) at_start x w) none.0 in
-    let further : walk x ≡ (front ++ d ∷ []) ++ (es ++ bs) = w ∙ sym (append_assoc front (d ∷ []) (es ++ bs)) in
-    (λ i. with_token (here i) (plain_all x (front ++ d ∷ []) es bs further none.1 i))
+    let here : token_in d ≡ plain_token d = met_plain _ d (met front d (es ++ bs) st t w) none.0 in
+    let further : walk_from st 0 t ≡ (front ++ d ∷ []) ++ (es ++ bs) = w ∙ sym (append_assoc front (d ∷ []) (es ++ bs)) in
+    (λ i. with_token (here i) (plain_all st t (front ++ d ∷ []) es bs further none.1 i))
 
 -- the file is its segments before the place of a translation, an old one, and those after it
 record Round (x : Text) : Type 0 where
@@ -128,7 +128,7 @@ tokens_before x h =
     let r = round x in
     let front = before_spot (walk x) in
     let rest = r.old ++ after_spot (walk x) in
-    plain_all x [] front rest r.whole (both_empty (offences_of front) (offences_of rest) (sym (ap offences_of r.whole ∙ offences_append front rest) ∙ h)).0
+    plain_all at_start x [] front rest r.whole (both_empty (offences_of front) (offences_of rest) (sym (ap offences_of r.whole ∙ offences_append front rest) ∙ h)).0
 
 pub tokens_after : (x : Text) → offences_of (walk x) ≡ [] → tokens_in (after_spot (walk x)) ≡ plain_tokens (after_spot (walk x))
 tokens_after x h =
@@ -136,4 +136,4 @@ tokens_after x h =
     let front = before_spot (walk x) ++ r.old in
     let back = after_spot (walk x) in
     let whole : walk x ≡ front ++ back = r.whole ∙ sym (append_assoc (before_spot (walk x)) r.old back) in
-    plain_all x front back [] (whole ∙ ap (λ (fs : List Located). front ++ fs) (sym (append-nil back))) (both_empty (offences_of front) (offences_of back) (sym (ap offences_of whole ∙ offences_append front back) ∙ h)).1
+    plain_all at_start x front back [] (whole ∙ ap (λ (fs : List Located). front ++ fs) (sym (append-nil back))) (both_empty (offences_of front) (offences_of back) (sym (ap offences_of whole ∙ offences_append front back) ∙ h)).1

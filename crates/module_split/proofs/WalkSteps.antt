@@ -1,7 +1,7 @@
 -- One segment of a file further.
-use Rattle.std.proofs.Common.{◌≡◌, ℕ, suc, ◌+◌, ◌-◌, ◌*◌, ◌<◌, ◌≤◌, ◌||◌, ◌&&◌, Bool, true, false, nat_eq, List, [], ◌∷◌, ◌++◌, length, take, drop, Option, Some, None, refl, sym, ap, subst, ◌∙◌, arith, length-append, length-drop}
+use Rattle.std.proofs.Common.{◌≡◌, ℕ, suc, ◌+◌, ◌-◌, ◌*◌, ◌<◌, ◌≤◌, ◌||◌, ◌&&◌, Bool, true, false, nat_eq, List, [], ◌∷◌, ◌++◌, length, take, drop, Option, Some, None, refl, sym, ap, subst, ◌∙◌, arith, length-append, length-drop, append_assoc}
 use Rattle.std.proofs.Math.Seq.{take-append_seam, drop-append_seam}
-use Rattle.std.proofs.lemmas.List.{length-take-le}
+use Rattle.std.proofs.lemmas.List.{length-take-le, map-append}
 use Rattle.std.specs.Prelude.{if◌then◌else◌}
 use Rattle.tla_token.specs.declared.place.Place.{Place}
 use Rattle.tla_token.specs.Places.{after}
@@ -15,7 +15,8 @@ use Rattle.module_tree.specs.TextFront.{Text}
 use Rattle.module_tree.specs.HeaderAndRegion.{is_header, is_begin, is_end}
 use Rattle.module_tree.specs.Beginnings.{ends_module}
 use Rattle.module_tree.specs.Walk.{Segment, free, header, part, region, mark, inner, tail, bytes, State, at_end_line, opened, in_module, segment_at, is_header_line, is_region, after_segment, Located, walk_from}
-use Rattle.module_split.specs.StandsSeen.{segment_of, before_end, is_string}
+use Rattle.module_split.specs.declared.stand.Stand.{Stand}
+use Rattle.module_split.specs.StandsSeen.{segment_of, before_end, is_string, located_seen, stands_seen}
 use Rattle.module_split.proofs.QuotedSegments.{segment_quoted}
 use Rattle.module_split.specs.Walking.{shape_of, outline, front_of, end_at, IsKnown, state_of, IsAt, GoesOn}
 use Rattle.module_split.proofs.BarFronts.{module_made}
@@ -184,3 +185,16 @@ goes_past x w f k piece place h m n at e known is moved line col heads ends fewe
       solid = record { within = omega arith; ended = a.ended; some = some; quoted = a.quoted };
       same = a.walked ∙ same;
     }
+
+-- ---- the segments so far
+
+-- with one more, those so far and those that are left are as they were
+pub one_more : (x : Text) (xs ys : List Stand) (d : Stand) (w v : Walker) (whole : List Located) → ys ≡ xs ++ d ∷ [] → GoesOn x w d v
+    → stands_seen x xs ++ walk_from (state_of w) 0 (drop w.at x) ≡ whole
+    → stands_seen x ys ++ walk_from (state_of v) 0 (drop v.at x) ≡ whole
+one_more x xs ys d w v whole e g h =
+    ap (λ (ds : List Stand). stands_seen x ds ++ left) e ∙ ap (λ (ds : List Located). ds ++ left) (map-append (located_seen x) xs (d ∷ []))
+    ∙ append_assoc (stands_seen x xs) (located_seen x d ∷ []) left ∙ ap (λ (ds : List Located). stands_seen x xs ++ ds) (sym g.same) ∙ h
+  where
+    left : List Located
+    left = walk_from (state_of v) 0 (drop v.at x)

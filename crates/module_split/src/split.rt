@@ -135,8 +135,12 @@ fn token_of(text: &[u8], stand: Stand) -> Option<Token>
     }
 }
 
-// The tokens among some segments, and then others, with the place of their end.
-fn tokens_among(
+/// The tokens among some segments, and then others, with the place of their end.
+///
+/// # Errors
+///
+/// Want of memory.
+pub fn tokens_among(
     alloc: Global,
     text: &[u8],
     stands: &[Stand],
@@ -313,8 +317,8 @@ fn inside_fault(found: Option<Algorithm>) -> Option<(Rule, usize)>
 
 // ---- the parts
 
-// The module's name, which its header has.
-fn title_of(text: &[u8], stands: &[Stand]) -> Span
+/// The module's name, which its header has.
+pub fn title_of(text: &[u8], stands: &[Stand]) -> Span
     requires solid { All (IsSolid text.now) stands.now }
     requires titled { is_some (pure.title (stands_seen text.now stands.now)) ≡ true }
     ensures { pure.title (stands_seen text.now stands.now) ≡ Some (stretch text.now result.from result.to) }

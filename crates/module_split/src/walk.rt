@@ -4,7 +4,7 @@ ghost use Rattle.std.specs.Prelude.{◌≡◌, ℕ, ◌+◌, ◌^◌, ◌<◌, �
 ghost use Rattle.tla_token.specs.Scan.{IsWordless};
 ghost use Rattle.module_tree.specs.TextFront.{Text};
 ghost use Rattle.module_tree.specs.HeaderAndRegion.{is_begin};
-ghost use Rattle.module_tree.specs.Walk.{walk, State, in_module, segment_at, is_header_line, is_region};
+ghost use Rattle.module_tree.specs.Walk.{walk, walk_from, State, in_module, segment_at, is_header_line, is_region};
 ghost use Rattle.module_split.specs.StandsSeen.{segment_of, stands_seen, IsSolid};
 ghost use Rattle.module_split.specs.Walking.{end_at, front_of, IsKnown, state_of, IsAt, GoesOn};
 
@@ -58,8 +58,7 @@ pub fn walk(alloc: Global, text: &[u8]) -> Result<Vec<Stand>, AllocError>
     ensures walked { IfOk result (λ v. stands_seen text.now v.items ≡ walk text.now) }
     ensures solid { IfOk result (λ v. All (IsSolid text.now) v.items) }
 {
-    let mut stands = Vec::new(alloc);
-    let mut walker = Walker {
+    let start = Walker {
         at: 0,
         place: Place { line: 1, col: 1 },
         headed: false,
@@ -69,6 +68,22 @@ pub fn walk(alloc: Global, text: &[u8]) -> Result<Vec<Stand>, AllocError>
             wordless: 0,
         },
     };
+    walk_on(alloc, text, start)
+}
+
+/// The segments of a text from where a walk is, from left to right.
+///
+/// # Errors
+///
+/// Want of memory.
+pub fn walk_on(alloc: Global, text: &[u8], from: Walker) -> Result<Vec<Stand>, AllocError>
+    requires small { length text.now < 2 ^ 29 }
+    requires at { IsAt text.now from }
+    ensures walked { IfOk result (λ v. stands_seen text.now v.items ≡ walk_from (state_of from) 0 (drop from.at text.now)) }
+    ensures solid { IfOk result (λ v. All (IsSolid text.now) v.items) }
+{
+    let mut stands = Vec::new(alloc);
+    let mut walker = from;
     'segments: while let Some((stand, after)) = step(text, walker) {
         stands.push(stand)?;
         walker = after;
