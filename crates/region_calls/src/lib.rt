@@ -1,0 +1,8 @@
+//! Reading calls of actions, ways of a step, and the conjuncts of Spec.
+#![tactic(auto)]
+
+pub mod bulleted;
+pub mod calls;
+pub mod fairness;
+pub mod parts;
+pub mod titles;

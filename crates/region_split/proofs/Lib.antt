@@ -1,0 +1,3 @@
+pub mod RegionInside
+pub mod RegionPlaces
+pub mod PartsFound
