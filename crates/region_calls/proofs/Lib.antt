@@ -5,3 +5,5 @@ pub mod CallSteps
 pub mod FairSteps
 pub mod ReadBullets
 pub mod AllTold
+pub mod OrderLaws
+pub mod SpecUnits

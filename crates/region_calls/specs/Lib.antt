@@ -1,3 +1,4 @@
 pub mod Bounded
 pub mod Told
 pub mod Lists
+pub mod Order

@@ -4,5 +4,6 @@
 pub mod bulleted;
 pub mod calls;
 pub mod fairness;
+pub mod order;
 pub mod parts;
 pub mod titles;
