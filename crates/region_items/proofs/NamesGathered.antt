@@ -1,18 +1,15 @@
 -- Names with commas, as the code reads them: what was read goes before what is still to come.
-use Rattle.std.proofs.Common.{◌≡◌, ℕ, true, false, List, Ok, refl, sym, ap, ◌∙◌, subst}
+use Rattle.std.proofs.Common.{◌≡◌, ℕ, true, List, Ok, refl, sym, ap, ◌∙◌}
 use Rattle.tla_token.specs.declared.place.Place.{Place}
 use Rattle.tla_tree.specs.Tree.{Word}
 use Rattle.tla_tree.specs.Lexical.{TokenView, Token}
 use Rattle.tla_tree.specs.Lexical as tk
 use Rattle.tla_tree.specs.Reader.{Out, then_read, peek, next, tail, a_word, is_mark}
 use Rattle.tla_tree.proofs.SoundTokens.{mark_is}
-use Rattle.expr_nodes.specs.declared.cursor.Halt.{Halt}
-use Rattle.expr_nodes.specs.ReadIn.{Fails}
-use Rattle.expr_rows.proofs.ReadLemmas.{fails_then}
-use Rattle.module_tree.specs.Grammar.{last_name, more_names, words_of}
+use Rattle.module_tree.specs.Grammar.{more_names, words_of}
 use Rattle.region_reading.specs.NameReader.{names_by, names_in}
 use Rattle.region_reading.proofs.EnoughSteps.{names_are}
-use Rattle.region_items.proofs.Gathered.{put_after, gives_put, SoFar, GoesOn, EndsAt}
+use Rattle.region_items.proofs.Gathered.{put_after, gives_put, SoFar, GoesOn}
 
 module _ (e : ℕ) where
   -- the names up to some tokens
@@ -25,19 +22,9 @@ module _ (e : ℕ) where
   by_comma : (p : Place) (x : Word) (q : Place) (k : TokenView) (us : List Token) → is_mark tk.comma k ≡ true → names_by (names_in e) p x q k us ≡ put_after (more_names p x q) (names_in e (tail us))
   by_comma p x q k us h = ap (λ (k : TokenView). names_by (names_in e) p x q k us) (mark_is tk.comma k h) ∙ gives_put (more_names p x q) (names_in e (tail us))
 
-  by_other : (p : Place) (x : Word) (q : Place) (k : TokenView) (us : List Token) → is_mark tk.comma k ≡ false → names_by (names_in e) p x q k us ≡ Ok (last_name p x, us)
-  by_other p x q (tk.mark tk.comma) us h = (let no : true ≡ false = h in absurd cc)
-  by_other p x q k us h = refl
-
   pub names_go_on : (x : Place × Word) (ts us vs : List Token) → a_word e ts ≡ Ok (x, us) → is_mark tk.comma (next e us).kind ≡ true → vs ≡ tail us → GoesOn (names_in e) words_of ts vs x.1
   names_go_on x ts us vs h c t = record {
     cons = more_names x.0 x.1 (next e us).place;
     round = names_at x ts us h ∙ by_comma x.0 x.1 (next e us).place (next e us).kind us c ∙ ap (λ (vs : List Token). put_after (more_names x.0 x.1 (next e us).place) (names_in e vs)) (sym t);
     each = λ ns. refl;
   }
-
-  pub names_end : (x : Place × Word) (ts us : List Token) → a_word e ts ≡ Ok (x, us) → is_mark tk.comma (next e us).kind ≡ false → EndsAt (names_in e) words_of ts us x.1
-  names_end x ts us h c = record { last = last_name x.0 x.1; round = names_at x ts us h ∙ by_other x.0 x.1 (next e us).place (next e us).kind us c; alone = refl }
-
-  pub names_fail : (w : Halt) (ts : List Token) → Fails w (a_word e ts) → Fails w (names_in e ts)
-  names_fail w ts h = subst (Fails w) (sym (names_are e ts)) (fails_then w (a_word e ts) (λ x. peek e (names_by (names_in e) x.0 x.1)) h)

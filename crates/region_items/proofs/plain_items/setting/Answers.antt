@@ -5,7 +5,7 @@ use Rattle.tla_tree.specs.Spelling.{Phrase}
 use Rattle.tla_tree.specs.Reader.{Out}
 use Rattle.expr_nodes.specs.ReadIn.{Fails}
 use Rattle.expr_rows.proofs.ReadLemmas.{fails_on, fails_then}
-use Rattle.region_items.proofs.OperandsRead.{operand_inside}
+use Rattle.region_items.proofs.OpeningRead.{operand_inside}
 use Rattle.region_items.proofs.plain_items.setting.Goals as goal
 
 pub returns-in_err-e-clause-read : goal.returns-in_err-e-clause-read
