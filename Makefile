@@ -3,9 +3,8 @@
 # make links      looks for dead links and long lines in the pages, for what they name
 #                 and isn't there, and for mistakes in the man page
 #
-# The first build proves all that the program stands on, which by the minutes of the gate takes about an hour on four
-# cores, and up to two where these are slow. Where the gate, `rt ci`, has passed in this checkout, the program that it
-# built is taken.
+# The first build runs the gate, `rt ci`, which proves all on all cores: about an hour on four fast ones, and up to two
+# and a half where these are slow. Where it has passed in this checkout, the program that it built is taken.
 
 PREFIX = $(HOME)/.local
 PROGRAM = crates/pcal/out/pcal
@@ -24,9 +23,9 @@ SOURCES = crates.txt $(shell find crates -name out -prune -o -name '*.rt' -print
 
 build: $(PROGRAM)
 
-# rt proves and builds what has changed, and runs it once: it writes ok
+# rt proves and builds what has changed, and tries all of it
 $(PROGRAM): $(SOURCES)
-	cd crates/pcal && rt run -- check data/M.tla
+	rt ci
 
 install: build
 	install -d "$(BIN)" "$(MAN)" "$(BASH)" "$(ZSH)" "$(FISH)"
