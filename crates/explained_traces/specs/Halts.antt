@@ -1,6 +1,6 @@
 -- Why a trace stops before its end, in memory, and what that stands for.
 use Rattle.std.specs.Prelude.{Option, Some, None}
-use Rattle.run_text.specs.InMemory.{trouble_of}
+use Rattle.run_files.specs.InMemory.{trouble_of}
 use Rattle.step_runner.specs.Explained as pure
 use Rattle.step_runner.specs.Explained.{untrue, troubled}
 use Rattle.explained_traces.specs.declared.explaining.Halt.{Halt}

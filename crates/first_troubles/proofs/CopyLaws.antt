@@ -8,8 +8,8 @@ use Rattle.tla_tree.specs.Tree.{Word}
 use Rattle.tla_value.specs.Value.{Value, truth}
 use Rattle.tla_value.specs.States.{Entries, value_of, updated}
 use Rattle.step_program.specs.declared.program.Program as code
-use Rattle.step_states.specs.StatesOf.{state_of, HasJust}
-use Rattle.step_states.proofs.StateLaws.{value_updated}
+use Rattle.step_values.specs.StatesOf.{state_of, HasJust}
+use Rattle.step_values.proofs.StateLaws.{value_updated}
 use Rattle.step_values.specs.ScopeIn.{IsScene}
 
 -- names that aren't left have their values there

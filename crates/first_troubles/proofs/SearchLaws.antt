@@ -5,8 +5,8 @@ use Rattle.tla_token.specs.declared.place.Place.{Place}
 use Rattle.tla_value.specs.Value as pure
 use Rattle.pcal_tree.specs.Choices.{count_courses, first_trouble, first_trouble_of}
 use Rattle.pcal_tree.specs.Run.{Course, chooses, Courses, no_courses, course}
-use Rattle.run_text.specs.declared.stops.Trouble.{Trouble}
-use Rattle.run_text.specs.InMemory.{trouble_of}
+use Rattle.run_files.specs.declared.stops.Trouble.{Trouble}
+use Rattle.run_files.specs.InMemory.{trouble_of}
 use Rattle.trouble_walks.specs.Searches.{rest_after, courses_past, weight}
 use Rattle.trouble_walks.proofs.RestLaws.{longer, less, Next, next}
 use Rattle.first_troubles.specs.Tries.{Chooses}

@@ -12,9 +12,9 @@ use Rattle.pcal_tree.specs.Run.{Course, ends, stops, chooses, no_courses, course
 use Rattle.pcal_tree.specs.Scope.{State}
 use Rattle.pcal_tree.specs.Step.{pc_of, Stand, routines_of}
 use Rattle.pcal_tree.specs.StepAnswers.{Reply, reached, replied, label_place}
-use Rattle.actor_order.specs.declared.actor.Actor as code
-use Rattle.actor_order.specs.InMemory.{actor_at}
-use Rattle.step_states.specs.StatesOf.{state_of}
+use Rattle.step_program.specs.declared.actor.Actor as code
+use Rattle.step_program.specs.InMemory.{actor_at}
+use Rattle.step_values.specs.StatesOf.{state_of}
 use Rattle.written_runs.specs.Ways.{by_written_names, step_from_by, step_at_by, step_of_by}
 use Rattle.trouble_walks.specs.Searches.{rest_after}
 use Rattle.trouble_walks.specs.WrittenTroubles.{written_course, written_from, written_at, written_step}

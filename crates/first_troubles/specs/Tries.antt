@@ -6,10 +6,10 @@ use Rattle.tla_value.specs.States.{Entries}
 use Rattle.pcal_tree.specs.Run.{Course, chooses, Courses}
 use Rattle.pcal_tree.specs.Choices.{count_courses, first_trouble}
 use Rattle.pcal_tree.specs.StepAnswers.{Reply, needs_choice, stopped_by}
-use Rattle.actor_order.specs.declared.actor.Actor.{Actor}
-use Rattle.actor_order.specs.InMemory.{actor_at}
-use Rattle.step_states.specs.StatesOf.{state_of}
-use Rattle.run_text.specs.InMemory.{trouble_of}
+use Rattle.step_program.specs.declared.actor.Actor.{Actor}
+use Rattle.step_program.specs.InMemory.{actor_at}
+use Rattle.step_values.specs.StatesOf.{state_of}
+use Rattle.run_files.specs.InMemory.{trouble_of}
 use Rattle.trouble_walks.specs.WrittenTroubles.{written_step}
 use Rattle.followed_runs.specs.declared.party.Party.{Party}
 use Rattle.followed_runs.specs.Parties.{program_of}

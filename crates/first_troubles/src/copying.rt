@@ -3,7 +3,7 @@
 ghost use Rattle.std.specs.Prelude.{◌≡◌, IfOk};
 ghost use Rattle.tla_tree.specs.Tree.{Word};
 ghost use Rattle.tla_value.specs.States.{value_of};
-ghost use Rattle.step_states.specs.StatesOf.{HasJust};
+ghost use Rattle.step_values.specs.StatesOf.{HasJust};
 
 use std::alloc::{AllocError, Global};
 use tla_tree::Name;

@@ -8,16 +8,16 @@ ghost use Rattle.pcal_tree.specs.Processes.{OneOf};
 ghost use Rattle.pcal_tree.specs.Run.{Course};
 ghost use Rattle.step_spots.specs.InMemory.{routine_at};
 ghost use Rattle.step_values.specs.ScopeIn.{IsScene};
-ghost use Rattle.run_text.specs.InMemory.{trouble_of};
+ghost use Rattle.run_files.specs.InMemory.{trouble_of};
 ghost use Rattle.trouble_walks.specs.Searches.{rest_after};
 ghost use Rattle.followed_runs.specs.Parties.{program_of, IsParty};
 ghost use Rattle.first_troubles.specs.Tries.{step_by};
 
 use crate::trying::{Came, tried, with_next};
-use actor_order::Actor;
 use followed_runs::party::Party;
-use run_text::Trouble;
+use run_files::Trouble;
 use std::alloc::{AllocError, Global};
+use step_program::Actor;
 use tla_value::state::State;
 
 /// The trouble of the least list of choices, item by item, that begins with these and meets one, in the step of a process.

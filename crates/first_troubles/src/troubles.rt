@@ -2,15 +2,15 @@
 
 ghost use Rattle.std.specs.Prelude.{◌≡◌, IfOk};
 ghost use Rattle.std.specs.Option.{option_map};
-ghost use Rattle.step_states.specs.StatesOf.{state_of};
+ghost use Rattle.step_values.specs.StatesOf.{state_of};
 ghost use Rattle.step_values.specs.ScopeIn.{IsScene};
-ghost use Rattle.run_text.specs.InMemory.{trouble_of};
+ghost use Rattle.run_files.specs.InMemory.{trouble_of};
 ghost use Rattle.trouble_walks.specs.WrittenTroubles.{written_trouble_of_all};
 ghost use Rattle.followed_runs.specs.Parties.{program_of, actors_of, IsParty};
 
 use crate::searching::trouble_of_step;
 use followed_runs::party::Party;
-use run_text::Trouble;
+use run_files::Trouble;
 use std::alloc::{AllocError, Global};
 use tla_value::state::State;
 

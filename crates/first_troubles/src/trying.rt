@@ -15,11 +15,11 @@ ghost use Rattle.followed_runs.specs.Parties.{program_of, IsParty};
 ghost use Rattle.first_troubles.specs.Tries.{Leads, ComesTo, step_by};
 
 use crate::copying::copied_state;
-use actor_order::Actor;
 use followed_runs::party::Party;
-use run_text::Trouble;
+use run_files::Trouble;
 use std::alloc::{AllocError, Global};
 use step_meaning::{Halt, step};
+use step_program::Actor;
 use tla_value::state::State;
 
 /// What a list of choices comes to.

@@ -7,8 +7,8 @@ use Rattle.pcal_tree.specs.Program as pure
 use Rattle.pcal_tree.specs.Variables.{vars}
 use Rattle.step_spots.specs.InMemory.{routine_at}
 use Rattle.step_program.specs.Programs.{program_at}
-use Rattle.actor_order.specs.declared.actor.Actor.{Actor}
-use Rattle.actor_order.specs.InMemory.{actor_at}
+use Rattle.step_program.specs.declared.actor.Actor.{Actor}
+use Rattle.step_program.specs.InMemory.{actor_at}
 use Rattle.step_meaning.specs.declared.stage.Stage.{Stage}
 use Rattle.step_meaning.specs.Stages.{IsStage}
 use Rattle.followed_runs.specs.declared.party.Party.{Party}

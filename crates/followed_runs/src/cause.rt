@@ -6,7 +6,7 @@ ghost use Rattle.pcal_tree.specs.StepAnswers.{Reply};
 ghost use Rattle.step_meaning.specs.Replies.{HaltsBy};
 ghost use Rattle.followed_runs.specs.Stopping.{reply_by, stop_of};
 
-use run_text::stops::{Trouble, Why};
+use run_files::stops::{Trouble, Why};
 use std::alloc::AllocError;
 use step_meaning::Halt;
 

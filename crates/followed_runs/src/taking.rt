@@ -5,19 +5,19 @@ ghost use Rattle.std.specs.Option.{option_map};
 ghost use Rattle.tla_tree.specs.Tree.{Tree};
 ghost use Rattle.pcal_tree.specs.Processes.{OneOf};
 ghost use Rattle.pcal_tree.specs.StepAnswers.{is_self, with_self};
-ghost use Rattle.actor_order.specs.InMemory.{actor_at};
+ghost use Rattle.step_program.specs.InMemory.{actor_at};
 ghost use Rattle.step_runner.specs.Shown.{step_before, stepped as from_label};
-ghost use Rattle.step_states.specs.StatesOf.{state_of};
+ghost use Rattle.step_values.specs.StatesOf.{state_of};
 ghost use Rattle.step_values.specs.ScopeIn.{IsScene};
 ghost use Rattle.written_runs.specs.Ways.{by_written_names, step_of_by};
 ghost use Rattle.step_meaning.specs.Replies.{Replies};
 ghost use Rattle.followed_runs.specs.Parties.{program_of, actors_of, IsParty};
 
 use crate::party::Party;
-use actor_order::Actor;
 use run_files::script::Turn;
 use std::alloc::Global;
 use step_meaning::{Halt, Taken, step};
+use step_program::Actor;
 use tla_value::state::State;
 use tla_value::value::Value;
 

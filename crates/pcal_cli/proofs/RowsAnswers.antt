@@ -9,13 +9,13 @@ use Rattle.tla_value.specs.declared.fault.FaultKind.TheVariants as kind
 use Rattle.command_words.specs.Commands.{Command}
 use Rattle.pcal_cli.specs.declared.status.Answer.{Answer}
 use Rattle.pcal_cli.specs.declared.status.Answer.TheVariants as answer
-use Rattle.run_text.specs.declared.stops.Why.TheVariants as why
-use Rattle.run_text.specs.declared.stops.Trouble.TheVariants as trouble
+use Rattle.run_files.specs.declared.stops.Why.TheVariants as why
+use Rattle.run_files.specs.declared.stops.Trouble.TheVariants as trouble
 use Rattle.followed_runs.specs.declared.cause.Cause.TheVariants as cause
 use Rattle.running.specs.declared.files.Which.TheVariants as which
-use Rattle.run_command.specs.declared.answer.RunAnswer.{RunAnswer}
-use Rattle.run_command.specs.declared.answer.RunAnswer.TheVariants as run
-use Rattle.run_command.specs.Names.{Names}
+use Rattle.running.specs.declared.answer.RunAnswer.{RunAnswer}
+use Rattle.running.specs.declared.answer.RunAnswer.TheVariants as run
+use Rattle.running.specs.Names.{Names}
 use Rattle.explained_traces.specs.declared.explaining.Halt.TheVariants as halt
 use Rattle.trace_command.specs.declared.answer.TraceAnswer.{TraceAnswer}
 use Rattle.trace_command.specs.declared.answer.TraceAnswer.TheVariants as trace

@@ -9,8 +9,8 @@ use Rattle.promise.specs.Options.{no_options}
 use Rattle.make_module.specs.Big.{big}
 use Rattle.pcal_cli.specs.Words.{input_of, this_text}
 use Rattle.pcal_cli.specs.Asked.{Makes, Promises, promised}
-use Rattle.run_command.specs.Names.{OfTexts}
-use Rattle.run_command.specs.Answered.{KeepsPromise}
+use Rattle.running.specs.Names.{OfTexts}
+use Rattle.running.specs.Answered.{KeepsPromise}
 use Rattle.trace_command.specs.Answered as traced
 use Rattle.pcal_cli.specs.Causes.{OfText, Promised}
 

@@ -5,17 +5,17 @@ use Rattle.tla_token.specs.Limits.{most_bytes}
 use Rattle.tla_token.specs.declared.rule.Refusal.{Refusal}
 use Rattle.step_runner.specs.Followed as runner
 use Rattle.run_answer.specs.Chosen.{Which, Refuses, IsRun}
-use Rattle.run_text.specs.declared.stops.Trouble.TheVariants as trouble
+use Rattle.run_files.specs.declared.stops.Trouble.TheVariants as trouble
 use Rattle.followed_runs.specs.declared.cause.Cause.{Cause}
 use Rattle.followed_runs.specs.declared.cause.Cause.TheVariants as cause
 use Rattle.followed_runs.specs.Stopping.{stop_of}
 use Rattle.running.specs.InMemory.{which_of}
-use Rattle.run_command.specs.declared.answer.RunAnswer.{RunAnswer}
-use Rattle.run_command.specs.declared.answer.RunAnswer.TheVariants as run
-use Rattle.run_command.specs.Names.{Names, name_of, size_of, AreShort}
-use Rattle.run_command.specs.Answers.{IsUnread, IsUnwritten, IsEnd}
-use Rattle.run_command.specs.Answers as answers
-use Rattle.run_command.specs.Answered.{Writes, AnsweredRun}
+use Rattle.running.specs.declared.answer.RunAnswer.{RunAnswer}
+use Rattle.running.specs.declared.answer.RunAnswer.TheVariants as run
+use Rattle.running.specs.Names.{Names, name_of, size_of, AreShort}
+use Rattle.running.specs.Answers.{IsUnread, IsUnwritten, IsEnd}
+use Rattle.running.specs.Answers as answers
+use Rattle.running.specs.Answered.{Writes, AnsweredRun}
 use Rattle.pcal_cli.specs.declared.status.Status.{Status}
 use Rattle.pcal_cli.specs.declared.status.Status.TheVariants.{Fine, Memory}
 use Rattle.pcal_cli.specs.Answers.{line_of}

@@ -3,7 +3,7 @@ use Rattle.std.specs.Prelude.{IfSome}
 use Rattle.std.proofs.Common.{ℕ, List, Option, Some, None}
 use Rattle.outer_io.specs.Outer.{Texts, Tells, told_at}
 use Rattle.run_answer.specs.Chosen.{Files}
-use Rattle.run_command.specs.Names.{Names, OfTexts}
+use Rattle.running.specs.Names.{Names, OfTexts}
 use Rattle.pcal_cli.proofs.TextsTold.{of_all}
 
 -- what is said of the others, where some are told

@@ -5,8 +5,8 @@ use Rattle.std.specs.declared.process.ExitCode.{ExitCode}
 use Rattle.outer_io.specs.Outer.{Texts, Tells, HasNoText, Grows, GrowsInPart}
 use Rattle.tla_token.specs.declared.rule.Refusal.{Refusal}
 use Rattle.command_words.specs.Commands.{Command, runs, traces}
-use Rattle.run_command.specs.Names.{OfTexts}
-use Rattle.run_command.specs.Answered as run
+use Rattle.running.specs.Names.{OfTexts}
+use Rattle.running.specs.Answered as run
 use Rattle.trace_command.specs.Answered as traced
 use Rattle.pcal_cli.specs.declared.status.Answer.{Answer}
 use Rattle.pcal_cli.specs.declared.status.Answer.TheVariants as answer

@@ -5,15 +5,15 @@ use Rattle.tla_token.specs.Limits.{most_bytes}
 use Rattle.step_runner.specs.Followed as runner
 use Rattle.run_answer.specs.Chosen.{Files, Which, Refuses, IsRun}
 use Rattle.run_answer.specs.Stops.{stop_line}
-use Rattle.run_text.specs.declared.stops.Trouble.TheVariants as trouble
+use Rattle.run_files.specs.declared.stops.Trouble.TheVariants as trouble
 use Rattle.followed_runs.specs.declared.cause.Cause.{Cause}
 use Rattle.followed_runs.specs.declared.cause.Cause.TheVariants as cause
 use Rattle.followed_runs.specs.Stopping.{reply_by, stop_of}
 use Rattle.running.specs.InMemory.{which_of}
-use Rattle.run_command.specs.declared.answer.RunAnswer.{RunAnswer}
-use Rattle.run_command.specs.declared.answer.RunAnswer.TheVariants as run
-use Rattle.run_command.specs.Names.{Names, name_of, IsBefore, OfTexts, IsThere}
-use Rattle.run_command.specs.Answered.{AnsweredRun}
+use Rattle.running.specs.declared.answer.RunAnswer.{RunAnswer}
+use Rattle.running.specs.declared.answer.RunAnswer.TheVariants as run
+use Rattle.running.specs.Names.{Names, name_of, IsBefore, OfTexts, IsThere}
+use Rattle.running.specs.Answered.{AnsweredRun}
 use Rattle.pcal_cli.specs.declared.status.Answer.TheVariants as answer
 use Rattle.pcal_cli.specs.declared.status.Status.{Status}
 use Rattle.pcal_cli.specs.declared.status.Status.TheVariants.{Fine, Memory, ReadFault, WriteFault, Refused, ScriptStep, Faulted, Limit, TooLong}

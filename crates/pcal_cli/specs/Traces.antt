@@ -7,12 +7,12 @@ use Rattle.step_runner.specs.Explained as pure
 use Rattle.step_runner.specs.Explained.{halt_line}
 use Rattle.run_answer.specs.Chosen.{Files}
 use Rattle.trace_answer.specs.Traced.{RefusesTrace, IsTrace}
-use Rattle.run_text.specs.declared.stops.Trouble.TheVariants as trouble
+use Rattle.run_files.specs.declared.stops.Trouble.TheVariants as trouble
 use Rattle.explained_traces.specs.declared.explaining.Halt.{Halt}
 use Rattle.explained_traces.specs.declared.explaining.Halt.TheVariants as halt
 use Rattle.explained_traces.specs.Halts.{halt_by, halt_of}
 use Rattle.running.specs.InMemory.{which_of}
-use Rattle.run_command.specs.Names.{Names, name_of, OfTexts}
+use Rattle.running.specs.Names.{Names, name_of, OfTexts}
 use Rattle.trace_command.specs.declared.answer.TraceAnswer.{TraceAnswer}
 use Rattle.trace_command.specs.declared.answer.TraceAnswer.TheVariants as trace
 use Rattle.trace_command.specs.Answered.{AnsweredTrace}

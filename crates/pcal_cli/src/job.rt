@@ -7,7 +7,7 @@ ghost use Rattle.pcal_cli.specs.Tasks.{as_job, IsSmallJob};
 
 use crate::task::Task;
 use command_words::{Command, Options, command_of};
-use run_command::Names;
+use running::Names;
 use std::alloc::{AllocError, Global};
 
 /// A command that the program runs.

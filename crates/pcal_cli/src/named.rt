@@ -2,7 +2,7 @@
 
 ghost use Rattle.std.specs.Prelude.{◌≡◌, ◌+◌, ◌≤◌, length};
 ghost use Rattle.running.specs.InMemory.{which_of};
-ghost use Rattle.run_command.specs.Names.{names_of, name_of};
+ghost use Rattle.running.specs.Names.{names_of, name_of};
 ghost use Rattle.pcal_cli.specs.Answers.{line_of};
 ghost use Rattle.pcal_cli.specs.Room.{HasRoom};
 ghost use Rattle.pcal_cli.specs.Told.{Told};
@@ -10,8 +10,7 @@ ghost use Rattle.pcal_cli.specs.Told.{Told};
 use crate::error_line::tell;
 use crate::status::Answer;
 use outer_io::Sink;
-use run_command::Names;
-use running::Which;
+use running::{Names, Which};
 
 /// The one of two names that is no shorter than the other.
 fn longer<'a>(one: &'a str, other: &'a str) -> &'a str

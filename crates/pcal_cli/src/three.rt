@@ -5,8 +5,8 @@ ghost use Rattle.step_runner.specs.Followed as runner;
 ghost use Rattle.run_answer.specs.Stops.{stop_line};
 ghost use Rattle.followed_runs.specs.declared.cause.Stop as code;
 ghost use Rattle.followed_runs.specs.Stopping.{stop_of};
-ghost use Rattle.run_command.specs.Names.{names_of, OfTexts};
-ghost use Rattle.run_command.specs.Answered.{KeepsPromise};
+ghost use Rattle.running.specs.Names.{names_of, OfTexts};
+ghost use Rattle.running.specs.Answered.{KeepsPromise};
 ghost use Rattle.pcal_cli.specs.Room.{HasRoom};
 ghost use Rattle.pcal_cli.specs.Told.{Told};
 ghost use Rattle.pcal_cli.specs.Runs.{status_by, status_of_run, run_line, AnsweredThree, ExplainsRun};
@@ -16,8 +16,8 @@ use crate::named::{longest, tell_of};
 use crate::status::{Answer, Status};
 use followed_runs::Cause;
 use outer_io::{Shelf, Sink};
-use run_command::{Ended, Names, RunAnswer, run_out};
-use run_text::Trouble;
+use run_files::Trouble;
+use running::{Ended, Names, RunAnswer, run_out};
 use std::alloc::{AllocError, Global};
 
 /// What the process's exit status says of the cause of a stop.

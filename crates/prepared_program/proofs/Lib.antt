@@ -3,3 +3,7 @@ mod PlacesLaws
 mod NumberedLaws
 mod RoutineLaws
 pub mod LabelLaws
+mod Made
+mod LeftSides
+mod Members
+mod EachKind

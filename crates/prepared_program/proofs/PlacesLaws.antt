@@ -10,7 +10,7 @@ use Rattle.pcal_tree.specs.Program.{Program}
 use Rattle.action_builder.specs.WrittenNames.{renames}
 use Rattle.action_builder.specs.OwnVariables.{is_own_variable}
 use Rattle.prime_subst.specs.Readers.{renames_of}
-use Rattle.statement_grafts.specs.Prepared.{graft_start, graft_declarations}
+use Rattle.prepared_program.specs.Prepared.{graft_start, graft_declarations}
 use Rattle.step_walks.specs.WrittenFlows.{own_statements}
 use Rattle.step_moves.specs.Prepared.{prepared_start, prepared_declarations}
 

@@ -1,2 +1,3 @@
 -- What the contracts of this crate are said in.
 pub mod PlacesOf
+pub mod Prepared

@@ -6,8 +6,8 @@ use Rattle.pcal_tree.specs.Algorithm.{Routine}
 use Rattle.pcal_tree.specs.Program.{Program}
 use Rattle.action_builder.specs.WrittenNames.{renames}
 use Rattle.action_builder.specs.OwnVariables.{is_own_variable}
-use Rattle.statement_grafts.specs.declared.places.Places.{Places}
-use Rattle.statement_grafts.specs.Prepared.{names_put, own_put}
+use Rattle.prepared_program.specs.declared.places.Places.{Places}
+use Rattle.prepared_program.specs.Prepared.{names_put, own_put}
 
 -- the written names of what u declares, and the variables that each process of P has for itself
 pub record IsPlaces (p : Places) (P : Program) (u : Routine) : Type 0 where

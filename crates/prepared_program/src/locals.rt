@@ -12,10 +12,10 @@ ghost use Rattle.action_builder.specs.OwnVariables.{is_own_variable};
 ghost use Rattle.draft.specs.RoutineNames.{words_of};
 ghost use Rattle.prepared_program.specs.PlacesOf.{IsPlaces};
 
+use crate::Places;
 use name_bits::{Bits, Order};
 use pcal_tree::algorithm::Declaration;
 use prime_subst::{Local, Own};
-use statement_grafts::Places;
 use std::alloc::{AllocError, Global};
 use tla_tree::{Name, NameList};
 use written_names::naming::Naming;

@@ -10,10 +10,10 @@ ghost use Rattle.step_walks.specs.WrittenFlows.{own_statements};
 ghost use Rattle.step_moves.specs.Prepared as pure;
 ghost use Rattle.prepared_program.specs.PlacesOf.{IsPlaces};
 
+use crate::{Places, prepared_declarations, prepared_statements};
 use expansion::bodies::body as written_out;
 use expansion_size::frames::Frames;
 use pcal_tree::algorithm::{Declaration, Macro, Stmt};
-use statement_grafts::{Places, prepared_declarations, prepared_statements};
 use std::alloc::{AllocError, Global};
 use tla_pool::Pool;
 

@@ -5,3 +5,5 @@ pub mod ConfigLaws
 pub mod LineLaws
 pub mod TurnLaws
 pub mod TraceLaws
+pub mod StopLaws
+pub mod StateLaws

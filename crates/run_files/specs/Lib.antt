@@ -5,3 +5,4 @@ pub mod Lines
 pub mod Turns
 pub mod TurnCode
 pub mod Headings
+pub mod InMemory

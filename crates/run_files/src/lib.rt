@@ -4,10 +4,15 @@
 pub mod config;
 pub mod items;
 pub mod lines;
+pub mod parts;
 pub mod scan;
 pub mod script;
+pub mod state;
+pub mod stops;
 pub mod trace;
 
 pub use config::read_config;
 pub use script::{Script, Turn, read_script};
+pub use state::{Before, add_state};
+pub use stops::{Trouble, Why, script_line, state_line, trouble_line};
 pub use trace::read_trace;

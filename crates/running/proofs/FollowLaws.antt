@@ -26,10 +26,10 @@ use Rattle.written_runs.proofs.OnceRuns.{script_once}
 use Rattle.written_runs.proofs.SameRuns.{followed_same, written_as_meant}
 use Rattle.followed_runs.specs.Stopping.{stop_of}
 use Rattle.followed_runs.specs.declared.following.Followed.{Followed}
-use Rattle.run_stage.specs.declared.made.Grounds.{Grounds}
-use Rattle.run_stage.specs.GroundsOf.{AreGrounds}
-use Rattle.run_stage.specs.ProgramsOf.{IsProgramOf}
-use Rattle.run_stage.proofs.ProgramLaws.{vars_same, same_program, program_opens, accepted_apart}
+use Rattle.running.specs.declared.made.Grounds.{Grounds}
+use Rattle.running.specs.GroundsOf.{AreGrounds}
+use Rattle.running.specs.ProgramsOf.{IsProgramOf}
+use Rattle.running.proofs.ProgramLaws.{vars_same, same_program, program_opens, accepted_apart}
 use Rattle.running.specs.Ready.{CanRun, program_read, IsFollowed, CanFollow, IsFollowedOnce}
 
 -- ---- an algorithm in memory

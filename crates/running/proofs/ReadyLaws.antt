@@ -26,7 +26,7 @@ use Rattle.module_outside.specs.WholeAt.{outside_at}
 use Rattle.checking.specs.CheckedIn.{IsLabelled}
 use Rattle.checking.specs.declared.check.Checked.{Checked}
 use Rattle.step_runner.specs.Config.{constants_of}
-use Rattle.run_stage.proofs.ReadLaws.{read_kept, held_more}
+use Rattle.running.proofs.ReadLaws.{read_kept, held_more}
 use Rattle.running.specs.Ready.{CanRun, program_read}
 
 -- ---- of a file

@@ -2,3 +2,12 @@
 pub mod InMemory
 pub mod Ready
 pub mod Beside
+pub mod GroundsOf
+pub mod KeptOf
+pub mod ProgramsOf
+pub mod ReadBefore
+pub mod Names
+pub mod Answers
+pub mod Answered
+pub mod Reading
+pub mod Put

@@ -25,8 +25,8 @@ use Rattle.step_forms.specs.Opened.{IsOpenable}
 use Rattle.step_program.specs.declared.program.Program as code
 use Rattle.step_program.specs.Programs.{program_at, IsWhole}
 use Rattle.written_runs.specs.WrittenRuns.{followed_once}
-use Rattle.run_stage.specs.declared.made.Grounds.{Grounds}
-use Rattle.run_stage.specs.GroundsOf.{AreGrounds}
+use Rattle.running.specs.declared.made.Grounds.{Grounds}
+use Rattle.running.specs.GroundsOf.{AreGrounds}
 
 -- over these trees, it is accepted in its file, has its written names, and not more variables than sets have numbers for
 pub record CanRun (ts : List Tree) (c : Checked) : Type 0 where

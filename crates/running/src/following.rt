@@ -3,13 +3,13 @@
 ghost use Rattle.std.specs.Prelude.{IfOk};
 ghost use Rattle.tla_value.specs.States.{Entries};
 ghost use Rattle.run_files.specs.Turns.{script_of};
-ghost use Rattle.run_stage.specs.GroundsOf.{AreGrounds};
+ghost use Rattle.running.specs.GroundsOf.{AreGrounds};
 ghost use Rattle.running.specs.Ready.{CanRun, program_read, IsFollowed, CanFollow, IsFollowedOnce};
 
+use crate::{Grounds, grounds, run_definitions, stage, with_default};
 use checking::check::Checked;
 use followed_runs::{Followed, follow};
 use run_files::Script;
-use run_stage::{Grounds, grounds, run_definitions, stage, with_default};
 use std::alloc::{AllocError, Global};
 use step_program::Program;
 use tla_pool::Pool;

@@ -23,8 +23,8 @@ use Rattle.step_walks.specs.Flows.{Flow, falls, halts, onward, flowing}
 use Rattle.step_walks.specs.StartFlows.{spread_flow}
 use Rattle.step_choices.specs.declared.pause.Pause.{Pause}
 use Rattle.step_choices.specs.Pauses.{Pauses}
-use Rattle.step_start.specs.Identified.{HaveThese}
-use Rattle.step_start.proofs.ActorLaws.{have_ids}
+use Rattle.step_meaning.specs.Identified.{HaveThese}
+use Rattle.step_meaning.proofs.ActorLaws.{have_ids}
 use Rattle.written_traces.specs.AskedStarts.{as_written, spread_asked}
 use Rattle.start_troubles.specs.Asked.{IsGiven}
 use Rattle.start_troubles.proofs.AskedLaws.{stops_is}

@@ -22,9 +22,9 @@ use Rattle.step_program.specs.Programs.{program_at}
 use Rattle.step_values.specs.declared.values.Bound.{Bound}
 use Rattle.step_values.specs.ScopeIn.{scope_in}
 use Rattle.step_moves.specs.Prepared.{prepared_start}
-use Rattle.step_start.specs.declared.routines.Locals.{Locals}
-use Rattle.step_start.specs.Identified.{HaveThese}
-use Rattle.step_start.specs.Ready.{IsReadied}
+use Rattle.step_meaning.specs.declared.routines.Locals.{Locals}
+use Rattle.step_meaning.specs.Identified.{HaveThese}
+use Rattle.step_meaning.specs.Ready.{IsReadied}
 use Rattle.written_traces.specs.AskedStarts.{Meanings, as_written, plain_asked, spread_asked, globals_asked, local_asked, locals_asked}
 use Rattle.start_troubles.specs.declared.locals.Owners.TheVariants as owners
 use Rattle.start_troubles.specs.Asked.{sense_by, global_asked}

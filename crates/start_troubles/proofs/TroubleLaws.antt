@@ -4,8 +4,8 @@ use Rattle.std.specs.Option.{option_map}
 use Rattle.tla_value.specs.declared.stop.EvalStop.{EvalStop}
 use Rattle.tla_value.specs.Value.{Outcome, and_then}
 use Rattle.value_forms.specs.Gives.{Stops}
-use Rattle.run_text.specs.declared.stops.Trouble.{Trouble}
-use Rattle.run_text.specs.InMemory.{trouble_of}
+use Rattle.run_files.specs.declared.stops.Trouble.{Trouble}
+use Rattle.run_files.specs.InMemory.{trouble_of}
 use Rattle.step_runner.specs.Explained.{trouble_in}
 
 -- what meets no trouble is left out

@@ -12,27 +12,27 @@ ghost use Rattle.pcal_tree.specs.InitialStates.{is_multiprocess as is_multiproce
 ghost use Rattle.pcal_tree.specs.Processes.{identifiers};
 ghost use Rattle.pcal_tree.specs.Program as pure;
 ghost use Rattle.value_forms.specs.Gives.{Tells};
-ghost use Rattle.actor_order.specs.InMemory.{actor_at};
+ghost use Rattle.step_program.specs.InMemory.{actor_at};
 ghost use Rattle.step_spots.specs.InMemory.{routine_at};
 ghost use Rattle.step_program.specs.Programs.{program_at};
-ghost use Rattle.step_states.specs.StatesOf.{state_of};
+ghost use Rattle.step_values.specs.StatesOf.{state_of};
 ghost use Rattle.step_values.specs.ScopeIn.{IsScene};
 ghost use Rattle.step_moves.specs.Prepared.{prepared_procedure, prepared_process};
-ghost use Rattle.step_start.specs.Identified.{those};
-ghost use Rattle.step_start.specs.Origins.{IsOrigin};
-ghost use Rattle.step_start.specs.Ready.{AreKnown, IsReadied};
+ghost use Rattle.step_meaning.specs.Identified.{those};
+ghost use Rattle.step_meaning.specs.Origins.{IsOrigin};
+ghost use Rattle.step_meaning.specs.Ready.{AreKnown, IsReadied};
 ghost use Rattle.written_traces.specs.AskedStarts.{as_written, locals_asked, procedures_asked, processes_asked};
 ghost use Rattle.start_troubles.specs.Asked.{procedure_asked, process_asked};
 ghost use Rattle.start_troubles.specs.Owned.{IsOrdered, AreOf};
 
 use crate::locals::{Owners, locals_allowed};
-use actor_order::Actor;
 use pcal_tree::algorithm::{Main, Procedure, Process};
 use std::alloc::{AllocError, Global};
+use step_meaning::Origin;
+use step_meaning::identified::{bound_for, first_of, identifiers_of};
+use step_meaning::routines::Locals;
+use step_program::Actor;
 use step_spots::Routine;
-use step_start::Origin;
-use step_start::identified::{bound_for, first_of, identifiers_of};
-use step_start::routines::Locals;
 use tla_value::state::State;
 use tla_value::stop::EvalStop;
 

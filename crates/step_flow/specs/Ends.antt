@@ -13,7 +13,7 @@ use Rattle.step_walks.specs.Flows.{Flow, falls, halts}
 use Rattle.step_walks.specs.StepFlows.{flow, flow_one, back}
 use Rattle.step_walks.specs.WrittenCalls.{written_rules}
 use Rattle.step_program.specs.Programs.{program_at}
-use Rattle.step_states.specs.StatesOf.{state_of}
+use Rattle.step_values.specs.StatesOf.{state_of}
 use Rattle.step_values.specs.ScopeIn.{scope_in, IsScene}
 use Rattle.step_moves.specs.Runners.{IsReady}
 use Rattle.step_moves.specs.declared.runner.Runner.{Runner}

@@ -10,7 +10,7 @@ ghost use Rattle.pcal_tree.specs.Scope.{State as PureState, Scope, bound as with
 ghost use Rattle.step_walks.specs.Flows.{Flow, flowing, chosen};
 ghost use Rattle.step_walks.specs.StepFlows.{flow_binds};
 ghost use Rattle.step_program.specs.Programs.{program_at};
-ghost use Rattle.step_states.specs.StatesOf.{state_of};
+ghost use Rattle.step_values.specs.StatesOf.{state_of};
 ghost use Rattle.step_flow.specs.Ends.{left_of, scope_of, Stands, Rebound};
 ghost use Rattle.step_flow.specs.Binding.{bind_name, Leads, StillBound};
 

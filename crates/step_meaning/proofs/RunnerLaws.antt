@@ -13,7 +13,7 @@ use Rattle.step_moves.specs.Prepared.{prepared_declarations}
 use Rattle.step_moves.specs.Runners.{names_of, written_names}
 use Rattle.step_moves.proofs.PreparedLaws.{names_alike}
 use Rattle.step_moves.proofs.EntryForms.{locals_at}
-use Rattle.step_start.proofs.RoutineLaws.{procedures_among, processes_among}
+use Rattle.step_meaning.proofs.RoutineLaws.{procedures_among, processes_among}
 use Rattle.step_meaning.specs.declared.stage.Stage.{Stage}
 use Rattle.step_meaning.specs.Stages.{IsPrepared}
 

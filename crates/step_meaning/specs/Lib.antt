@@ -3,3 +3,7 @@ pub mod Replies
 pub mod Stages
 pub mod StandsAt
 pub mod Walks
+pub mod Origins
+pub mod Begun
+pub mod Identified
+pub mod Ready

@@ -10,7 +10,7 @@ use Rattle.step_walks.specs.WrittenCalls.{written_rules}
 use Rattle.step_program.specs.Programs.{program_at}
 use Rattle.step_spots.specs.declared.walk.Spot.{Spot}
 use Rattle.step_spots.specs.Targets.{target_word}
-use Rattle.step_states.specs.StatesOf.{state_of}
+use Rattle.step_values.specs.StatesOf.{state_of}
 use Rattle.step_choices.specs.declared.pause.Pause.{Pause}
 use Rattle.step_choices.specs.declared.pause.Pause.TheVariants as pause
 use Rattle.step_moves.specs.declared.runner.Runner.{Runner}

@@ -8,14 +8,13 @@ ghost use Rattle.step_spots.specs.InMemory.{routine_at};
 ghost use Rattle.step_program.specs.Programs.{program_at};
 ghost use Rattle.step_moves.specs.Prepared.{prepared_routine};
 ghost use Rattle.step_moves.specs.Runners.{IsReady, IsRunner};
-ghost use Rattle.actor_order.specs.InMemory.{actor_at};
+ghost use Rattle.step_program.specs.InMemory.{actor_at};
 ghost use Rattle.step_meaning.specs.Stages.{IsStage, IsPrepared};
 
-use actor_order::Actor;
 use pcal_tree::algorithm::{Main, Procedure};
 use std::alloc::AllocError;
 use step_moves::Runner;
-use step_program::Program;
+use step_program::{Actor, Program};
 use step_spots::{Routine, Target};
 use tla_tree::Name;
 

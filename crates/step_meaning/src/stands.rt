@@ -11,16 +11,15 @@ ghost use Rattle.pcal_tree.specs.Step.{routines_of};
 ghost use Rattle.step_program.specs.Programs.{program_at};
 ghost use Rattle.step_spots.specs.InMemory.{spot_at, routine_at, past_spots};
 ghost use Rattle.step_spots.specs.Spots.{spot_named, place_of};
-ghost use Rattle.actor_order.specs.InMemory.{actor_at};
+ghost use Rattle.step_program.specs.InMemory.{actor_at};
 ghost use Rattle.written_runs.specs.Stands.{stand_in as pure_stand_in, stand_by_spots};
 ghost use Rattle.step_meaning.specs.Stages.{IsStage};
 ghost use Rattle.step_meaning.specs.StandsAt.{stand_at, prepared_at, prepared_procedure_routines, IsPlaced};
 
 use crate::stage::{Stage, own_routine};
-use actor_order::Actor;
 use std::alloc::{AllocError, Global};
 use step_moves::label_value;
-use step_program::Program;
+use step_program::{Actor, Program};
 use step_spots::walk::{Spot, spot_of, spots};
 use step_spots::{Routine, Target};
 use tla_tree::Name;

@@ -16,7 +16,7 @@ use Rattle.pcal_tree.specs.Variables.{pc, stack, vars}
 use Rattle.value_forms.specs.Gives.{Gives}
 use Rattle.step_program.specs.declared.program.Program as code
 use Rattle.step_program.specs.Programs.{program_at}
-use Rattle.step_states.specs.StatesOf.{state_of}
+use Rattle.step_values.specs.StatesOf.{state_of}
 use Rattle.step_values.specs.ScopeIn.{IsScene}
 use Rattle.step_moves.specs.declared.runner.Runner.{Runner}
 use Rattle.step_moves.specs.Runners.{IsReady, IsRunner, fault_without}

@@ -15,7 +15,7 @@ ghost use Rattle.step_walks.specs.WrittenCalls.{first_value, variables_by, enter
 ghost use Rattle.value_forms.specs.Gives.{Tells, Gives};
 ghost use Rattle.step_spots.specs.InMemory.{routine_at};
 ghost use Rattle.step_program.specs.Programs.{program_at};
-ghost use Rattle.step_states.specs.StatesOf.{state_of};
+ghost use Rattle.step_values.specs.StatesOf.{state_of};
 ghost use Rattle.step_values.specs.ScopeIn.{IsScene};
 ghost use Rattle.step_moves.specs.Prepared.{as_prepared, started, given};
 ghost use Rattle.step_moves.specs.Runners.{written_names, Binds, IsReady, IsRunner, IsCallee};
@@ -30,8 +30,7 @@ use pcal_tree::algorithm::{Declaration, Start};
 use std::alloc::{AllocError, Global};
 use step_spots::Routine;
 use step_spots::target::next_target;
-use step_states::{Setting, set_all, set_one};
-use step_values::{Bound, value};
+use step_values::{Bound, Setting, set_all, set_one, value};
 use tla_pool::Pool;
 use tla_token::Place;
 use tla_tree::Name;

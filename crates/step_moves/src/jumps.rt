@@ -12,14 +12,14 @@ ghost use Rattle.value_forms.specs.Gives.{Gives};
 ghost use Rattle.written_names.specs.Units.{naming_of};
 ghost use Rattle.step_spots.specs.Targets.{target_word};
 ghost use Rattle.step_program.specs.Programs.{program_at};
-ghost use Rattle.step_states.specs.StatesOf.{state_of};
+ghost use Rattle.step_values.specs.StatesOf.{state_of};
 ghost use Rattle.step_values.specs.ScopeIn.{IsScene};
 ghost use Rattle.step_moves.specs.Runners.{IsReady, IsRunner};
 
 use crate::runner::Runner;
 use std::alloc::{AllocError, Global};
 use step_spots::Target;
-use step_states::{Setting, set_one};
+use step_values::{Setting, set_one};
 use tla_token::Place;
 use tla_tree::Name;
 use tla_value::state::State;

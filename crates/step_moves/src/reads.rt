@@ -10,7 +10,7 @@ ghost use Rattle.pcal_tree.specs.Program.{Actor, index, read_at};
 ghost use Rattle.pcal_tree.specs.Calls.{all_read as all_read_of, fields_read as fields_read_of, on_stack as on_stack_of};
 ghost use Rattle.value_forms.specs.Gives.{Tells, Gives};
 ghost use Rattle.written_names.specs.Units.{naming_of};
-ghost use Rattle.step_states.specs.StatesOf.{state_of};
+ghost use Rattle.step_values.specs.StatesOf.{state_of};
 ghost use Rattle.step_moves.specs.Runners.{names_of, fault_without, written_names, IsReady, IsRunner};
 
 use crate::jumps::own_path;
@@ -21,7 +21,7 @@ use pcal_tree::algorithm::Declaration;
 use std::alloc::{AllocError, Global};
 use step_program::Program;
 use step_spots::Routine;
-use step_states::part_at;
+use step_values::part_at;
 use tla_token::Place;
 use tla_tree::Name;
 use tla_value::fault::FaultKind;

@@ -12,7 +12,7 @@ ghost use Rattle.pcal_tree.specs.Calls.{setting, part_settings, restored, return
 ghost use Rattle.pcal_tree.specs.Variables.{vars};
 ghost use Rattle.value_forms.specs.Gives.{Gives};
 ghost use Rattle.step_program.specs.Programs.{program_at};
-ghost use Rattle.step_states.specs.StatesOf.{state_of};
+ghost use Rattle.step_values.specs.StatesOf.{state_of};
 ghost use Rattle.step_values.specs.ScopeIn.{IsScene};
 ghost use Rattle.step_moves.specs.Runners.{written_names, IsReady, IsRunner};
 
@@ -22,7 +22,7 @@ use crate::reads::{field, fields_read, local_path, on_stack, written_all};
 use crate::runner::Runner;
 use crate::settings::{add_settings, same_places};
 use std::alloc::Global;
-use step_states::{Setting, set_all, set_one};
+use step_values::{Setting, set_all, set_one};
 use tla_token::Place;
 use tla_tree::Name;
 use tla_value::fault::FaultKind;

@@ -14,7 +14,7 @@ use Rattle.pcal_tree.specs.Program.{Program}
 use Rattle.pcal_tree.specs.Scope.{State, Part, reach}
 use Rattle.pcal_tree.specs.Variables.{vars}
 use Rattle.action_builder.specs.laws.WrittenScope.{written_part}
-use Rattle.step_states.specs.StatesOf.{HasJust}
+use Rattle.step_values.specs.StatesOf.{HasJust}
 use Rattle.step_values.specs.ScopeIn.{scope_in}
 
 pub no_variable : (P : Program) (m : Entries) (x : Word) → HasJust (vars P) m → value_of m x ≡ None → written_part P x ≡ Err (fault NotFunction nowhere)

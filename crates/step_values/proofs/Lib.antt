@@ -2,3 +2,4 @@
 pub mod ScopeLaws
 pub mod LeftLaws
 pub mod SettingLists
+pub mod StateLaws

@@ -22,8 +22,8 @@ use Rattle.step_program.specs.Programs.{program_at, IsWhole}
 use Rattle.step_program.specs.Sights.{seen_value}
 use Rattle.step_program.proofs.SightLaws.{seen_in_state}
 use Rattle.tla_value.specs.declared.stop.EvalStop.{EvalStop}
-use Rattle.step_states.specs.StatesOf.{state_of, HasJust}
-use Rattle.step_states.proofs.StateLaws.{in_memory}
+use Rattle.step_values.specs.StatesOf.{state_of, HasJust}
+use Rattle.step_values.proofs.StateLaws.{in_memory}
 use Rattle.step_values.specs.ScopeIn.{scope_in, IsScene}
 
 pub words_more : (xs : List Word) (vs : List Value) (x : Word) (v : Value) (e : Env) → length xs ≡ length vs → with_words (xs ++ x ∷ []) (vs ++ v ∷ []) e ≡ bind x v (with_words xs vs e)

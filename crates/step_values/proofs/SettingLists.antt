@@ -16,8 +16,8 @@ use Rattle.pcal_tree.specs.Assign as pure
 use Rattle.pcal_tree.specs.Assign.{settings}
 use Rattle.value_forms.specs.Gives.{Stops}
 use Rattle.value_forms.proofs.StopLaws.{behind, then_stops, then_later}
-use Rattle.step_states.specs.declared.settings.Setting.{Setting}
-use Rattle.step_states.specs.StatesOf.{setting_of, settings_of, AreOf}
+use Rattle.step_values.specs.declared.settings.Setting.{Setting}
+use Rattle.step_values.specs.StatesOf.{setting_of, settings_of, AreOf}
 
 then_behind : (xs : List pure.Setting) (y : pure.Setting) (o : Outcome (List pure.Setting)) → behind (xs ++ y ∷ []) o ≡ behind xs (o >>= λ ys. Ok (y ∷ ys))
 then_behind xs y (Ok ys) = ap Ok (append_assoc xs (y ∷ []) ys)

@@ -12,7 +12,7 @@ use Rattle.action_builder.specs.laws.WrittenScope.{written_env, written_part}
 use Rattle.eval_scopes.specs.Scopes.{with_words}
 use Rattle.step_program.specs.declared.program.Program as code
 use Rattle.step_program.specs.Programs.{program_at, IsWhole}
-use Rattle.step_states.specs.StatesOf.{HasJust}
+use Rattle.step_values.specs.StatesOf.{HasJust}
 
 -- of names that are alike the later one counts
 abbrev pub scope_in : Program → List Word → List Value → Scope

@@ -13,7 +13,7 @@ ghost use Rattle.pcal_tree.specs.Assign.{after_assignments, settings as pure_set
 ghost use Rattle.pcal_tree.specs.Variables.{vars};
 ghost use Rattle.value_forms.specs.Gives.{Gives};
 ghost use Rattle.step_program.specs.Programs.{program_at};
-ghost use Rattle.step_states.specs.StatesOf.{state_of, settings_of, AreOf, HasJust};
+ghost use Rattle.step_values.specs.StatesOf.{state_of, settings_of, AreOf, HasJust};
 ghost use Rattle.step_values.specs.ScopeIn.{scope_in, IsScene};
 ghost use Rattle.tla_pool.specs.FormOf.{form_of};
 ghost use Rattle.tla_token.specs.Places.{nowhere};
@@ -22,10 +22,10 @@ ghost use Rattle.tla_value.specs.declared.stop.EvalStop.TheVariants.{Fault};
 ghost use Rattle.step_values.specs.PartsOf.{part_of, reached_path, IsSide};
 
 use crate::values::{Bound, all_values, value};
+use crate::{Setting, set_all};
 use pcal_tree::algorithm::Assignment;
 use std::alloc::Global;
 use step_program::Program;
-use step_states::{Setting, set_all};
 use tla_pool::form::{Form, Strict};
 use tla_token::Place;
 use tla_tree::{Name, NodeId};

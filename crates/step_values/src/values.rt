@@ -8,7 +8,7 @@ ghost use Rattle.tla_value.specs.Value.{values_in};
 ghost use Rattle.pcal_tree.specs.Scope.{value_of, test, members as pure_members};
 ghost use Rattle.value_forms.specs.Gives.{Tells, Gives};
 ghost use Rattle.step_program.specs.Programs.{program_at};
-ghost use Rattle.step_states.specs.StatesOf.{state_of};
+ghost use Rattle.step_values.specs.StatesOf.{state_of};
 ghost use Rattle.step_values.specs.ScopeIn.{scope_in, IsScene};
 
 use std::alloc::Global;

@@ -10,10 +10,10 @@ use Rattle.trace_answer.specs.Traced.{RefusesTrace, IsTrace}
 use Rattle.explained_traces.specs.Halts.{halt_of}
 use Rattle.running.specs.InMemory.{which_of}
 use Rattle.running.specs.declared.files.Which as code
-use Rattle.run_command.specs.Names.{Names, name_of, size_of, AreShort}
-use Rattle.run_command.specs.Reading.{text_of, AllRead, Unread}
-use Rattle.run_command.specs.declared.answer.RunAnswer.{RunAnswer}
-use Rattle.run_command.proofs.Told.{told, found, told_fact, told_there, not_lacking, AreTold, of_told, of_read}
+use Rattle.running.specs.Names.{Names, name_of, size_of, AreShort}
+use Rattle.running.specs.Reading.{text_of, AllRead, Unread}
+use Rattle.running.specs.declared.answer.RunAnswer.{RunAnswer}
+use Rattle.running.proofs.Told.{told, found, told_fact, told_there, not_lacking, AreTold, of_told, of_read}
 use Rattle.trace_command.specs.Answers.{StopsAt, IsRead, IsUnread, IsUnwritten, IsEnd}
 use Rattle.trace_command.specs.Answers as answers
 use Rattle.trace_command.specs.Answered.{AnsweredTrace, Writes, WritesInPart}

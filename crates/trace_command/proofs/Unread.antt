@@ -2,9 +2,9 @@
 use Rattle.std.proofs.Common.{◌≡◌, ◌⊎◌, inl, inr}
 use Rattle.run_answer.specs.Chosen.{Which}
 use Rattle.running.specs.declared.files.Which as code
-use Rattle.run_command.specs.Answers as runs
-use Rattle.run_command.specs.declared.answer.RunAnswer.{RunAnswer}
-use Rattle.run_command.specs.declared.answer.RunAnswer.TheVariants as run
+use Rattle.running.specs.Answers as runs
+use Rattle.running.specs.declared.answer.RunAnswer.{RunAnswer}
+use Rattle.running.specs.declared.answer.RunAnswer.TheVariants as run
 use Rattle.trace_command.specs.Answers.{StopsAt, IsReadFault, IsTooLong, IsUnread}
 use Rattle.trace_command.specs.Unread.{unread_as}
 use Rattle.trace_command.specs.declared.answer.TraceAnswer.TheVariants as answer

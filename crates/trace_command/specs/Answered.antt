@@ -12,7 +12,7 @@ use Rattle.explained_traces.specs.Halts.{halt_of}
 use Rattle.explained_traces.specs.declared.explaining.Halt.{Halt}
 use Rattle.running.specs.InMemory.{which_of}
 use Rattle.running.specs.declared.files.Which as code
-use Rattle.run_command.specs.Names.{Names, name_of, IsBefore, OfTexts, IsThere, size_of, AreShort}
+use Rattle.running.specs.Names.{Names, name_of, IsBefore, OfTexts, IsThere, size_of, AreShort}
 use Rattle.trace_command.specs.Answers.{StopsAt, IsReadFault, IsTooLong, IsRead, LeavesOut, IsUnread, IsUnwritten, IsEnd}
 use Rattle.trace_command.specs.Answers as answers
 use Rattle.trace_command.specs.declared.answer.TraceAnswer.{TraceAnswer}

@@ -1,6 +1,6 @@
 -- What is answered to a trace of which a file wasn't read: just what is answered to such a run.
-use Rattle.run_command.specs.declared.answer.RunAnswer.{RunAnswer}
-use Rattle.run_command.specs.declared.answer.RunAnswer.TheVariants as run
+use Rattle.running.specs.declared.answer.RunAnswer.{RunAnswer}
+use Rattle.running.specs.declared.answer.RunAnswer.TheVariants as run
 use Rattle.trace_command.specs.declared.answer.TraceAnswer.{TraceAnswer}
 use Rattle.trace_command.specs.declared.answer.TraceAnswer.TheVariants as answer
 

@@ -5,16 +5,16 @@ ghost use Rattle.step_runner.specs.Explained.{halt_line};
 ghost use Rattle.step_runner.specs.Explained as pure;
 ghost use Rattle.explained_traces.specs.Halts.{halt_of};
 ghost use Rattle.explained_traces.specs.declared.explaining.Halt as code;
-ghost use Rattle.run_command.specs.Answers.{IsUnread};
-ghost use Rattle.run_command.specs.Names.{names_of, OfTexts};
+ghost use Rattle.running.specs.Answers.{IsUnread};
+ghost use Rattle.running.specs.Names.{names_of, OfTexts};
 ghost use Rattle.trace_command.specs.Answered.{AnsweredTrace, KeepsPromise};
 ghost use Rattle.trace_command.specs.Unread.{unread_as};
 
 use crate::answer::{Ended, TraceAnswer};
 use crate::writing::{put_trace, without_line};
 use outer_io::{Shelf, Sink};
-use run_command::reading::{in_memory, load_three};
-use run_command::{Names, RunAnswer};
+use running::reading::{in_memory, load_three};
+use running::{Names, RunAnswer};
 use std::alloc::Global;
 
 /// The answer to a trace of which a file can't be read: as that to such a run.

@@ -16,7 +16,7 @@ ghost use Rattle.trace_command.specs.Put.{answer_of, Put};
 use crate::answer::{Ended, TraceAnswer};
 use explained_traces::{Explained, Halt};
 use outer_io::{Sink, put_all};
-use run_text::{state_line, trouble_line};
+use run_files::{state_line, trouble_line};
 use running::{Files, NoRun};
 use std::alloc::{AllocError, Global};
 use tracing::trace_of_files;

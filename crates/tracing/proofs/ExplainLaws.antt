@@ -20,11 +20,11 @@ use Rattle.step_program.specs.Programs.{program_at, IsWhole}
 use Rattle.step_runner.specs.Config.{constants_of}
 use Rattle.step_runner.specs.Explained.{state_of, explained}
 use Rattle.step_runner.specs.Shown.{trace_text}
-use Rattle.step_states.specs.StatesOf.{HasJust}
-use Rattle.run_stage.specs.declared.made.Grounds.{Grounds}
-use Rattle.run_stage.specs.GroundsOf.{AreGrounds}
-use Rattle.run_stage.specs.ProgramsOf.{IsProgramOf}
-use Rattle.run_stage.proofs.ProgramLaws.{vars_same, same_program}
+use Rattle.step_values.specs.StatesOf.{HasJust}
+use Rattle.running.specs.declared.made.Grounds.{Grounds}
+use Rattle.running.specs.GroundsOf.{AreGrounds}
+use Rattle.running.specs.ProgramsOf.{IsProgramOf}
+use Rattle.running.proofs.ProgramLaws.{vars_same, same_program}
 use Rattle.running.specs.Ready.{CanRun, program_read}
 use Rattle.running.proofs.FollowLaws.{can_follow}
 use Rattle.written_traces.specs.WrittenTraces.{explained_once}

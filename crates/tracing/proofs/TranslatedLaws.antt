@@ -38,7 +38,7 @@ use Rattle.checking.specs.CheckedIn.{IsLabelled}
 use Rattle.checking.specs.declared.check.Checked.{Checked}
 use Rattle.run_answer.specs.Chosen.{Right, algorithm_in}
 use Rattle.run_answer.proofs.Choices.{one_typed, one_outside}
-use Rattle.run_stage.proofs.ReadLaws.{read_kept, held_more}
+use Rattle.running.proofs.ReadLaws.{read_kept, held_more}
 use Rattle.running.specs.Ready.{CanRun}
 use Rattle.tracing.specs.declared.translated.Translation.{Translation}
 use Rattle.tracing.specs.Translated.{IsTranslation}

@@ -10,7 +10,7 @@ use Rattle.module_outside.specs.WholeAt.{outside_at}
 use Rattle.checking.specs.declared.check.Checked.{Checked}
 use Rattle.step_runner.specs.Config.{SpellsConfig, ConfigOffends}
 use Rattle.step_runner.specs.Trace.{SpellsTrace, TraceOffends}
-use Rattle.run_stage.specs.GroundsOf.{AreGrounds}
+use Rattle.running.specs.GroundsOf.{AreGrounds}
 use Rattle.running.specs.declared.files.Files.{Files}
 use Rattle.running.specs.declared.files.Which.TheVariants as which
 use Rattle.running.specs.declared.files.NoRun.{NoRun}

@@ -9,8 +9,8 @@ use Rattle.step_program.specs.declared.program.Program as code
 use Rattle.step_program.specs.Programs.{program_at}
 use Rattle.step_runner.specs.Explained.{state_of, explained}
 use Rattle.step_runner.specs.Shown.{trace_text}
-use Rattle.step_states.specs.StatesOf.{HasJust}
-use Rattle.run_stage.specs.declared.made.Grounds.{Grounds}
+use Rattle.step_values.specs.StatesOf.{HasJust}
+use Rattle.running.specs.declared.made.Grounds.{Grounds}
 use Rattle.running.specs.Ready.{CanFollow}
 use Rattle.written_traces.specs.WrittenTraces.{explained_once}
 use Rattle.explained_traces.specs.declared.explaining.Explained.{Explained}

@@ -6,9 +6,8 @@ ghost use Rattle.tracing.specs.Beside.{IsReadBeside, IsRefusedBeside};
 
 use checking::check::Checked;
 use run_files::{read_config, read_trace};
-use run_stage::{Grounds, grounds};
 use running::beside::no_run;
-use running::{Files, NoRun, Which};
+use running::{Files, Grounds, NoRun, Which, grounds};
 use std::alloc::{AllocError, Global};
 use tla_pool::Pool;
 use tla_value::state::State;

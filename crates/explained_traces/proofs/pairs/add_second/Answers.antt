@@ -1,8 +1,8 @@
 -- Proves that the text of the state is added, behind the step that leads to it.
 use Rattle.std.proofs.Common.{◌++◌, sym, ap, ◌∙◌}
 use Rattle.step_runner.specs.Shown.{Before, state_text}
-use Rattle.step_states.specs.StatesOf.{state_of}
-use Rattle.step_start.proofs.FlowLaws.{on_ok}
+use Rattle.step_values.specs.StatesOf.{state_of}
+use Rattle.step_meaning.proofs.FlowLaws.{on_ok}
 use Rattle.followed_runs.specs.Parties.{program_of}
 use Rattle.explained_traces.specs.Shows.{before_by}
 use Rattle.explained_traces.proofs.pairs.add_second.Goals as goal

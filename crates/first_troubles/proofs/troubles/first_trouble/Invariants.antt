@@ -1,7 +1,7 @@
 -- What the loop keeps: the first trouble of the processes that are left is that of all.
 use Rattle.std.proofs.Common.{◌≡◌, drop, map}
-use Rattle.actor_order.specs.InMemory.{actor_at}
-use Rattle.step_states.specs.StatesOf.{state_of}
+use Rattle.step_program.specs.InMemory.{actor_at}
+use Rattle.step_values.specs.StatesOf.{state_of}
 use Rattle.trouble_walks.specs.WrittenTroubles.{written_trouble_of_all}
 use Rattle.followed_runs.specs.Parties.{program_of, actors_of}
 use Rattle.first_troubles.proofs.troubles.first_trouble.Given as goal

@@ -1,7 +1,7 @@
 -- Proves what a list of choices comes to.
 use Rattle.std.proofs.Common.{sym, subst, List}
 use Rattle.tla_tree.specs.Tree.{Word}
-use Rattle.step_states.specs.StatesOf.{state_of, HasJust}
+use Rattle.step_values.specs.StatesOf.{state_of, HasJust}
 use Rattle.first_troubles.proofs.CopyLaws.{same_state, same_scene}
 use Rattle.first_troubles.proofs.TryLaws.{taken_comes, halted_comes}
 use Rattle.first_troubles.proofs.trying.tried.Goals as goal

@@ -1,6 +1,6 @@
 -- Proves why the answer comes, and what is answered where there is no memory for the line.
 use Rattle.std.proofs.Common.{sym}
-use Rattle.run_command.specs.Names.{names_of}
+use Rattle.running.specs.Names.{names_of}
 use Rattle.pcal_cli.proofs.Runs.{three_memory, run_cause, memory_explains}
 use Rattle.pcal_cli.proofs.three.run_three.Goals as goal
 

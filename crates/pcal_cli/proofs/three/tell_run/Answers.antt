@@ -1,8 +1,8 @@
 -- Proves that the line is that of the file that can't be read, and where the script stops that of the stop.
 use Rattle.std.proofs.Common.{refl, sym, subst, ◌∙◌}
 use Rattle.followed_runs.specs.Stopping.{reply_by}
-use Rattle.run_command.specs.declared.answer.RunAnswer.{RunAnswer}
-use Rattle.run_command.specs.Names.{names_of}
+use Rattle.running.specs.declared.answer.RunAnswer.{RunAnswer}
+use Rattle.running.specs.Names.{names_of}
 use Rattle.pcal_cli.specs.Told.{Told}
 use Rattle.pcal_cli.specs.Runs.{run_line}
 use Rattle.pcal_cli.proofs.three.tell_run.Goals as goal

@@ -2,7 +2,7 @@
 use Rattle.std.proofs.Common.{refl, sym, subst, ◌∙◌}
 use Rattle.explained_traces.specs.Halts.{halt_by}
 use Rattle.trace_command.specs.declared.answer.TraceAnswer.{TraceAnswer}
-use Rattle.run_command.specs.Names.{names_of}
+use Rattle.running.specs.Names.{names_of}
 use Rattle.pcal_cli.specs.Told.{Told}
 use Rattle.pcal_cli.specs.Traces.{trace_line}
 use Rattle.pcal_cli.proofs.traced.tell_trace.Goals as goal

@@ -1,7 +1,7 @@
 -- Proves why the answer comes, and what is answered where there is no memory for the line.
 use Rattle.std.proofs.Common.{sym}
 use Rattle.command_words.specs.Meant.{options_of}
-use Rattle.run_command.specs.Names.{names_of}
+use Rattle.running.specs.Names.{names_of}
 use Rattle.pcal_cli.specs.Asked.{promised}
 use Rattle.pcal_cli.proofs.Traces.{traced_memory, trace_cause, trace_memory_explains}
 use Rattle.pcal_cli.proofs.traced.trace_three.Goals as goal

@@ -1,6 +1,6 @@
 -- Proves that declarations are prepared.
 use Rattle.std.proofs.Common.{◌∙◌}
-use Rattle.statement_grafts.specs.Prepared.{names_put, own_put}
+use Rattle.prepared_program.specs.Prepared.{names_put, own_put}
 use Rattle.pcal_tree.specs.InMemory.{declarations_at}
 use Rattle.prepared_program.proofs.PlacesLaws.{declarations_prepared}
 use Rattle.prepared_program.proofs.parts.declarations.Goals as goal

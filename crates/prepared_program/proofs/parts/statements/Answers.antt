@@ -3,7 +3,7 @@ use Rattle.std.proofs.Common.{List, map, ap, ◌∙◌}
 use Rattle.pcal_tree.specs.declared.algorithm.Stmt.{Stmt}
 use Rattle.pcal_tree.specs.Expand.{graft_all}
 use Rattle.pcal_tree.specs.InMemory.{statements_at, macro_at}
-use Rattle.statement_grafts.specs.Prepared.{names_put, own_put}
+use Rattle.prepared_program.specs.Prepared.{names_put, own_put}
 use Rattle.expansion.proofs.AlgorithmLaws.{outside_written}
 use Rattle.prepared_program.proofs.PlacesLaws.{statements_prepared}
 use Rattle.prepared_program.proofs.parts.statements.Goals as goal

@@ -2,7 +2,7 @@
 use Rattle.std.proofs.Common.{subst}
 use Rattle.step_spots.specs.InMemory.{routine_at}
 use Rattle.step_program.specs.Programs.{program_at}
-use Rattle.step_states.specs.StatesOf.{state_of}
+use Rattle.step_values.specs.StatesOf.{state_of}
 use Rattle.start_troubles.specs.declared.locals.Owners.{Owners}
 use Rattle.start_troubles.specs.Owned.{IsOrdered, AreOf}
 use Rattle.start_troubles.proofs.LocalLaws.{each_have, first_has}

@@ -8,13 +8,13 @@ use Rattle.pcal_tree.specs.Algorithm as tree
 use Rattle.pcal_tree.specs.Algorithm.{Routine, procedure_routine, numbered, first_procedure}
 use Rattle.pcal_tree.specs.InMemory.{procedure_at, past_procedure}
 use Rattle.pcal_tree.specs.Variables.{written_by_all, vars}
-use Rattle.actor_order.specs.InMemory.{actor_at}
+use Rattle.step_program.specs.InMemory.{actor_at}
 use Rattle.value_forms.proofs.StopLaws.{tells_err}
 use Rattle.step_program.specs.Programs.{program_at}
-use Rattle.step_states.specs.StatesOf.{state_of}
+use Rattle.step_values.specs.StatesOf.{state_of}
 use Rattle.step_values.proofs.SettingLists.{found}
 use Rattle.step_moves.specs.Prepared.{prepared_procedure}
-use Rattle.step_start.proofs.RoutineLaws.{procedures_among, routine_known, numbered_at}
+use Rattle.step_meaning.proofs.RoutineLaws.{procedures_among, routine_known, numbered_at}
 use Rattle.written_traces.specs.AskedStarts.{as_written}
 use Rattle.start_troubles.specs.Asked.{procedure_asked}
 use Rattle.start_troubles.proofs.AskedLaws.{all_asked, stops_is}

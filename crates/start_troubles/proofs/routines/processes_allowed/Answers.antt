@@ -2,7 +2,7 @@
 use Rattle.std.proofs.Common.{List, length, sym, ap, ◌∙◌}
 use Rattle.pcal_tree.specs.declared.algorithm.Process.{Process}
 use Rattle.step_program.specs.Programs.{program_at}
-use Rattle.step_start.proofs.MainLaws.{prepared_many}
+use Rattle.step_meaning.proofs.MainLaws.{prepared_many}
 use Rattle.start_troubles.proofs.routines.processes_allowed.Goals as goal
 
 pub several_allowed-requires-clause-many : goal.several_allowed-requires-clause-many

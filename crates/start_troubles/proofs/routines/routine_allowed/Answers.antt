@@ -3,13 +3,13 @@ use Rattle.std.proofs.Common.{◌∷◌, List, map, true, false, sym, subst, ◌
 use Rattle.tla_value.specs.Order.{IsAscending}
 use Rattle.tla_value.specs.Value.{Value, values_in}
 use Rattle.pcal_tree.specs.Algorithm.{locals}
-use Rattle.actor_order.specs.InMemory.{actor_at}
+use Rattle.step_program.specs.InMemory.{actor_at}
 use Rattle.step_spots.specs.InMemory.{routine_at}
 use Rattle.step_program.specs.Programs.{program_at}
-use Rattle.step_states.specs.StatesOf.{state_of}
-use Rattle.step_start.specs.Identified.{those, HaveThese}
-use Rattle.step_start.proofs.ActorLaws.{ascending_of}
-use Rattle.step_start.proofs.ReadiedLaws.{first_none, first_some}
+use Rattle.step_values.specs.StatesOf.{state_of}
+use Rattle.step_meaning.specs.Identified.{those, HaveThese}
+use Rattle.step_meaning.proofs.ActorLaws.{ascending_of}
+use Rattle.step_meaning.proofs.ReadiedLaws.{first_none, first_some}
 use Rattle.written_traces.specs.AskedStarts.{as_written, locals_asked}
 use Rattle.start_troubles.proofs.AskedLaws.{tells_is}
 use Rattle.start_troubles.proofs.LocalLaws.{none_have}

@@ -8,7 +8,7 @@ use Rattle.pcal_tree.specs.InMemory.{start_at}
 use Rattle.pcal_tree.specs.Scope.{value_of}
 use Rattle.step_spots.specs.InMemory.{routine_at}
 use Rattle.step_program.specs.Programs.{program_at}
-use Rattle.step_states.specs.StatesOf.{state_of}
+use Rattle.step_values.specs.StatesOf.{state_of}
 use Rattle.step_values.specs.ScopeIn.{scope_in}
 use Rattle.written_traces.specs.AskedStarts.{as_written, spread_asked}
 use Rattle.start_troubles.proofs.GivenLaws.{members_tell}

@@ -5,13 +5,13 @@ use Rattle.pcal_tree.specs.declared.algorithm.Declaration.{Declaration}
 use Rattle.pcal_tree.specs.declared.algorithm.Procedure.{Procedure}
 use Rattle.pcal_tree.specs.Algorithm.{first_procedure, procedure_routine, procedure_routines, main_routines, numbered}
 use Rattle.pcal_tree.specs.InMemory.{declarations_at, procedure_at}
-use Rattle.actor_order.specs.InMemory.{actor_at}
+use Rattle.step_program.specs.InMemory.{actor_at}
 use Rattle.value_forms.proofs.StopLaws.{tells_err}
 use Rattle.step_program.specs.Programs.{program_at}
-use Rattle.step_states.specs.StatesOf.{state_of}
+use Rattle.step_values.specs.StatesOf.{state_of}
 use Rattle.step_moves.specs.Prepared.{prepared_procedure}
-use Rattle.step_start.proofs.ActorLaws.{actors_ascend}
-use Rattle.step_start.proofs.RoutineLaws.{numbered_many}
+use Rattle.step_meaning.proofs.ActorLaws.{actors_ascend}
+use Rattle.step_meaning.proofs.RoutineLaws.{numbered_many}
 use Rattle.written_traces.specs.AskedStarts.{as_written, globals_asked, procedures_asked, processes_asked}
 use Rattle.start_troubles.proofs.AskedLaws.{and_stops, and_not, and_tells, stops_is, stops_later}
 use Rattle.start_troubles.proofs.trouble.all_allowed.Goals as goal

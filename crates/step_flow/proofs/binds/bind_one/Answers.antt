@@ -6,7 +6,7 @@ use Rattle.pcal_tree.specs.Scope.{Scope}
 use Rattle.tla_value.specs.Limits.{bounded}
 use Rattle.step_walks.specs.StepFlows.{flow_binds}
 use Rattle.step_program.specs.Programs.{program_at}
-use Rattle.step_states.specs.StatesOf.{state_of}
+use Rattle.step_values.specs.StatesOf.{state_of}
 use Rattle.step_flow.specs.Ends.{left_of}
 use Rattle.step_flow.proofs.BindLaws.{one_more}
 use Rattle.step_flow.proofs.binds.bind_one.Goals as goal

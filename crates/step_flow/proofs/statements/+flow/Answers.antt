@@ -14,7 +14,7 @@ use Rattle.step_walks.specs.StepFlows.{flow}
 use Rattle.step_walks.specs.WrittenCalls.{written_rules}
 use Rattle.step_program.specs.Programs.{program_at}
 use Rattle.step_spots.specs.Targets.{target_word}
-use Rattle.step_states.specs.StatesOf.{state_of}
+use Rattle.step_values.specs.StatesOf.{state_of}
 use Rattle.step_choices.specs.Pauses.{Pauses}
 use Rattle.step_moves.specs.Runners.{partner_of}
 use Rattle.step_flow.specs.declared.going.End.TheVariants as end

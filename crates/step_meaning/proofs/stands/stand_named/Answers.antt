@@ -3,7 +3,7 @@ use Rattle.std.proofs.Common.{ap, sym, ◌∙◌}
 use Rattle.std.specs.Option.{option_map}
 use Rattle.step_program.specs.Programs.{program_at}
 use Rattle.step_spots.specs.InMemory.{routine_at}
-use Rattle.actor_order.specs.InMemory.{actor_at}
+use Rattle.step_program.specs.InMemory.{actor_at}
 use Rattle.step_meaning.specs.StandsAt.{stand_at}
 use Rattle.step_meaning.proofs.StandLaws.{named_first, named_later, if_ok}
 use Rattle.step_meaning.proofs.stands.stand_named.Goals as goal

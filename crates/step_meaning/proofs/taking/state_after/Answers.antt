@@ -7,9 +7,9 @@ use Rattle.pcal_tree.specs.StepAnswers.{too_many_choices, label_place}
 use Rattle.step_program.specs.Programs.{program_at}
 use Rattle.step_program.specs.declared.program.Program.{Program}
 use Rattle.step_spots.specs.InMemory.{routine_at}
-use Rattle.step_states.specs.StatesOf.{state_of}
+use Rattle.step_values.specs.StatesOf.{state_of}
 use Rattle.step_values.specs.ScopeIn.{IsScene}
-use Rattle.actor_order.specs.InMemory.{actor_at}
+use Rattle.step_program.specs.InMemory.{actor_at}
 use Rattle.step_meaning.specs.Replies.{halt_of}
 use Rattle.step_meaning.specs.Walks.{PausesWalk}
 use Rattle.step_meaning.proofs.ReplyLaws.{pause_replies, err_replies, left_over, all_used}

@@ -10,7 +10,7 @@ use Rattle.written_names.specs.Units.{naming_of}
 use Rattle.step_walks.specs.WrittenCalls.{first_value}
 use Rattle.step_spots.specs.InMemory.{routine_at}
 use Rattle.step_program.specs.Programs.{program_at}
-use Rattle.step_states.specs.StatesOf.{state_of}
+use Rattle.step_values.specs.StatesOf.{state_of}
 use Rattle.step_moves.specs.Prepared.{as_prepared}
 use Rattle.step_moves.proofs.EntryForms.{start_none, start_last}
 use Rattle.step_moves.proofs.MoveLaws.{scene_if}

@@ -7,7 +7,7 @@ use Rattle.pcal_tree.specs.Calls.{setting}
 use Rattle.pcal_tree.specs.Variables.{pc}
 use Rattle.value_forms.specs.Gives.{Gives}
 use Rattle.step_program.specs.Programs.{program_at}
-use Rattle.step_states.specs.StatesOf.{state_of}
+use Rattle.step_values.specs.StatesOf.{state_of}
 use Rattle.step_moves.proofs.jumps.jump.Goals as goal
 
 pub returns-clause-jumped : goal.returns-clause-jumped

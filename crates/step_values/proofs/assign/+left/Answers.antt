@@ -8,7 +8,7 @@ use Rattle.tla_pool.specs.FormOf.{form_of}
 use Rattle.pcal_tree.specs.Scope as pure
 use Rattle.value_forms.specs.Gives.{Gives}
 use Rattle.step_program.specs.Programs.{program_at}
-use Rattle.step_states.specs.StatesOf.{state_of}
+use Rattle.step_values.specs.StatesOf.{state_of}
 use Rattle.step_values.specs.PartsOf.{part_of}
 use Rattle.step_values.proofs.LeftLaws.{rest_below, whole_reached}
 use Rattle.step_values.proofs.assign.+left.Goals as goal

@@ -5,7 +5,7 @@ use Rattle.tla_tree.specs.Tree.{Tree, root_place}
 use Rattle.pcal_tree.specs.declared.algorithm.Assignment.{Assignment}
 use Rattle.pcal_tree.specs.Variables.{vars}
 use Rattle.step_program.specs.Programs.{program_at}
-use Rattle.step_states.specs.StatesOf.{state_of}
+use Rattle.step_values.specs.StatesOf.{state_of}
 use Rattle.step_values.specs.PartsOf.{part_of}
 use Rattle.step_values.specs.ScopeIn.{scope_in}
 use Rattle.step_values.proofs.SettingLists.{one_settled, left_below, right_below, of_more, found}

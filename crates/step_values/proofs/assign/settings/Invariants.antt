@@ -1,7 +1,7 @@
 -- What is kept: the settings so far, before those of the rest, are all.
 use Rattle.step_program.specs.Programs.{program_at}
 use Rattle.pcal_tree.specs.Variables.{vars}
-use Rattle.step_states.specs.StatesOf.{state_of, AreOf}
+use Rattle.step_values.specs.StatesOf.{state_of, AreOf}
 use Rattle.step_values.specs.ScopeIn.{scope_in}
 use Rattle.step_values.proofs.SettingLists.{Settled}
 use Rattle.step_values.proofs.assign.settings.Given as goal

@@ -4,7 +4,7 @@ use Rattle.tla_tree.specs.Pool.{trees_at}
 use Rattle.tla_value.specs.Limits.{bounded}
 use Rattle.tla_value.specs.Meaning.{evals, part_values}
 use Rattle.step_program.specs.Programs.{program_at}
-use Rattle.step_states.specs.StatesOf.{state_of}
+use Rattle.step_values.specs.StatesOf.{state_of}
 use Rattle.step_values.specs.ScopeIn.{scope_in}
 use Rattle.value_forms.proofs.StopLaws.{behind}
 use Rattle.step_values.proofs.values.all_values.Given as goal

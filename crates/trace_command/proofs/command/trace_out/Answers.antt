@@ -2,9 +2,9 @@
 use Rattle.std.proofs.Common.{length, ap, sym, subst, ◌∙◌, arith}
 use Rattle.promise.specs.Options.{Options}
 use Rattle.run_answer.specs.Chosen.{Files, of_module, of_config, of_third}
-use Rattle.run_command.specs.Names.{names_of}
-use Rattle.run_command.specs.Reading.{files_in}
-use Rattle.run_command.proofs.Told.{of_read}
+use Rattle.running.specs.Names.{names_of}
+use Rattle.running.specs.Reading.{files_in}
+use Rattle.running.proofs.Told.{of_read}
 use Rattle.trace_command.specs.Answered.{AnsweredTrace, KeepsPromise}
 use Rattle.trace_command.specs.Put.{Put}
 use Rattle.trace_command.proofs.Answering.{answered_unread, answered_read}

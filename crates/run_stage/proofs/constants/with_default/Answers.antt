@@ -1,6 +1,0 @@
--- Proves that the values are the constants of a run.
-use Rattle.run_stage.proofs.ConstantLaws.{with_default_put}
-use Rattle.run_stage.proofs.constants.with_default.Goals as goal
-
-pub returns : goal.returns
-returns c = with_default_put c.args.constants c.set.new.self c.in_ok-name.name c.in_ok-value.value c.in_ok-name.ensures c.in_ok-value.ensures c.in_ok-set.ensures.ok

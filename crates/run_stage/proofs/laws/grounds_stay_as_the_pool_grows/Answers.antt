@@ -1,6 +1,0 @@
--- Proves the law `grounds_stay_as_the_pool_grows`.
-use Rattle.run_stage.proofs.GroundsLaws.{grounds_kept}
-use Rattle.run_stage.proofs.laws.grounds_stay_as_the_pool_grows.Goals as goal
-
-pub returns : goal.returns
-returns c = grounds_kept

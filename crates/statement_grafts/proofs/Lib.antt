@@ -1,5 +1,0 @@
--- Lemmas for the contracts of this crate.
-mod Made
-mod LeftSides
-mod Members
-mod EachKind

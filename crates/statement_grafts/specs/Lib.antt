@@ -1,2 +1,0 @@
--- What the contracts of this crate are said in.
-pub mod Prepared
