@@ -1,10 +1,8 @@
 -- What is told stays true as the pool grows; and forms over what is told.
-use Rattle.std.proofs.Common.{◌≡◌, ℕ, ◌<◌, Bool, List, length, Option, Some, None, refl, sym, ap, ◌∙◌, arith}
-use Rattle.std.specs.Option.{option_map}
+use Rattle.std.proofs.Common.{◌≡◌, ℕ, ◌≤◌, Bool, List, Option, Some, None, sym, ap, ◌∙◌, arith}
 use Rattle.tla_token.specs.declared.place.Place.{Place}
 use Rattle.tla_tree.specs.Tree.{Tree, Word}
-use Rattle.tla_tree.specs.Pool.{at, Keeps}
-use Rattle.tla_tree.specs.Spelling.{Phrase}
+use Rattle.tla_tree.specs.Pool.{Keeps}
 use Rattle.module_tree.specs.Grammar.{CallForm, WayForm}
 use Rattle.module_tree.specs.Units.{OverForm, GuardForm, FairForm, SpecForm, start_line, steps_line, fair_line}
 use Rattle.module_tree.specs.Module as tree
@@ -13,24 +11,60 @@ use Rattle.module_write.specs.declared.«module».Call.TheVariants as call
 use Rattle.module_write.specs.declared.«module».Way.{Way}
 use Rattle.module_write.specs.declared.«module».Way.TheVariants as way
 use Rattle.module_write.specs.declared.«module».Fairness.{Fairness}
-use Rattle.module_write.specs.InMemory.{call_at, CallIn, over_at, OverIn, MaybeIn}
+use Rattle.module_write.specs.InMemory.{CallIn, WayIn, OverIn, MaybeIn}
+use Rattle.module_write.proofs.InMemoryGrown.{call_at-kept, over_at-kept, maybe-kept}
+use Rattle.region_items.proofs.ItemsStand.{tree_kept}
 use Rattle.region_calls.specs.declared.fairness.SpecLine.{SpecLine}
 use Rattle.region_calls.specs.declared.fairness.SpecLine.TheVariants as line
-use Rattle.region_calls.specs.Told.{IsPhrase, IsCall, IsWay, IsOver, IsGuard, IsFair, IsSpec, AmongForm, IsAmong, some_way}
+use Rattle.region_calls.specs.Told.{IsCall, IsWay, IsOver, IsGuard, IsFair, IsSpec, AmongForm, IsAmong, some_way}
 
-pub phrase_kept : {old new : List Tree} {i : ℕ} {a : Phrase} → Keeps old new → IsPhrase old i a → IsPhrase new i a
-phrase_kept {old} {new} {i} {a} k h = record { below = omega (arith, h.below, k.longer); tree = k.same i h.below ∙ h.tree }
+-- ---- numbers of a pool are of a longer one
+call_longer : {m n : ℕ} (c : Call) → m ≤ n → CallIn m c → CallIn n c
+call_longer (call.Bare a) l h = tt
+call_longer (call.With a i) l h = omega (arith, h, l)
 
-pub over_kept : {old new : List Tree} {x : Option (Word × ℕ)} {f : Option OverForm} → Keeps old new → IsOver old x f → IsOver new x f
-over_kept {old} {new} {x = None} {f} k h = record { below = tt; over = h.over }
-over_kept {old} {new} {x = Some y} {f} k h = (let b : y.1 < length old = h.below in record { below = omega (arith, b, k.longer); over = ap (λ (t : Tree). Some (y.0, t)) (k.same y.1 b) ∙ h.over })
+way_longer : {m n : ℕ} (w : Way) → m ≤ n → WayIn m w → WayIn n w
+way_longer (way.One c) l h = call_longer c l h
+way_longer (way.Among x i c) l h = (omega (arith, h.0, l), call_longer c l h.1)
 
-pub guard_kept : {old new : List Tree} {x : Option ℕ} {g : Option GuardForm} → Keeps old new → IsGuard old x g → IsGuard new x g
-guard_kept {old} {new} {x = None} {g} k h = record { below = tt; guard = h.guard }
-guard_kept {old} {new} {x = Some i} {g} k h = (let b : i < length old = h.below in record { below = omega (arith, b, k.longer); guard = ap Some (k.same i b) ∙ h.guard })
+over_longer : {m n : ℕ} (x : Option (Word × ℕ)) → m ≤ n → OverIn m x → OverIn n x
+over_longer None l h = tt
+over_longer (Some x) l h = omega (arith, h, l)
 
+test_longer : {m n : ℕ} (x : Option ℕ) → m ≤ n → MaybeIn m x → MaybeIn n x
+test_longer None l h = tt
+test_longer (Some i) l h = omega (arith, h, l)
+
+-- ---- what is told stays true
+module _ {old new : List Tree} (k : Keeps old new) where
+  pub over_kept : {x : Option (Word × ℕ)} {f : Option OverForm} → IsOver old x f → IsOver new x f
+  over_kept {x} {f} h = record { below = over_longer x k.longer h.below; over = over_at-kept old new k x h.below ∙ h.over }
+
+  pub guard_kept : {x : Option ℕ} {g : Option GuardForm} → IsGuard old x g → IsGuard new x g
+  guard_kept {x} {g} h = record { below = test_longer x k.longer h.below; guard = maybe-kept old new k x h.below ∙ h.guard }
+
+  pub way_kept : {w : Way} {f : WayForm} → IsWay old w f → IsWay new w f
+  way_kept {w = way.One c} {f} h = record { below = call_longer c k.longer h.below; way = ap tree.one_way (call_at-kept old new k c h.below) ∙ h.way }
+  way_kept {w = way.Among x i c} {f} h = record {
+    below = way_longer (way.Among x i c) k.longer h.below;
+    way = (λ j. tree.some_way x (k.same i h.below.0 j) (call_at-kept old new k c h.below.1 j)) ∙ h.way;
+  }
+
+  pub fair_kept : {x : Fairness} {f : FairForm} → IsFair old x f → IsFair new x f
+  fair_kept {x} {f} h = record {
+    below = record { over = over_longer x.over k.longer h.below.over; guard = test_longer x.guard k.longer h.below.guard; action = call_longer x.action k.longer h.below.action };
+    fair = (λ i. record { over = over_at-kept old new k x.over h.below.over i; strong = x.strong; guard = maybe-kept old new k x.guard h.below.guard i; action = call_at-kept old new k x.action h.below.action i }) ∙ h.fair;
+  }
+
+  pub spec_kept : (x : SpecLine) (f : SpecForm) → IsSpec old x f → IsSpec new x f
+  spec_kept line.Start (start_line p) h = tt
+  spec_kept line.Steps (steps_line p q s t u) h = tt
+  spec_kept (line.Fair x) (fair_line f) h = fair_kept h
+  spec_kept x f h = absurd h
+
+-- ---- forms over what is told
 pub way_told : {old new : List Tree} {x : Word} {s : ℕ} {c : Call} {f : AmongForm} {u : CallForm} (p : Place) → Keeps old new → IsAmong old (x, s) f → IsCall new c u → IsWay new (way.Among x s c) (some_way p f u)
-way_told p k a h = (let set = phrase_kept k a.set in record { below = (set.below, h.below); way = λ i. tree.some_way (a.name i) (set.tree i) (h.call i) })
+way_told p k a h = (let set = tree_kept k a.set in record { below = (set.below, h.below); way = λ i. tree.some_way (a.name i) (set.tree i) (h.call i) })
 
 pub fair_told : {old new : List Tree} {x : Option (Word × ℕ)} {strong : Bool} {y : Option ℕ} {c : Call} {o : Option OverForm} {b : Place × Bool} {g : Option GuardForm} {u : CallForm} (p q : Place)
     → Keeps old new → IsOver old x o → b.1 ≡ strong → IsGuard old y g → IsCall new c u
@@ -39,39 +73,3 @@ fair_told p q k o s g h = (let over = over_kept k o in let guard = guard_kept k 
   below = record { over = over.below; guard = guard.below; action = h.below };
   fair = λ i. record { over = over.over i; strong = sym s i; guard = guard.guard i; action = h.call i };
 })
-
--- the call means the same
-same_call : {old new : List Tree} (c : Call) → Keeps old new → CallIn (length old) c → (call_at new c ≡ call_at old c) × CallIn (length new) c
-same_call (call.Bare a) k h = (refl, tt)
-same_call (call.With a i) k h = (ap (λ (t : Tree). tree.call_with a t) (k.same i h), omega (arith, h, k.longer))
-
-pub way_kept : {old new : List Tree} {w : Way} {f : WayForm} → Keeps old new → IsWay old w f → IsWay new w f
-way_kept {old} {new} {w = way.One c} {f} k h = (let s = same_call c k h.below in record { below = s.1; way = ap (λ (u : tree.Call). tree.one_way u) s.0 ∙ h.way })
-way_kept {old} {new} {w = way.Among x i c} {f} k h = (let b : i < length old = h.below.0 in let s = same_call c k h.below.1 in record {
-  below = (omega (arith, b, k.longer), s.1);
-  way = (λ j. tree.some_way x (k.same i b j) (s.0 j)) ∙ h.way;
-})
-
-same_over : {old new : List Tree} (x : Option (Word × ℕ)) → Keeps old new → OverIn (length old) x → (over_at new x ≡ over_at old x) × OverIn (length new) x
-same_over None k h = (refl, tt)
-same_over (Some x) k h = (ap (λ (t : Tree). Some (x.0, t)) (k.same x.1 h), omega (arith, h, k.longer))
-
-same_test : {old new : List Tree} (x : Option ℕ) → Keeps old new → MaybeIn (length old) x → (option_map (at new) x ≡ option_map (at old) x) × MaybeIn (length new) x
-same_test None k h = (refl, tt)
-same_test (Some i) k h = (ap Some (k.same i h), omega (arith, h, k.longer))
-
-pub fair_kept : {old new : List Tree} {x : Fairness} {f : FairForm} → Keeps old new → IsFair old x f → IsFair new x f
-fair_kept {old} {new} {x} {f} k h =
-    let o = same_over x.over k h.below.over in
-    let g = same_test x.guard k h.below.guard in
-    let c = same_call x.action k h.below.action in
-    record {
-      below = record { over = o.1; guard = g.1; action = c.1 };
-      fair = (λ i. record { over = o.0 i; strong = x.strong; guard = g.0 i; action = c.0 i }) ∙ h.fair;
-    }
-
-pub spec_kept : {old new : List Tree} (x : SpecLine) (f : SpecForm) → Keeps old new → IsSpec old x f → IsSpec new x f
-spec_kept line.Start (start_line p) k h = tt
-spec_kept line.Steps (steps_line p q s t u) k h = tt
-spec_kept (line.Fair x) (fair_line f) k h = fair_kept k h
-spec_kept x f k h = absurd h

@@ -1,5 +1,5 @@
--- Where so many forms may open: a form that opens, and a token that opens one.
-use Rattle.std.proofs.Common.{◌≡◌, ℕ, suc, ◌+◌, true, List, refl, sym, ap, ◌∙◌, subst, arith}
+-- Where so many forms may open: behind a form that opens, and the token that opens one.
+use Rattle.std.proofs.Common.{◌≡◌, ℕ, suc, true, List, refl, sym, ap, ◌∙◌, subst}
 use Rattle.tla_token.specs.declared.place.Place.{Place}
 use Rattle.tla_tree.specs.Lexical.{Mark, TokenView, Token}
 use Rattle.tla_tree.specs.Lexical as tk
@@ -7,22 +7,16 @@ use Rattle.tla_tree.specs.Reader.{Out, Reader, then_read, peek, next, is_mark, i
 use Rattle.tla_tree.specs.Whole.{read_bounded}
 use Rattle.tla_tree.proofs.SoundTokens.{mark_is}
 use Rattle.expr_nodes.specs.ReadIn.{Reads}
-use Rattle.region_reading.specs.Bound.{Bound, deeper, opened, opening}
-use Rattle.region_reading.proofs.BoundLaws.{deeper_is, opened_is, opening_is}
-use Rattle.region_calls.specs.Bounded.{bound}
+use Rattle.region_reading.specs.Bound.{deeper, opening}
+use Rattle.region_reading.proofs.BoundLaws.{deeper_is, opening_is}
+use Rattle.region_items.specs.Begins.{bound}
 
-next_of : (l d : ℕ) → d + 1 ≡ l → suc d ≡ l
-next_of l d h = omega (arith, h)
-
-pub deeper_at : (l d : ℕ) → d + 1 ≡ l → deeper (bound l) ≡ bound d
-deeper_at l d h = ap (λ (n : ℕ). deeper (bound n)) (sym (next_of l d h)) ∙ deeper_is read_bounded d
+pub deeper_more : (l d : ℕ) → suc d ≡ l → deeper (bound l) ≡ bound d
+deeper_more l d h = ap (λ (n : ℕ). deeper (bound n)) (sym h) ∙ deeper_is read_bounded d
 
 module _ {A : Type 0} where
-  pub opened_at : (l d : ℕ) (f : Bound → Reader A) (ts : List Token) → d + 1 ≡ l → opened (bound l) f ts ≡ f (bound d) ts
-  opened_at l d f ts h = ap (λ (n : ℕ). opened (bound n) f ts) (sym (next_of l d h)) ∙ opened_is read_bounded d f ts
-
-  pub opening_at : (l d : ℕ) (p : Reader A) (ts : List Token) → d + 1 ≡ l → opening (bound l) p ts ≡ p ts
-  opening_at l d p ts h = ap (λ (n : ℕ). opening (bound n) p ts) (sym (next_of l d h)) ∙ opening_is read_bounded d p ts
+  pub opening_more : (l d : ℕ) (p : Reader A) (ts : List Token) → suc d ≡ l → opening (bound l) p ts ≡ p ts
+  opening_more l d p ts h = ap (λ (n : ℕ). opening (bound n) p ts) (sym h) ∙ opening_is read_bounded d p ts
 
   pub reads_then : {B : Type 0} {P : A → Type 0} {u : List Token} (R : Out B → Type 0) (o : Out A) (f : A → Reader B) → Reads P u o → ((a : A) → P a → R (f a u)) → R (then_read o f)
   reads_then R o f h g = subst (λ o. R (then_read o f)) (sym h.is) (g h.what h.told)

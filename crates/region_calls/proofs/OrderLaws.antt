@@ -4,7 +4,18 @@ use Rattle.std.proofs.lemmas.List.{map_push}
 use Rattle.module_write.specs.declared.«module».Fairness.{Fairness}
 use Rattle.region_calls.specs.declared.fairness.SpecLine.{SpecLine}
 use Rattle.region_calls.specs.declared.fairness.SpecLine.TheVariants as line
-use Rattle.region_calls.specs.Order.{in_order, so_far, IsSoFar}
+use Rattle.region_calls.specs.Order.{in_order}
+
+-- so far, where so many came that are no formulas
+abbrev so_far : ℕ → List Fairness → List SpecLine
+so_far zero fs = []
+so_far (suc zero) fs = line.Start ∷ []
+so_far (suc (suc n)) fs = in_order fs
+
+pub record IsSoFar (n : ℕ) (fs : List Fairness) (ls : List SpecLine) : Type 0 where
+  pub few : n ≤ 2
+  pub none : n < 2 → fs ≡ []
+  pub lines : ls ≡ so_far n fs
 
 -- ---- it may stand there
 pub start_goes : {n : ℕ} {fs : List Fairness} {ls : List SpecLine} → n ≡ 0 → IsSoFar n fs ls → IsSoFar 1 fs (ls ++ line.Start ∷ [])

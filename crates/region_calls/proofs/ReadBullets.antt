@@ -1,5 +1,5 @@
 -- Forms behind bullets, as the code reads them: what was read goes before what is still to come.
-use Rattle.std.proofs.Common.{◌≡◌, ℕ, zero, suc, ◌+◌, ◌≤◌, Bool, true, false, List, [], ◌∷◌, ◌++◌, length, drop, Ok, Some, None, if◌then◌else◌, refl, sym, ap, ◌∙◌, subst, arith}
+use Rattle.std.proofs.Common.{◌≡◌, ℕ, zero, suc, ◌≤◌, Bool, true, false, List, [], ◌∷◌, ◌++◌, length, drop, Ok, Some, None, if◌then◌else◌, refl, sym, ap, ◌∙◌, subst, arith}
 use Rattle.std.proofs.lemmas.List.{append_assoc}
 use Rattle.tla_token.specs.declared.place.Place.{Place}
 use Rattle.tla_token.specs.declared.token.Token as code_token
@@ -24,9 +24,9 @@ use Rattle.region_reading.specs.CallReader.{way_in, spec_in}
 use Rattle.region_reading.proofs.BoundLaws.{opened_is}
 use Rattle.region_reading.proofs.BoundIsRead.{bound_shortens}
 use Rattle.region_reading.proofs.EnoughSteps.{phrases_are, ways_are, specs_are}
-use Rattle.region_calls.specs.Bounded.{bound}
+use Rattle.region_items.specs.Begins.{bound}
+use Rattle.region_items.proofs.OpeningRead.{opened_more}
 use Rattle.region_calls.specs.Lists.{AreAll, column_in}
-use Rattle.region_calls.proofs.Openings.{opened_at}
 
 -- ---- bullets
 none_left : (ts : List code_token.Token) (i : ℕ) → length ts ≤ i → drop i ts ≡ []
@@ -44,10 +44,10 @@ bullet_took o c ts h = ap (λ (b : Bool). took (if b then Some (next 1 ts).place
 
 -- ---- the column of the first
 module _ {A : Type 0} (l : ℕ) (o : Op) (f : Bound → ℕ → Reader (List (Place × A))) where
-  pub column_read : (R : Out (List (Place × A)) → Type 0) (d c : ℕ) (ts : List Token) → is_sign o (next 1 ts).kind ≡ true → d + 1 ≡ l → c ≡ (next 1 ts).place.col
+  pub column_read : (R : Out (List (Place × A)) → Type 0) (d c : ℕ) (ts : List Token) → is_sign o (next 1 ts).kind ≡ true → suc d ≡ l → c ≡ (next 1 ts).place.col
       → R (f (bound d) c ts) → R (opened_if (is_sign o (next 1 ts).kind) (bound l) (λ n. f n (next 1 ts).place.col) ts)
   column_read R d c ts h g k r =
-      subst R (sym (ap (λ (b : Bool). opened_if b (bound l) (λ n. f n (next 1 ts).place.col) ts) h ∙ opened_at l d (λ n. f n (next 1 ts).place.col) ts g))
+      subst R (sym (ap (λ (b : Bool). opened_if b (bound l) (λ n. f n (next 1 ts).place.col) ts) h ∙ opened_more l d (λ n. f n (next 1 ts).place.col) ts g))
       (subst (λ (c : ℕ). R (f (bound d) c ts)) k r)
 
 column_by : {A : Type 0} (w : Halt) (b : Bool) (l n : ℕ) (f : Bound → Reader A) (ts : List Token) → Fails {A = ℕ} w (opened_if b (bound l) (λ m. gives n) ts) → Fails w (opened_if b (bound l) f ts)

@@ -1,4 +1,3 @@
-pub mod Bounded
 pub mod Told
 pub mod Lists
 pub mod Order

@@ -1,5 +1,5 @@
 -- The order of the conjuncts of Spec.
-use Rattle.std.specs.Prelude.{◌≡◌, ℕ, zero, suc, ◌<◌, ◌≤◌, ◌++◌, Bool, true, false, List, [], ◌∷◌, length, map}
+use Rattle.std.specs.Prelude.{◌≡◌, List, ◌∷◌, length, map}
 use Rattle.tla_token.specs.declared.place.Place.{Place}
 use Rattle.tla_tree.specs.declared.op.Op.TheVariants as op
 use Rattle.tla_tree.specs.Tree.{Tree}
@@ -18,22 +18,6 @@ use Rattle.region_calls.specs.declared.fairness.SpecLine.TheVariants as line
 -- `Init`, `[][Next]_vars`, and formulas of fairness
 abbrev pub in_order : List Fairness → List SpecLine
 in_order fs = line.Start ∷ line.Steps ∷ map (λ (f : Fairness). line.Fair f) fs
-
--- so far, where so many came that are no formulas
-abbrev pub so_far : ℕ → List Fairness → List SpecLine
-so_far zero fs = []
-so_far (suc zero) fs = line.Start ∷ []
-so_far (suc (suc n)) fs = in_order fs
-
-pub record IsSoFar (n : ℕ) (fs : List Fairness) (ls : List SpecLine) : Type 0 where
-  pub few : n ≤ 2
-  pub none : n < 2 → fs ≡ []
-  pub lines : ls ≡ so_far n fs
-
--- one more conjunct may stand there, and then these came; or it may not, whatever is behind it
-abbrev pub Goes : Bool → ℕ → List Fairness → List SpecLine → SpecLine → Type 0
-Goes true n fs ls x = IsSoFar n fs (ls ++ x ∷ [])
-Goes false n fs ls x = (rest : List SpecLine) (gs : List Fairness) → ls ++ x ∷ rest ≡ in_order gs → ⊥
 
 -- behind `Spec ==`, as a unit of a translation
 abbrev pub spec_behind : Bound → Place → Place → Reader UnitForm

@@ -1,12 +1,12 @@
 -- What is told of what was read, in memory: it means what the form means, and its numbers are of the pool.
-use Rattle.std.specs.Prelude.{◌≡◌, ℕ, ◌<◌, List, length, Option, Some}
+use Rattle.std.specs.Prelude.{◌≡◌, ℕ, List, length, Option, Some}
 use Rattle.std.specs.Option.{option_map}
 use Rattle.tla_token.specs.declared.place.Place.{Place}
 use Rattle.tla_tree.specs.declared.op.Op.TheVariants as op
 use Rattle.tla_tree.specs.Tree.{Tree, Word}
 use Rattle.tla_tree.specs.Pool.{at}
 use Rattle.tla_tree.specs.Lexical as tk
-use Rattle.tla_tree.specs.Spelling.{Phrase, tree_of}
+use Rattle.tla_tree.specs.Spelling.{Phrase}
 use Rattle.tla_tree.specs.Reader.{Reader, ◌>>=◌, gives, a_mark, a_sign, a_word}
 use Rattle.module_tree.specs.Grammar.{CallForm, call_of, WayForm, some_form, way_of}
 use Rattle.module_tree.specs.Units.{OverForm, over_of, GuardForm, guard_of, FairForm, fairness_of, SpecForm, start_line, steps_line, fair_line}
@@ -16,13 +16,9 @@ use Rattle.module_write.specs.declared.«module».Way.{Way}
 use Rattle.module_write.specs.declared.«module».Fairness.{Fairness}
 use Rattle.region_reading.specs.Bound.{Bound, a_phrase}
 use Rattle.region_reading.specs.CallReader.{call_in}
+use Rattle.region_items.specs.Stand.{IsTree}
 use Rattle.region_calls.specs.declared.fairness.SpecLine.{SpecLine}
 use Rattle.region_calls.specs.declared.fairness.SpecLine.TheVariants as line
-
--- the number of an expression
-pub record IsPhrase (ts : List Tree) (i : ℕ) (a : Phrase) : Type 0 where
-  pub below : i < length ts
-  pub tree : at ts i ≡ tree_of a
 
 pub record IsCall (ts : List Tree) (c : Call) (f : CallForm) : Type 0 where
   pub below : CallIn (length ts) c
@@ -66,7 +62,7 @@ among_in m e = a_word e >>= λ x. a_sign e op.In >>= λ s. a_phrase m e >>= λ a
 -- the name, and the number of the set
 pub record IsAmong (ts : List Tree) (x : Word × ℕ) (f : AmongForm) : Type 0 where
   pub name : x.0 ≡ f.name
-  pub set : IsPhrase ts x.1 f.set
+  pub set : IsTree ts x.1 f.set
 
 -- ---- behind the first token of a form
 abbrev pub some_way : Place → AmongForm → CallForm → WayForm

@@ -1,6 +1,6 @@
 //! Reading lists of forms behind bullets that stand in one column: ways, conjuncts of Spec, and expressions.
 
-ghost use Rattle.std.specs.Prelude.{◌≡◌, ◌+◌, ◌<◌, ◌≤◌, IfErr, IfOk, IfSome, IfNone, true, false, length};
+ghost use Rattle.std.specs.Prelude.{◌≡◌, suc, ◌<◌, ◌≤◌, IfErr, IfOk, IfSome, IfNone, true, false, length};
 ghost use Rattle.tla_tree.specs.declared.op.Op.TheVariants as op;
 ghost use Rattle.tla_tree.specs.Pool.{Keeps};
 ghost use Rattle.tla_tree.specs.Reader as reader;
@@ -9,17 +9,18 @@ ghost use Rattle.expr_nodes.specs.ReadIn.{Told, Fails};
 ghost use Rattle.region_reading.specs.Bound.{a_phrase};
 ghost use Rattle.region_reading.specs.NameReader.{is_bullet_in, bulleted_from, bulleted_in};
 ghost use Rattle.region_reading.specs.CallReader.{way_in, spec_in};
-ghost use Rattle.region_calls.specs.Bounded.{bound, MayRead};
-ghost use Rattle.region_calls.specs.Told.{IsPhrase, IsWay, IsSpec};
+ghost use Rattle.region_items.specs.Begins.{MayBegin, bound};
+ghost use Rattle.region_items.specs.Stand.{IsTree};
+ghost use Rattle.region_calls.specs.Told.{IsWay, IsSpec};
 ghost use Rattle.region_calls.specs.Lists.{AreAll, column_in};
 
 use crate::calls::way;
 use crate::fairness::{SpecLine, spec_line};
-use crate::parts::phrase;
 use expr_nodes::cursor::{Halt, is_sign};
 use expr_nodes::spot::{Spot, deeper, next_at, refused};
 use expr_rows::on_next::{is_bullet_next, past_bullet};
 use module_write::module::Way;
+use region_items::operands::expression;
 use std::alloc::Global;
 use tla_pool::Pool;
 use tla_token::{Rule, Tokens};
@@ -49,7 +50,7 @@ fn after_bullet(tokens: &Tokens, s: Spot, op: Op, col: u32) -> Option<usize>
 fn column(tokens: &Tokens, s: Spot, op: Op) -> Result<(u32, u32), Halt>
     requires { s.at ≤ length tokens.now.items.items }
     ensures there { IfOk result (λ x. reader.is_sign op (reader.next 1 (ahead tokens.now s.at)).kind ≡ true) }
-    ensures left { IfOk result (λ x. x.0 + 1 ≡ s.left) }
+    ensures left { IfOk result (λ x. suc x.0 ≡ s.left) }
     ensures column { IfOk result (λ x. x.1 ≡ (reader.next 1 (ahead tokens.now s.at)).place.col) }
     ensures none { IfErr result (λ w. Fails w (column_in (bound s.left) op (ahead tokens.now s.at))) }
 {
@@ -70,7 +71,7 @@ fn ways_from(
     s: Spot,
     col: u32,
 ) -> Result<(Vec<Way>, usize), Halt>
-    requires given { MayRead tokens.now s }
+    requires given { MayBegin tokens.now s }
     ensures read { Told (λ x fs. AreAll (IsWay pool.new) x.0.items fs) (λ x. ahead tokens.now x.1) result (bulleted_from op.Or (way_in (bound s.left)) col (ahead tokens.now s.at)) }
     ensures kept { Keeps pool.old pool.new }
     ensures inside { IfOk result (λ x. x.1 ≤ length tokens.now.items.items) }
@@ -104,7 +105,7 @@ pub fn ways(
     pool: &mut Pool,
     s: Spot,
 ) -> Result<(Vec<Way>, usize), Halt>
-    requires given { MayRead tokens.now s }
+    requires given { MayBegin tokens.now s }
     ensures read { Told (λ x fs. AreAll (IsWay pool.new) x.0.items fs) (λ x. ahead tokens.now x.1) result (bulleted_in (bound s.left) op.Or way_in (ahead tokens.now s.at)) }
     ensures kept { Keeps pool.old pool.new }
     ensures inside { IfOk result (λ x. x.1 ≤ length tokens.now.items.items) }
@@ -122,7 +123,7 @@ fn spec_lines_from(
     s: Spot,
     col: u32,
 ) -> Result<(Vec<SpecLine>, usize), Halt>
-    requires given { MayRead tokens.now s }
+    requires given { MayBegin tokens.now s }
     ensures read { Told (λ x fs. AreAll (IsSpec pool.new) x.0.items fs) (λ x. ahead tokens.now x.1) result (bulleted_from op.And (spec_in (bound s.left)) col (ahead tokens.now s.at)) }
     ensures kept { Keeps pool.old pool.new }
     ensures inside { IfOk result (λ x. x.1 ≤ length tokens.now.items.items) }
@@ -156,7 +157,7 @@ pub fn spec_lines(
     pool: &mut Pool,
     s: Spot,
 ) -> Result<(Vec<SpecLine>, usize), Halt>
-    requires given { MayRead tokens.now s }
+    requires given { MayBegin tokens.now s }
     ensures read { Told (λ x fs. AreAll (IsSpec pool.new) x.0.items fs) (λ x. ahead tokens.now x.1) result (bulleted_in (bound s.left) op.And spec_in (ahead tokens.now s.at)) }
     ensures kept { Keeps pool.old pool.new }
     ensures inside { IfOk result (λ x. x.1 ≤ length tokens.now.items.items) }
@@ -174,8 +175,8 @@ fn conjuncts_from(
     s: Spot,
     col: u32,
 ) -> Result<(Vec<NodeId>, usize), Halt>
-    requires given { MayRead tokens.now s }
-    ensures read { Told (λ x fs. AreAll (IsPhrase pool.new) x.0.items fs) (λ x. ahead tokens.now x.1) result (bulleted_from op.And (a_phrase (bound s.left)) col (ahead tokens.now s.at)) }
+    requires given { MayBegin tokens.now s }
+    ensures read { Told (λ x fs. AreAll (IsTree pool.new) x.0.items fs) (λ x. ahead tokens.now x.1) result (bulleted_from op.And (a_phrase (bound s.left)) col (ahead tokens.now s.at)) }
     ensures kept { Keeps pool.old pool.new }
     ensures inside { IfOk result (λ x. x.1 ≤ length tokens.now.items.items) }
     ensures further { IfOk result (λ x. s.at ≤ x.1) }
@@ -183,7 +184,7 @@ fn conjuncts_from(
     let mut list = Vec::new(alloc);
     let (_, mut at) = past_bullet(tokens, Spot { edge: EDGE, ..s }, Op::And, col)?;
     loop {
-        let (one, next) = phrase(alloc, tokens, pool, Spot { at, edge: col, ..s })?;
+        let (one, next) = expression(alloc, tokens, pool, Spot { at, edge: col, ..s })?;
         list.push(one)?;
         let end = Spot {
             at: next,
@@ -208,8 +209,8 @@ pub fn conjuncts(
     pool: &mut Pool,
     s: Spot,
 ) -> Result<(Vec<NodeId>, usize), Halt>
-    requires given { MayRead tokens.now s }
-    ensures read { Told (λ x fs. AreAll (IsPhrase pool.new) x.0.items fs) (λ x. ahead tokens.now x.1) result (bulleted_in (bound s.left) op.And a_phrase (ahead tokens.now s.at)) }
+    requires given { MayBegin tokens.now s }
+    ensures read { Told (λ x fs. AreAll (IsTree pool.new) x.0.items fs) (λ x. ahead tokens.now x.1) result (bulleted_in (bound s.left) op.And a_phrase (ahead tokens.now s.at)) }
     ensures kept { Keeps pool.old pool.new }
     ensures inside { IfOk result (λ x. x.1 ≤ length tokens.now.items.items) }
     ensures further { IfOk result (λ x. s.at ≤ x.1) }

@@ -8,20 +8,19 @@ ghost use Rattle.tla_tree.specs.Reader as reader;
 ghost use Rattle.module_tree.specs.Units.{OverForm, GuardForm};
 ghost use Rattle.expr_nodes.specs.Ahead.{ahead};
 ghost use Rattle.expr_nodes.specs.ReadIn.{Told};
-ghost use Rattle.expr_nodes.specs.ViewSeen.{mark_seen};
-ghost use Rattle.region_reading.specs.Bound.{deeper as deeper_of, opening};
 ghost use Rattle.region_reading.specs.CallReader.{strong_of, over_by, behind_over, guard_by, behind_guard, fair_end as fair_end_in, fair_from as fair_from_in, fair_in, steps_from as steps_from_in, spec_in};
-ghost use Rattle.region_calls.specs.Bounded.{bound, MayRead};
+ghost use Rattle.region_items.specs.Begins.{MayBegin, bound};
 ghost use Rattle.region_calls.specs.Told.{IsOver, IsGuard, IsFair, IsSpec, behind_bracket};
 
-use crate::calls::call;
-use crate::parts::{among, phrase};
+use crate::calls::{among, call};
 use crate::titles::{is_keyword, past_title};
 use expr_nodes::cursor::Halt;
 use expr_nodes::spot::{Spot, after, after_mark, deeper, next_at, past_mark, past_sign, refused};
 use expr_nodes::view::{Key, Mark};
 use expr_rows::on_next::{after_key, after_word};
 use module_write::module::Fairness;
+use region_items::opening::past_opening_mark;
+use region_items::operands::expression;
 use std::alloc::Global;
 use tla_pool::Pool;
 use tla_token::{Rule, Tokens};
@@ -56,19 +55,6 @@ fn strength(tokens: &Tokens, s: Spot) -> Result<(bool, usize), Halt>
     }
 }
 
-// Past this mark, behind which a form more is open: how many may open there.
-fn past_opening(tokens: &Tokens, s: Spot, mark: Mark) -> Result<(u32, usize), Halt>
-    requires { s.at ≤ length tokens.now.items.items }
-    ensures read { Told (λ x (p : Place). deeper_of (bound s.left) ≡ bound x.0) (λ x. ahead tokens.now x.1) result (opening (bound s.left) (reader.a_mark s.edge (mark_seen mark)) (ahead tokens.now s.at)) }
-    ensures fewer { IfOk result (λ x. x.0 ≤ s.left) }
-    ensures inside { IfOk result (λ x. x.1 ≤ length tokens.now.items.items) }
-    ensures further { IfOk result (λ x. s.at ≤ x.1) }
-{
-    let (_, at) = past_mark(tokens, s, mark)?;
-    let left = deeper(tokens, s, 0)?.left;
-    Ok((left, at))
-}
-
 // `\A x \in S :`, if it is there, and how many forms may open behind it.
 fn over(
     alloc: Global,
@@ -76,7 +62,7 @@ fn over(
     pool: &mut Pool,
     s: Spot,
 ) -> Result<(Option<(Name, NodeId)>, u32, usize), Halt>
-    requires given { MayRead tokens.now s }
+    requires given { MayBegin tokens.now s }
     ensures read { Told (λ x (f : Option OverForm). IsOver pool.new x.0 f × (behind_over (bound s.left) f ≡ bound x.1)) (λ x. ahead tokens.now x.2) result (reader.peek s.edge (over_by (bound s.left) s.edge) (ahead tokens.now s.at)) }
     ensures kept { Keeps pool.old pool.new }
     ensures fewer { IfOk result (λ x. x.1 ≤ s.left) }
@@ -86,14 +72,9 @@ fn over(
     let Some(from) = after_key(tokens, s, Key::ForAll) else {
         return Ok((None, s.left, s.at));
     };
-    let left = deeper(tokens, s, 0)?.left;
-    let d = Spot {
-        at: from,
-        left,
-        ..s
-    };
-    let (set, at) = among(alloc, tokens, pool, d)?;
-    Ok((Some(set), left, at))
+    let d = deeper(tokens, s, 0)?;
+    let (set, at) = among(alloc, tokens, pool, Spot { at: from, ..d })?;
+    Ok((Some(set), d.left, at))
 }
 
 // `e) /\` behind `(`
@@ -103,13 +84,13 @@ fn guard_from(
     pool: &mut Pool,
     s: Spot,
 ) -> Result<(NodeId, usize), Halt>
-    requires given { MayRead tokens.now s }
+    requires given { MayBegin tokens.now s }
     ensures read { (p : Place) → Told (λ x (g : Option GuardForm). IsGuard pool.new (Some x.0) g) (λ x. ahead tokens.now x.1) result (behind_bracket (bound s.left) s.edge p (ahead tokens.now s.at)) }
     ensures kept { Keeps pool.old pool.new }
     ensures inside { IfOk result (λ x. x.1 ≤ length tokens.now.items.items) }
     ensures further { IfOk result (λ x. s.at ≤ x.1) }
 {
-    let (test, at) = phrase(alloc, tokens, pool, s)?;
+    let (test, at) = expression(alloc, tokens, pool, s)?;
     let (_, at) = past_mark(tokens, Spot { at, ..s }, Mark::CloseBracket)?;
     let (_, at) = past_sign(tokens, Spot { at, ..s }, Op::And)?;
     Ok((test, at))
@@ -122,7 +103,7 @@ fn guard(
     pool: &mut Pool,
     s: Spot,
 ) -> Result<(Option<NodeId>, u32, usize), Halt>
-    requires given { MayRead tokens.now s }
+    requires given { MayBegin tokens.now s }
     ensures read { Told (λ x (g : Option GuardForm). IsGuard pool.new x.0 g × (behind_guard (bound s.left) g ≡ bound x.1)) (λ x. ahead tokens.now x.2) result (reader.peek s.edge (guard_by (bound s.left) s.edge) (ahead tokens.now s.at)) }
     ensures kept { Keeps pool.old pool.new }
     ensures fewer { IfOk result (λ x. x.1 ≤ s.left) }
@@ -132,14 +113,9 @@ fn guard(
     let Some(from) = after_mark(tokens, s, Mark::OpenBracket) else {
         return Ok((None, s.left, s.at));
     };
-    let left = deeper(tokens, s, 0)?.left;
-    let d = Spot {
-        at: from,
-        left,
-        ..s
-    };
-    let (test, at) = guard_from(alloc, tokens, pool, d)?;
-    Ok((Some(test), left, at))
+    let d = deeper(tokens, s, 0)?;
+    let (test, at) = guard_from(alloc, tokens, pool, Spot { at: from, ..d })?;
+    Ok((Some(test), d.left, at))
 }
 
 // `A(e))` of a formula of fairness, behind its guard.
@@ -153,7 +129,7 @@ fn fair_end(
     strong: bool,
     guard: Option<NodeId>,
 ) -> Result<(Fairness, usize), Halt>
-    requires given { MayRead tokens.now s }
+    requires given { MayBegin tokens.now s }
     ensures read { (o : Option OverForm) (b : Place × Bool) (p : Place) (g : Option GuardForm) → IsOver pool.old over o → b.1 ≡ strong → IsGuard pool.old guard g →
         Told (λ x f. IsFair pool.new x.0 f) (λ x. ahead tokens.now x.1) result (fair_end_in (bound s.left) s.edge o b p g (ahead tokens.now s.at)) }
     ensures kept { Keeps pool.old pool.new }
@@ -179,15 +155,15 @@ fn fair_from(
     s: Spot,
     over: Option<(Name, NodeId)>,
 ) -> Result<(Fairness, usize), Halt>
-    requires given { MayRead tokens.now s }
+    requires given { MayBegin tokens.now s }
     ensures read { (o : Option OverForm) → IsOver pool.old over o → Told (λ x f. IsFair pool.new x.0 f) (λ x. ahead tokens.now x.1) result (fair_from_in (bound s.left) s.edge o (ahead tokens.now s.at)) }
     ensures kept { Keeps pool.old pool.new }
     ensures inside { IfOk result (λ x. x.1 ≤ length tokens.now.items.items) }
     ensures further { IfOk result (λ x. s.at ≤ x.1) }
 {
     let (strong, at) = strength(tokens, s)?;
-    let (left, at) = past_opening(tokens, Spot { at, ..s }, Mark::OpenBracket)?;
-    let (test, left, at) = guard(alloc, tokens, pool, Spot { at, left, ..s })?;
+    let (_, d) = past_opening_mark(tokens, Spot { at, ..s }, Mark::OpenBracket)?;
+    let (test, left, at) = guard(alloc, tokens, pool, d)?;
     fair_end(
         alloc,
         tokens,
@@ -210,7 +186,7 @@ pub fn fair(
     pool: &mut Pool,
     s: Spot,
 ) -> Result<(Fairness, usize), Halt>
-    requires given { MayRead tokens.now s }
+    requires given { MayBegin tokens.now s }
     ensures read { Told (λ x f. IsFair pool.new x.0 f) (λ x. ahead tokens.now x.1) result (fair_in (bound s.left) s.edge (ahead tokens.now s.at)) }
     ensures kept { Keeps pool.old pool.new }
     ensures inside { IfOk result (λ x. x.1 ≤ length tokens.now.items.items) }
@@ -227,8 +203,8 @@ fn steps_from(tokens: &Tokens, s: Spot) -> Result<(SpecLine, usize), Halt>
     ensures inside { IfOk result (λ x. x.1 ≤ length tokens.now.items.items) }
     ensures further { IfOk result (λ x. s.at ≤ x.1) }
 {
-    let (_, at) = past_opening(tokens, s, Mark::OpenSquare)?;
-    let (_, at) = past_title(tokens, Spot { at, ..s }, b"Next")?;
+    let (_, from) = past_opening_mark(tokens, s, Mark::OpenSquare)?;
+    let (_, at) = past_title(tokens, Spot { at: from.at, ..s }, b"Next")?;
     let (_, at) = past_mark(tokens, Spot { at, ..s }, Mark::CloseSquare)?;
     let (_, at) = past_title(tokens, Spot { at, ..s }, b"_vars")?;
     Ok((SpecLine::Steps, at))
@@ -245,7 +221,7 @@ pub fn spec_line(
     pool: &mut Pool,
     s: Spot,
 ) -> Result<(SpecLine, usize), Halt>
-    requires given { MayRead tokens.now s }
+    requires given { MayBegin tokens.now s }
     ensures read { Told (λ x f. IsSpec pool.new x.0 f) (λ x. ahead tokens.now x.1) result (spec_in (bound s.left) s.edge (ahead tokens.now s.at)) }
     ensures kept { Keeps pool.old pool.new }
     ensures inside { IfOk result (λ x. x.1 ≤ length tokens.now.items.items) }
@@ -256,13 +232,8 @@ pub fn spec_line(
         return Ok((SpecLine::Start, at));
     }
     if let Some(from) = after_mark(tokens, s, Mark::Box) {
-        let left = deeper(tokens, s, 0)?.left;
-        let d = Spot {
-            at: from,
-            left,
-            ..s
-        };
-        return steps_from(tokens, d);
+        let d = deeper(tokens, s, 0)?;
+        return steps_from(tokens, Spot { at: from, ..d });
     }
     let (formula, at) = fair(alloc, tokens, pool, s)?;
     Ok((SpecLine::Fair(formula), at))

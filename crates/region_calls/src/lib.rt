@@ -5,5 +5,4 @@ pub mod bulleted;
 pub mod calls;
 pub mod fairness;
 pub mod order;
-pub mod parts;
 pub mod titles;

@@ -6,9 +6,8 @@ ghost use Rattle.tla_tree.specs.Pool.{Keeps};
 ghost use Rattle.expr_nodes.specs.Ahead.{ahead};
 ghost use Rattle.expr_nodes.specs.ReadIn.{Told};
 ghost use Rattle.module_write.specs.declared.«module».Fairness as code_fairness;
-ghost use Rattle.region_calls.specs.declared.fairness.SpecLine as code_line;
-ghost use Rattle.region_calls.specs.Bounded.{bound, MayRead};
-ghost use Rattle.region_calls.specs.Order.{in_order, IsSoFar, Goes, IsSpecUnit, spec_behind};
+ghost use Rattle.region_items.specs.Begins.{MayBegin, bound};
+ghost use Rattle.region_calls.specs.Order.{in_order, IsSpecUnit, spec_behind};
 
 use crate::bulleted::spec_lines;
 use crate::fairness::SpecLine;
@@ -19,41 +18,6 @@ use std::alloc::{AllocError, Global};
 use tla_pool::Pool;
 use tla_token::{Rule, Tokens};
 
-// Conjuncts so far: how many came that are no formulas, and the formulas.
-#[derive(Drop)]
-struct SoFar {
-    others: usize,
-    formulas: Vec<Fairness>,
-}
-
-// One more conjunct; whether it may stand there.
-#[tactic(auto, using(crate::proofs::OrderLaws::start_goes, crate::proofs::OrderLaws::steps_goes, crate::proofs::OrderLaws::fair_goes, crate::proofs::OrderLaws::start_not, crate::proofs::OrderLaws::steps_not, crate::proofs::OrderLaws::fair_not))]
-fn keep(all: &mut SoFar, line: SpecLine) -> Result<bool, AllocError>
-    ensures { IfOk result (λ b. (ls : List code_line.SpecLine) → IsSoFar all.old.others all.old.formulas.items ls → Goes b all.new.others all.new.formulas.items ls line) }
-{
-    match line {
-        SpecLine::Start => {
-            if all.others != 0 {
-                return Ok(false);
-            }
-            all.others = 1;
-        }
-        SpecLine::Steps => {
-            if all.others != 1 {
-                return Ok(false);
-            }
-            all.others = 2;
-        }
-        SpecLine::Fair(formula) => {
-            if all.others != 2 {
-                return Ok(false);
-            }
-            all.formulas.push(formula)?;
-        }
-    }
-    Ok(true)
-}
-
 /// The formulas of fairness of Spec, where its conjuncts are `Init`, `[][Next]_vars`, and such formulas.
 ///
 /// # Errors
@@ -63,21 +27,21 @@ pub fn formulas(alloc: Global, lines: Vec<SpecLine>) -> Result<Option<Vec<Fairne
     ensures some { IfOk result (λ r. IfSome r (λ v. lines.items ≡ in_order v.items)) }
     ensures none { IfOk result (λ r. IfNone r ((fs : List code_fairness.Fairness) → lines.items ≡ in_order fs → ⊥)) }
 {
-    let formulas = Vec::new(alloc);
-    let mut all = SoFar {
-        others: 0,
-        formulas,
-    };
+    let mut formulas = Vec::new(alloc);
+    // how many came that are no formulas
+    let mut others = 0usize;
     for line in lines {
-        let goes = keep(&mut all, line)?;
-        if !goes {
-            return Ok(None);
+        match line {
+            SpecLine::Start if others == 0 => others = 1,
+            SpecLine::Steps if others == 1 => others = 2,
+            SpecLine::Fair(formula) if others == 2 => formulas.push(formula)?,
+            _ => return Ok(None),
         }
     }
-    if all.others < 2 {
+    if others < 2 {
         return Ok(None);
     }
-    Ok(Some(all.formulas))
+    Ok(Some(formulas))
 }
 
 /// The formulas of fairness of Spec, behind `Spec ==`.
@@ -91,7 +55,7 @@ pub fn spec(
     pool: &mut Pool,
     s: Spot,
 ) -> Result<(Vec<Fairness>, usize), Halt>
-    requires given { MayRead tokens.now s }
+    requires given { MayBegin tokens.now s }
     ensures read { (p q : Place) → Told (λ x u. IsSpecUnit pool.new x.0.items u) (λ x. ahead tokens.now x.1) result (spec_behind (bound s.left) p q (ahead tokens.now s.at)) }
     ensures kept { Keeps pool.old pool.new }
     ensures inside { IfOk result (λ x. x.1 ≤ length tokens.now.items.items) }

@@ -11,7 +11,7 @@ use Rattle.expr_nodes.specs.Ahead.{ahead}
 use Rattle.expr_nodes.specs.ReadIn.{Told}
 use Rattle.region_reading.specs.NameReader.{bulleted_from}
 use Rattle.region_reading.specs.Bound.{a_phrase}
-use Rattle.region_calls.specs.Told.{IsPhrase}
+use Rattle.region_items.specs.Stand.{IsTree}
 use Rattle.region_calls.specs.Lists.{AreAll}
 use Rattle.region_calls.proofs.ReadBullets.{column_read, column_lost}
 use Rattle.region_calls.proofs.bulleted.conjuncts.Goals as goal
@@ -22,7 +22,7 @@ returns-clause-read c =
     let s = c.args.s in
     let at = c.in_ok-left.ensures in
     column_read s.left op.And (λ m col. bulleted_from op.And (a_phrase m) col)
-    (λ (o : Out (List (Place × Phrase))). Told (λ (x : Vec ℕ Global × ℕ) fs. AreAll (IsPhrase c.conjuncts_from.new.pool) x.0.items fs) (λ x. ahead v x.1) c.conjuncts_from.result o)
+    (λ (o : Out (List (Place × Phrase))). Told (λ (x : Vec ℕ Global × ℕ) fs. AreAll (IsTree c.conjuncts_from.new.pool) x.0.items fs) (λ x. ahead v x.1) c.conjuncts_from.result o)
     c.in_ok-left.left c.in_ok-left.col (ahead v s.at) at.there at.left at.column c.conjuncts_from.ensures.read
 
 pub returns-in_err-left-clause-read : goal.returns-in_err-left-clause-read

@@ -6,9 +6,9 @@ use Rattle.tla_tree.proofs.PoolNumbers.{Keeps-then}
 use Rattle.expr_nodes.specs.Ahead.{ahead}
 use Rattle.expr_rows.proofs.ReadGrown.{same_pool}
 use Rattle.region_reading.specs.Bound.{a_phrase}
-use Rattle.region_calls.specs.Bounded.{bound}
-use Rattle.region_calls.specs.Told.{IsPhrase}
-use Rattle.region_calls.proofs.Kept.{phrase_kept}
+use Rattle.region_items.specs.Begins.{bound}
+use Rattle.region_items.specs.Stand.{IsTree}
+use Rattle.region_items.proofs.ItemsStand.{tree_kept}
 use Rattle.region_calls.proofs.ReadBullets.{phrases_step, no_bullet, so_first, so_lost, so_end, so_more}
 use Rattle.region_calls.proofs.bulleted.conjuncts_from.Goals as goal
 
@@ -16,7 +16,7 @@ pub loop-list-init : goal.loop-list-init
 loop-list-init c =
     let s = c.args.s in
     record {
-      row = rw c.new-list.ensures.items (so_first IsPhrase op.And (a_phrase (bound s.left)) c.args.col (phrases_step s.left c.args.col) c.args.tokens.now s.at c.in_ok-at.at _ c.in_ok-at.ensures.value);
+      row = rw c.new-list.ensures.items (so_first IsTree op.And (a_phrase (bound s.left)) c.args.col (phrases_step s.left c.args.col) c.args.tokens.now s.at c.in_ok-at.at _ c.in_ok-at.ensures.value);
       kept = same_pool;
       inside = c.in_ok-at.ensures.inside;
       further = c.in_ok-at.ensures.further;
@@ -29,8 +29,8 @@ loop-list-preserved c =
     let one = c.in_ok-one.ensures in
     let from = c.in-Some in
     record {
-      row = rw c.in_ok-push.ensures.items (so_more IsPhrase op.And (a_phrase (bound s.left)) c.args.col (phrases_step s.left c.args.col) c.args.tokens.now s.at c.loop-list.at so.row
-          c.in_ok-one.next one.kept one.read (λ old us y a k h. phrase_kept k h) from.from from.ensures.there from.ensures.rest);
+      row = rw c.in_ok-push.ensures.items (so_more IsTree op.And (a_phrase (bound s.left)) c.args.col (phrases_step s.left c.args.col) c.args.tokens.now s.at c.loop-list.at so.row
+          c.in_ok-one.next one.kept one.read (λ old us y a k h. tree_kept k h) from.from from.ensures.there from.ensures.rest);
       kept = Keeps-then _ _ _ so.kept one.kept;
       inside = from.ensures.inside;
       further = omega (arith, so.further, one.further, from.ensures.further);
@@ -40,17 +40,17 @@ pub returns-in_err-at-clause-read : goal.returns-in_err-at-clause-read
 returns-in_err-at-clause-read c =
     let s = c.args.s in
     let p = err_from_is_err_and c.from_residual.result c.from_residual.ensures.1 in
-    rw (p.1, p.2) (no_bullet IsPhrase op.And (a_phrase (bound s.left)) c.args.col (phrases_step s.left c.args.col) _ (ahead c.args.tokens.now s.at) c.in_err-at.ensures.value)
+    rw (p.1, p.2) (no_bullet IsTree op.And (a_phrase (bound s.left)) c.args.col (phrases_step s.left c.args.col) _ (ahead c.args.tokens.now s.at) c.in_err-at.ensures.value)
 
 pub returns-in_err-one-clause-read : goal.returns-in_err-one-clause-read
 returns-in_err-one-clause-read c =
     let s = c.args.s in
     let p = err_from_is_err_and c.from_residual-in_err-one.result c.from_residual-in_err-one.ensures.1 in
-    rw (p.1, p.2) (so_lost IsPhrase op.And (a_phrase (bound s.left)) c.args.col (phrases_step s.left c.args.col) c.args.tokens.now s.at c.loop-list.at c.loop-list.invariant.row _ c.in_err-one.ensures.read)
+    rw (p.1, p.2) (so_lost IsTree op.And (a_phrase (bound s.left)) c.args.col (phrases_step s.left c.args.col) c.args.tokens.now s.at c.loop-list.at c.loop-list.invariant.row _ c.in_err-one.ensures.read)
 
 pub returns-in_default-clause-read : goal.returns-in_default-clause-read
 returns-in_default-clause-read c =
     let s = c.args.s in
     let one = c.in_ok-one.ensures in
-    rw c.in_ok-push.ensures.items (so_end IsPhrase op.And (a_phrase (bound s.left)) c.args.col (phrases_step s.left c.args.col) c.args.tokens.now s.at c.loop-list.at c.loop-list.invariant.row
+    rw c.in_ok-push.ensures.items (so_end IsTree op.And (a_phrase (bound s.left)) c.args.col (phrases_step s.left c.args.col) c.args.tokens.now s.at c.loop-list.at c.loop-list.invariant.row
     c.in_ok-one.next one.kept one.read c.in_default.ensures.none)

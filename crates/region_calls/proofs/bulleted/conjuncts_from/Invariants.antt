@@ -3,15 +3,15 @@ use Rattle.std.proofs.Common.{◌≤◌, ◌-◌, length}
 use Rattle.tla_tree.specs.declared.op.Op.TheVariants as op
 use Rattle.tla_tree.specs.Pool.{Keeps}
 use Rattle.region_reading.specs.Bound.{a_phrase}
-use Rattle.region_calls.specs.Bounded.{bound}
-use Rattle.region_calls.specs.Told.{IsPhrase}
+use Rattle.region_items.specs.Begins.{bound}
+use Rattle.region_items.specs.Stand.{IsTree}
 use Rattle.region_calls.proofs.ReadBullets.{SoFar}
 use Rattle.region_calls.proofs.bulleted.conjuncts_from.Given as goal
 
 abbrev pub invariant-loop-list : goal.invariant-loop-list
 invariant-loop-list l =
     record {
-      row : SoFar IsPhrase op.And (a_phrase (bound l.s.left)) l.col l.pool l.tokens l.s.at l.at l.list.items;
+      row : SoFar IsTree op.And (a_phrase (bound l.s.left)) l.col l.pool l.tokens l.s.at l.at l.list.items;
       kept : Keeps l.fn.pool l.pool;
       inside : l.at ≤ length l.tokens.items.items;
       further : l.s.at ≤ l.at;

@@ -6,7 +6,7 @@ use Rattle.tla_tree.proofs.PoolNumbers.{Keeps-then}
 use Rattle.expr_nodes.specs.Ahead.{ahead}
 use Rattle.expr_rows.proofs.ReadGrown.{same_pool}
 use Rattle.region_reading.specs.CallReader.{spec_in}
-use Rattle.region_calls.specs.Bounded.{bound}
+use Rattle.region_items.specs.Begins.{bound}
 use Rattle.region_calls.specs.Told.{IsSpec}
 use Rattle.region_calls.proofs.Kept.{spec_kept}
 use Rattle.region_calls.proofs.ReadBullets.{specs_step, no_bullet, so_first, so_lost, so_end, so_more}
@@ -30,7 +30,7 @@ loop-list-preserved c =
     let from = c.in-Some in
     record {
       row = rw c.in_ok-push.ensures.items (so_more IsSpec op.And (spec_in (bound s.left)) c.args.col (specs_step s.left c.args.col) c.args.tokens.now s.at c.loop-list.at so.row
-          c.in_ok-one.next one.kept one.read (λ old us y a k h. spec_kept y a k h) from.from from.ensures.there from.ensures.rest);
+          c.in_ok-one.next one.kept one.read (λ old us y a k h. spec_kept k y a h) from.from from.ensures.there from.ensures.rest);
       kept = Keeps-then _ _ _ so.kept one.kept;
       inside = from.ensures.inside;
       further = omega (arith, so.further, one.further, from.ensures.further);

@@ -3,7 +3,7 @@ use Rattle.std.proofs.Common.{◌≤◌, ◌-◌, length}
 use Rattle.tla_tree.specs.declared.op.Op.TheVariants as op
 use Rattle.tla_tree.specs.Pool.{Keeps}
 use Rattle.region_reading.specs.CallReader.{spec_in}
-use Rattle.region_calls.specs.Bounded.{bound}
+use Rattle.region_items.specs.Begins.{bound}
 use Rattle.region_calls.specs.Told.{IsSpec}
 use Rattle.region_calls.proofs.ReadBullets.{SoFar}
 use Rattle.region_calls.proofs.bulleted.spec_lines_from.Given as goal

@@ -6,7 +6,7 @@ use Rattle.tla_tree.proofs.PoolNumbers.{Keeps-then}
 use Rattle.expr_nodes.specs.Ahead.{ahead}
 use Rattle.expr_rows.proofs.ReadGrown.{same_pool}
 use Rattle.region_reading.specs.CallReader.{way_in}
-use Rattle.region_calls.specs.Bounded.{bound}
+use Rattle.region_items.specs.Begins.{bound}
 use Rattle.region_calls.specs.Told.{IsWay}
 use Rattle.region_calls.proofs.Kept.{way_kept}
 use Rattle.region_calls.proofs.ReadBullets.{ways_step, no_bullet, so_first, so_lost, so_end, so_more}

@@ -3,7 +3,7 @@ use Rattle.std.proofs.Common.{◌≤◌, ◌-◌, length}
 use Rattle.tla_tree.specs.declared.op.Op.TheVariants as op
 use Rattle.tla_tree.specs.Pool.{Keeps}
 use Rattle.region_reading.specs.CallReader.{way_in}
-use Rattle.region_calls.specs.Bounded.{bound}
+use Rattle.region_items.specs.Begins.{bound}
 use Rattle.region_calls.specs.Told.{IsWay}
 use Rattle.region_calls.proofs.ReadBullets.{SoFar}
 use Rattle.region_calls.proofs.bulleted.ways_from.Given as goal

@@ -1,7 +1,7 @@
 -- Proves what is asked of `way_from`.
 use Rattle.std.proofs.lemmas.Result.{err_from_is_err_and}
 use Rattle.expr_nodes.specs.Ahead.{ahead}
-use Rattle.region_calls.specs.Bounded.{bound}
+use Rattle.region_items.specs.Begins.{bound}
 use Rattle.region_calls.proofs.CallSteps.{way_lost}
 use Rattle.region_calls.proofs.calls.way_from.Goals as goal
 

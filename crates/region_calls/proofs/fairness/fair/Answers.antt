@@ -6,7 +6,7 @@ use Rattle.module_tree.specs.Units.{FairForm}
 use Rattle.module_write.specs.declared.«module».Fairness.{Fairness}
 use Rattle.expr_nodes.specs.Ahead.{ahead}
 use Rattle.expr_nodes.specs.ReadIn.{Told}
-use Rattle.region_calls.specs.Bounded.{bound}
+use Rattle.region_items.specs.Begins.{bound}
 use Rattle.region_calls.specs.Told.{IsFair}
 use Rattle.region_calls.proofs.FairSteps.{fair_read, fair_stopped}
 use Rattle.region_calls.proofs.fairness.fair.Goals as goal
