@@ -1,0 +1,2 @@
+pub mod UnitsAt
+pub mod Parts
