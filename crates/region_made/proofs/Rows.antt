@@ -1,6 +1,7 @@
 -- Actions, and definitions, that follow one another.
-use Rattle.std.proofs.Common.{◌≡◌, ℕ, ◌<◌, List, [], ◌∷◌, ◌++◌, map, Option, Some, None, refl, sym, ap, ◌∙◌, subst, append_assoc, append-nil}
+use Rattle.std.proofs.Common.{◌≡◌, ℕ, ◌<◌, List, [], ◌∷◌, ◌++◌, Option, Some, None, refl, sym, ap, ◌∙◌, subst, append_assoc, append-nil}
 use Rattle.std.specs.Prelude.{option_map}
+use Rattle.std.proofs.lemmas.List.{map_push}
 use Rattle.std.specs.Vec.Iter.{into_iter_items}
 use Rattle.tla_value.specs.declared.names.Definition.{Definition}
 use Rattle.tla_value.specs.Definitions as value
@@ -16,10 +17,6 @@ use Rattle.region_made.specs.UnitsAt.{units_at}
 use Rattle.region_made.specs.Parts.{ahead, with_actions, with_definitions, Parts}
 use Rattle.region_made.proofs.UnitsTaken.{Units, no_action_there, no_definition_there}
 
-map_more : {A B : Type 0} (f : A → B) (xs : List A) (x : A) → map f (xs ++ x ∷ []) ≡ map f xs ++ f x ∷ []
-map_more f [] x = refl
-map_more f (y ∷ xs) x = λ i. f y ∷ map_more f xs x i
-
 -- ---- actions
 
 abbrev actions_first : List tree.Action → Region → Region
@@ -28,13 +25,6 @@ actions_first acts r = record r { actions = acts ++ r.actions }
 -- these are the first actions
 abbrev pub ActionsSoFar : List Action → List Kept → List Kept → Type 0
 ActionsSoFar acts us rest = Parts from_actions from_actions (λ ts. actions_first (actions_at ts acts)) (λ m. ActionsIn m acts) us rest
-
-pub no_actions : (us : List Kept) → ActionsSoFar [] us us
-no_actions us = record { region = λ ts. same (from_actions (units_at ts us)); within = λ m w. (tt, w) }
-  where
-    same : (o : Option Region) → o ≡ option_map (actions_first []) o
-    same None = refl
-    same (Some r) = refl
 
 actions_more : (xs : List tree.Action) (x : tree.Action) (o : Option Region) → option_map (actions_first xs) (option_map (one_action_more x) o) ≡ option_map (actions_first (xs ++ x ∷ [])) o
 actions_more xs x None = refl
@@ -52,7 +42,7 @@ action_more acts new a us vs rest next n e i g = subst (λ (bs : List Action). A
 
     more : ActionsSoFar (acts ++ a ∷ []) us (into_iter_items vs)
     more = record {
-      region = λ ts. h.region ts ∙ actions_more (actions_at ts acts) (action_at ts a) (from_actions (units_at ts (into_iter_items vs))) ∙ ap (λ (xs : List tree.Action). option_map (actions_first xs) (from_actions (units_at ts (into_iter_items vs)))) (sym (map_more (action_at ts) acts a));
+      region = λ ts. h.region ts ∙ actions_more (actions_at ts acts) (action_at ts a) (from_actions (units_at ts (into_iter_items vs))) ∙ ap (λ (xs : List tree.Action). option_map (actions_first xs) (from_actions (units_at ts (into_iter_items vs)))) (sym (map_push (action_at ts) acts a));
       within = λ m w. (actions_in m acts a (h.within m w).0 (h.within m w).1.0, (h.within m w).1.1);
     }
 
@@ -76,13 +66,6 @@ definitions_first ds r = record r { definitions = ds ++ r.definitions }
 abbrev pub DefinitionsSoFar : List Definition → List Kept → List Kept → Type 0
 DefinitionsSoFar ds us rest = Parts from_definitions from_definitions (λ ts. definitions_first (definitions_at ts ds)) (λ m. DefinitionsIn m ds) us rest
 
-pub no_definitions : (us : List Kept) → DefinitionsSoFar [] us us
-no_definitions us = record { region = λ ts. same (from_definitions (units_at ts us)); within = λ m w. (tt, w) }
-  where
-    same : (o : Option Region) → o ≡ option_map (definitions_first []) o
-    same None = refl
-    same (Some r) = refl
-
 definitions_more : (xs : List value.Definition) (x : value.Definition) (o : Option Region) → option_map (definitions_first xs) (option_map (one_definition_more x) o) ≡ option_map (definitions_first (xs ++ x ∷ [])) o
 definitions_more xs x None = refl
 definitions_more xs x (Some r) = λ i. Some (record r { definitions = sym (append_assoc xs (x ∷ []) r.definitions) i })
@@ -100,7 +83,7 @@ definition_more ds new d us vs rest next n e i g = subst (λ (bs : List Definiti
     more : DefinitionsSoFar (ds ++ d ∷ []) us (into_iter_items vs)
     more = record {
       region = λ ts. h.region ts ∙ definitions_more (definitions_at ts ds) (definition_at ts d) (from_definitions (units_at ts (into_iter_items vs)))
-          ∙ ap (λ (xs : List value.Definition). option_map (definitions_first xs) (from_definitions (units_at ts (into_iter_items vs)))) (sym (map_more (definition_at ts) ds d));
+          ∙ ap (λ (xs : List value.Definition). option_map (definitions_first xs) (from_definitions (units_at ts (into_iter_items vs)))) (sym (map_push (definition_at ts) ds d));
       within = λ m w. (definitions_in m ds d (h.within m w).0 (h.within m w).1.0, (h.within m w).1.1);
     }
 

@@ -1,9 +1,8 @@
 -- What the first of some units is of a translation, and that other units are no action and no definition.
 use Rattle.std.proofs.Common.{◌≡◌, ℕ, List, [], ◌∷◌, Global, Option, Some, None, is_some, false, true≢false, refl, sym, ap, ◌∙◌, subst}
 use Rattle.std.specs.Prelude.{option_map}
-use Rattle.std.specs.Vec.Iter.{into_iter_items, into_iter_steps}
+use Rattle.std.specs.Vec.Iter.{into_iter_items}
 use Rattle.std.specs.declared.vec.IntoIter.{IntoIter}
-use Rattle.std.proofs.lemmas.List.{nil_from_length}
 use Rattle.tla_tree.specs.Tree.{Tree}
 use Rattle.tla_value.specs.declared.names.Definition.{Definition}
 use Rattle.module_tree.specs.Module.{Region, RegionUnit}
@@ -16,11 +15,6 @@ use Rattle.region_made.specs.Parts.{ahead, Parts}
 
 abbrev pub Units : Type 0
 Units = IntoIter Kept Global
-
--- what the code's iterator gives is the first one
-pub taken : (s t : Units) (r : Option Kept) → into_iter_steps s r t → into_iter_items s ≡ ahead r t
-taken s t (Some u) h = h.0
-taken s t None h = nil_from_length (into_iter_items s) (sym s.rest.ok.0 ∙ h.0)
 
 pub none_ahead : (us : Units) (o : Option Kept) → is_some o ≡ false → ahead o us ≡ []
 none_ahead us None h = refl
