@@ -4,6 +4,7 @@ use crate::algorithms::put_algorithm;
 use crate::expressions::{Told, put_expression, put_unquoted};
 use crate::made::put_made;
 use crate::modules::{put_parts, put_translated};
+use crate::reads::put_module_read;
 use crate::scanning::{put_pieces, put_places, put_tokens, put_views};
 use crate::wording::put_command;
 use std::alloc::{AllocError, Global};
@@ -34,6 +35,7 @@ pub fn put_answer(
         "algorithm" => put_algorithm(alloc, told, text, rest == "c"),
         "words" => put_command(alloc, told, text),
         "parts" => put_parts(alloc, told, text),
+        "module" => put_module_read(alloc, told, text),
         "translated" => put_translated(alloc, told, text, rest),
         "made" => put_made(alloc, told, rest),
         _ => told.extend_from_slice(b"there is no such kind"),

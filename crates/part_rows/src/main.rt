@@ -9,6 +9,7 @@ mod kinds;
 mod made;
 mod modules;
 mod pools;
+mod reads;
 mod regions;
 mod scanning;
 mod values;

@@ -1,0 +1,2 @@
+pub mod InModule
+pub mod Translated

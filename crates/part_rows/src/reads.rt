@@ -1,0 +1,49 @@
+//! Modules, read back from their texts.
+
+ghost use Rattle.std.specs.Prelude.{◌<◌, ◌^◌, length};
+
+use crate::scanning::{put_stop, put_text};
+use module_text::{Outside, read_module, write_region};
+use std::alloc::{AllocError, Global};
+use tla_pool::Pool;
+use tla_tree::{Name, Text};
+
+fn put_name(told: &mut Vec<u8>, name: &Name) -> Result<(), AllocError> {
+    told.push(b' ')?;
+    told.extend_from_slice(name.bytes())
+}
+
+// Appends the names of what is outside, and how many units are passed on.
+fn put_outside(alloc: Global, told: &mut Vec<u8>, outside: &Outside) -> Result<(), AllocError> {
+    told.extend_from_slice(b" extends")?;
+    for name in outside.extended.as_slice() {
+        put_name(told, name)?;
+    }
+    told.extend_from_slice(b", constants")?;
+    for constant in &outside.constants {
+        put_name(told, &constant.name)?;
+    }
+    told.extend_from_slice(b", defines")?;
+    for definition in outside.definitions.as_slice() {
+        put_name(told, &definition.name)?;
+    }
+    let passed = outside.opaque.len();
+    put_text(told, format!(in alloc; ", passes on {passed}\n")?)
+}
+
+/// Appends the module that a file is: its name, what is outside its translation, and this translation as it is written.
+pub fn put_module_read(alloc: Global, told: &mut Vec<u8>, text: &[u8]) -> Result<(), AllocError>
+    requires { length text.now < 2 ^ 29 }
+{
+    let mut pool = Pool::new(alloc);
+    match read_module(alloc, text, &mut pool) {
+        Ok(module) => {
+            told.extend_from_slice(module.title.bytes())?;
+            put_outside(alloc, told, &module.outside)?;
+            let mut written = Text::new(Vec::new(alloc));
+            write_region(alloc, &pool, &module.region, &mut written)?;
+            told.extend_from_slice(written.bytes())
+        }
+        Err(stop) => put_stop(alloc, told, stop),
+    }
+}

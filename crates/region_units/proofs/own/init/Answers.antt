@@ -1,0 +1,12 @@
+-- Proves what is asked of `init`.
+use Rattle.std.proofs.Common.{refl}
+use Rattle.expr_rows.proofs.ReadLemmas.{told_on, told_then}
+use Rattle.module_tree.specs.Units.{init_form}
+use Rattle.region_units.proofs.UnitsStand.{init_stands}
+use Rattle.region_units.proofs.own.init.Goals as goal
+
+pub returns-clause-read : goal.returns-clause-read
+returns-clause-read c = λ p.
+    let q = c.in_ok-at.field-0-0 in
+    let list = c.in_ok-list in
+    told_on _ _ _ c.in_ok-at.ensures.value (told_then _ _ list.ensures.read (λ fs h. record { what = init_form p q fs; is = refl; told = init_stands list.list p q fs h }))

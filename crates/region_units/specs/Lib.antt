@@ -1,0 +1,3 @@
+pub mod Stands
+pub mod Brackets
+pub mod NoUnit
