@@ -3,7 +3,7 @@ mod PlacesLaws
 mod NumberedLaws
 mod RoutineLaws
 pub mod LabelLaws
-mod Made
+mod MadeOnto
 mod LeftSides
 mod Members
 mod EachKind

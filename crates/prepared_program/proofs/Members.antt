@@ -12,7 +12,7 @@ use Rattle.pcal_tree.specs.InMemory.{assignments_at, bind_at, binds_at, stmt_at,
 use Rattle.pcal_tree.specs.Expand.{graft_assignments, graft_binds, graft_all, graft_some}
 use Rattle.pcal_tree.proofs.InMemoryGrown.{start_at-kept, stmt_at-kept, statements_at-kept}
 use Rattle.prepared_program.specs.Prepared.{graft_declarations}
-use Rattle.prepared_program.proofs.Made.{onto, Grows, Made}
+use Rattle.prepared_program.proofs.MadeOnto.{onto, Grows, Made}
 
 -- ---- what is made of what follows
 

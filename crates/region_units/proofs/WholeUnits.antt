@@ -1,11 +1,11 @@
--- The unit that tokens are, by what was read behind the first of them.
-use Rattle.std.proofs.Common.{◌≡◌, ℕ, zero, suc, ◌<◌, false, drop, List, [], ◌∷◌, length, Option, Some, None, Ok, Err, inl, inr, refl, sym, ap, ◌∙◌, subst, arith}
+-- That tokens are no unit, by what was read behind the first of them.
+use Rattle.std.proofs.Common.{◌≡◌, ℕ, zero, suc, ◌<◌, false, drop, List, [], ◌∷◌, length, Option, None, Ok, Err, inl, inr, refl, sym, ap, ◌∙◌, subst, arith}
+use Rattle.std.specs.Option.{option_map}
 use Rattle.tla_token.specs.declared.place.Place.{Place}
 use Rattle.tla_token.specs.declared.rule.Rule.{Rule}
-use Rattle.tla_token.specs.declared.rule.Rule.TheVariants.{TooDeep, Syntax}
+use Rattle.tla_token.specs.declared.rule.Rule.TheVariants.{Syntax}
 use Rattle.tla_token.specs.declared.token.Token as code_token
 use Rattle.tla_token.specs.declared.token.Tokens.{Tokens}
-use Rattle.tla_tree.specs.Tree.{Tree}
 use Rattle.tla_tree.specs.Lexical.{TokenView, Token, token}
 use Rattle.tla_tree.specs.Nesting.{nesting_in}
 use Rattle.tla_tree.specs.Reader.{Out}
@@ -19,14 +19,10 @@ use Rattle.module_tree.specs.Units.{UnitForm, unit_of}
 use Rattle.region_reading.specs.Bound.{unbounded, OnlyRefuses}
 use Rattle.region_reading.specs.Opens.{unit_opens}
 use Rattle.region_reading.specs.NameReader.{whole}
-use Rattle.region_reading.specs.UnitReader.{unit_by, unit_within, unit_in}
+use Rattle.region_reading.specs.UnitReader.{unit_by, unit_in}
 use Rattle.region_reading.proofs.BoundIsRead.{bound_is_read}
 use Rattle.region_reading.proofs.BoundedUnits.{unit_refuses}
-use Rattle.std.specs.Option.{option_map}
 use Rattle.region_items.specs.Begins.{bound}
-use Rattle.region_made.specs.declared.unit.Unit.{Unit as Kept}
-use Rattle.region_made.specs.UnitsAt.{unit_at}
-use Rattle.region_units.specs.Stands.{IsUnitOf}
 use Rattle.region_units.specs.NoUnit.{NoUnit}
 
 abbrev means : Out UnitForm → Option RegionUnit
@@ -58,11 +54,6 @@ module _ (l : ℕ) (p : Place) (k : TokenView) (ts : List Token) where
   fails_by (halt.Refused r n) (Err (q, us)) i h = subst (λ (r : Rule). NoUnit l (token p k ∷ ts) (halt.Refused r n)) h.0 (refused_by q us n i)
 
   module _ (all : List Token) (here : all ≡ token p k ∷ ts) where
-    pub unit_is : {pool : List Tree} {u : Kept} (us : List Token) → us ≡ [] → Reads (IsUnitOf pool u) us (unit_by (bound l) p k ts) → unit_within (bound l) all ≡ Some (unit_at pool u)
-    unit_is us e r =
-        ap (unit_within (bound l)) here ∙ ap means (r.is ∙ ap (λ (us : List Token). Ok (r.what, us)) e)
-        ∙ ap (λ (u : RegionUnit). Some u) (sym r.told.means)
-
     pub more_is_none : {P : UnitForm → Type 0} (us : List Token) (w : Halt) → w ≡ halt.Refused Syntax (length us) → 0 < length us → Reads P us (unit_by (bound l) p k ts) → NoUnit l all w
     more_is_none us w e m r =
         subst (NoUnit l all) (sym e) (ap unit_in here ∙ not_all (unit_by unbounded p k ts) r.what us m (only.same r.what us r.is).0)

@@ -12,6 +12,7 @@ ghost use Rattle.region_reading.specs.UnitReader.{body_in, action_from, definiti
 ghost use Rattle.region_items.specs.Begins.{MayBegin, bound};
 ghost use Rattle.region_units.specs.Stands.{IsUnitOf, IsBody, parameter_names, at_most_one as at_most_one_of};
 
+use crate::words::EDGE;
 use expr_nodes::cursor::{Halt, Word, is_mark, is_sign};
 use expr_nodes::make::name_of;
 use expr_nodes::spot::{Spot, next_at, past_mark, refused};
@@ -29,9 +30,6 @@ use tla_pool::Pool;
 use tla_token::{Place, Rule, Tokens};
 use tla_tree::{Name, NameList, Op};
 use tla_value::names::Definition;
-
-// Right of column 1.
-const EDGE: u32 = 1;
 
 // `x, y)` behind `(`.
 fn named(alloc: Global, tokens: &Tokens, s: Spot) -> Result<(Option<NameList>, usize), Halt>

@@ -13,7 +13,7 @@ ghost use Rattle.region_items.specs.Stand.{IsTree};
 ghost use Rattle.region_units.specs.Stands.{IsUnitOf};
 ghost use Rattle.region_units.specs.Brackets.{BracketForm, closed_in, bracketed_in, behind_bullet};
 
-use crate::words::{is_word, past_opening_keyword};
+use crate::words::{EDGE, is_word, past_opening_keyword};
 use expr_nodes::cursor::Halt;
 use expr_nodes::spot::{Spot, past_mark, past_sign, refused};
 use expr_nodes::view::Mark;
@@ -29,9 +29,6 @@ use std::alloc::Global;
 use tla_pool::Pool;
 use tla_token::{Place, Rule, Span, Tokens};
 use tla_tree::{NodeId, Op};
-
-// Right of column 1.
-const EDGE: u32 = 1;
 
 // `== <<x, y>>` behind `vars`.
 fn vars(alloc: Global, tokens: &Tokens, s: Spot) -> Result<(Unit, usize), Halt>

@@ -19,7 +19,7 @@ ghost use Rattle.region_units.specs.NoUnit.{NoUnit};
 
 use crate::defined::defined;
 use crate::own::own;
-use crate::words::is_word;
+use crate::words::{EDGE, is_word};
 use expr_nodes::cursor::{Halt, Next, Word};
 use expr_nodes::spot::{Spot, refused};
 use expr_nodes::view::View;
@@ -30,9 +30,6 @@ use std::alloc::Global;
 use tla_pool::Pool;
 use tla_token::own::is_own;
 use tla_token::{Rule, Span, Tokens};
-
-// Right of column 1.
-const EDGE: u32 = 1;
 
 // The names that are declared behind this word.
 fn declared(alloc: Global, tokens: &Tokens, s: Spot, word: Span) -> Result<(Unit, usize), Halt>

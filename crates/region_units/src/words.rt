@@ -13,6 +13,9 @@ use expr_nodes::spot::{Spot, deeper};
 use region_calls::titles::past_keyword;
 use tla_token::{Place, Span, Tokens};
 
+/// The column of first tokens: all others of a unit are right of it.
+pub const EDGE: u32 = 1;
+
 /// Whether a word is this one.
 pub fn is_word(tokens: &Tokens, word: Span, other: &[u8]) -> bool
     ensures { result ≡ bytes_eq (span_bytes tokens.now.bytes.items word) other.now }

@@ -3,7 +3,7 @@ use Rattle.std.proofs.Common.{◌∷◌, ap, ◌∙◌, arith}
 use Rattle.tla_tree.proofs.PoolNumbers.{Keeps-then, past_at}
 use Rattle.pcal_tree.specs.InMemory.{past_declaration}
 use Rattle.prepared_program.specs.Prepared.{names_put, own_put, graft_declaration}
-use Rattle.prepared_program.proofs.Made.{made_more, made_all}
+use Rattle.prepared_program.proofs.MadeOnto.{made_more, made_all}
 use Rattle.prepared_program.proofs.Members.{declaration_before, declarations_twice, declaration_grown, declarations_grow, declarations_made}
 use Rattle.prepared_program.proofs.declarations.prepared_declarations.Goals as goal
 

@@ -8,7 +8,7 @@ use Rattle.pcal_tree.specs.Algorithm.{assignment}
 use Rattle.pcal_tree.specs.Expand.{graft_left}
 use Rattle.pcal_tree.specs.InMemory.{past_assignment}
 use Rattle.prepared_program.specs.Prepared.{names_put, own_put}
-use Rattle.prepared_program.proofs.Made.{made_more, made_all}
+use Rattle.prepared_program.proofs.MadeOnto.{made_more, made_all}
 use Rattle.prepared_program.proofs.Members.{assignment_before, assignments_twice, assignments_grow, assignments_made}
 use Rattle.prepared_program.proofs.grafts.assignments.Goals as goal
 

@@ -3,7 +3,7 @@ use Rattle.std.proofs.Common.{◌∙◌, arith}
 use Rattle.tla_tree.proofs.PoolNumbers.{Keeps-then, past_at}
 use Rattle.pcal_tree.specs.InMemory.{bind_at, past_bind}
 use Rattle.prepared_program.specs.Prepared.{names_put, own_put}
-use Rattle.prepared_program.proofs.Made.{made_more, made_all}
+use Rattle.prepared_program.proofs.MadeOnto.{made_more, made_all}
 use Rattle.prepared_program.proofs.Members.{binds_twice, binds_grow, binds_made}
 use Rattle.prepared_program.proofs.grafts.binds.Goals as goal
 

@@ -5,7 +5,7 @@ use Rattle.tla_tree.specs.Tree.{tree, graft}
 use Rattle.tla_tree.proofs.PoolNumbers.{Keeps-then, past_at}
 use Rattle.pcal_tree.specs.InMemory.{past_number}
 use Rattle.prepared_program.specs.Prepared.{names_put, own_put}
-use Rattle.prepared_program.proofs.Made.{made_more, made_all}
+use Rattle.prepared_program.proofs.MadeOnto.{made_more, made_all}
 use Rattle.prepared_program.proofs.Members.{number_before, numbers_twice, numbers_grow, numbers_made}
 use Rattle.prepared_program.proofs.grafts.expressions.Goals as goal
 

@@ -3,7 +3,7 @@ use Rattle.std.proofs.Common.{take}
 use Rattle.tla_tree.specs.Pool.{Keeps}
 use Rattle.pcal_tree.specs.InMemory.{past_number}
 use Rattle.prepared_program.specs.Prepared.{names_put, own_put}
-use Rattle.prepared_program.proofs.Made.{Made}
+use Rattle.prepared_program.proofs.MadeOnto.{Made}
 use Rattle.prepared_program.proofs.Members.{number_before, numbers_twice}
 use Rattle.prepared_program.proofs.grafts.expressions.Given as goal
 

@@ -10,7 +10,7 @@ use Rattle.pcal_tree.proofs.InMemoryEach.{past_if, past_either, past_with, past_
 use Rattle.pcal_tree.proofs.InMemoryGrown.{binds_at-kept}
 use Rattle.pcal_tree.proofs.StatementHeights.{height, heights, branch_heights, either_height}
 use Rattle.prepared_program.specs.Prepared.{names_put, own_put}
-use Rattle.prepared_program.proofs.Made.{made_more, made_all}
+use Rattle.prepared_program.proofs.MadeOnto.{made_more, made_all}
 use Rattle.prepared_program.proofs.Members.{all_twice, some_twice, past_branch, branch_before, stmts_grow, branches_grow, stmts_made, branches_made}
 use Rattle.prepared_program.proofs.EachKind.{if_made, either_made, with_made, while_made, made_is, keeps_all, stmts_from}
 use Rattle.prepared_program.proofs.statements.+statements.Goals as goal

@@ -4,7 +4,7 @@ use Rattle.tla_tree.specs.Pool.{Keeps}
 use Rattle.pcal_tree.specs.InMemory.{stmt_at, past_stmt}
 use Rattle.pcal_tree.proofs.StatementHeights.{height, heights, branch_heights}
 use Rattle.prepared_program.specs.Prepared.{names_put, own_put}
-use Rattle.prepared_program.proofs.Made.{Made}
+use Rattle.prepared_program.proofs.MadeOnto.{Made}
 use Rattle.prepared_program.proofs.Members.{all_twice, some_twice, past_branch, branch_before}
 use Rattle.prepared_program.proofs.statements.+statements.Given as goal
 
