@@ -1,4 +1,4 @@
-//! Steps of accepted algorithms by their choices, with the written names.
+//! Steps and starts of accepted algorithms by their choices, and that starts end in initial states.
 #![tactic(auto)]
 
 pub mod laws;

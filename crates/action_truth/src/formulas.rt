@@ -15,7 +15,7 @@ ghost use Rattle.action_truth.specs.Pairs.{env_at, item_in, Binds, Stands};
 use crate::asked::Asked;
 use eval_scopes::context::Context;
 use std::alloc::{AllocError, Global};
-use step_program::Sight;
+use step_moves::Sight;
 use tla_eval::eval::eval_bound;
 use tla_tree::{Name, NodeId};
 use tla_value::fault::FaultKind;

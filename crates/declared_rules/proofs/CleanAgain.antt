@@ -12,8 +12,8 @@ use Rattle.pcal_tree.specs.OffencesModules.{statement_needs, procedure_needs}
 use Rattle.pcal_tree.specs.OffencesNames.{repeated, names_of, repeated_in_main}
 use Rattle.pcal_tree.specs.OffencesReserved.{names_of_definition, names_of_macro, names_of_procedure, names_of_process, names_of_main, declared_names}
 use Rattle.pcal_tree.specs.Reads.{initial}
-use Rattle.outside_sight.specs.declared.modules.Modules.{Modules}
-use Rattle.outside_sight.specs.ModulesIn.{AreModules}
+use Rattle.module_outside.specs.declared.modules.Modules.{Modules}
+use Rattle.module_outside.specs.ModulesIn.{AreModules}
 use Rattle.declared_rules.proofs.EachLaws.{every_split, every_map, every_pair, mapped, flattened, none_each}
 use Rattle.declared_rules.proofs.CleanBodies.{CleanList, CleanText, CleanStatement, CleanLabel, stacks_same}
 use Rattle.declared_rules.proofs.CleanParts.{CleanDeclared, CleanGlobal, CleanDefinition, CleanMacro, CleanProcedure, CleanProcess, CleanMain, CleanAlgorithm}

@@ -20,9 +20,9 @@ use Rattle.pcal_tree.specs.OffencesModules.{sign_offences, strings_offences, tex
 use Rattle.pcal_tree.specs.OffencesReserved.{reserved_label}
 use Rattle.pcal_tree.proofs.SetLaws.{or_mixed, neither}
 use Rattle.pcal_tree.proofs.OneStand.{every_both}
-use Rattle.outside_sight.specs.declared.modules.Modules.{Modules}
-use Rattle.outside_sight.specs.ModulesIn.{AreModules}
-use Rattle.outside_sight.proofs.ModuleLaws.{operators_given}
+use Rattle.module_outside.specs.declared.modules.Modules.{Modules}
+use Rattle.module_outside.specs.ModulesIn.{AreModules}
+use Rattle.module_outside.proofs.ModuleLaws.{operators_given}
 use Rattle.declared_rules.specs.Parts.{Part, expression, in_trees, in_assignments, in_binds, in_one, in_body, in_branches}
 use Rattle.declared_rules.specs.Finding.{list_offences, sign_in, node_offences, tree_offences, trees_offences, part_offences}
 use Rattle.declared_rules.proofs.EachLaws.{every_split, none_each, each_none}

@@ -11,9 +11,9 @@ use Rattle.pcal_tree.specs.Offences.{offence_if}
 use Rattle.pcal_tree.specs.OffencesNames.{repeated}
 use Rattle.pcal_tree.specs.OffencesReserved.{reserved_name}
 use Rattle.pcal_tree.proofs.SetLaws.{none_of_both, none_together}
-use Rattle.outside_sight.specs.declared.modules.Modules.{Modules}
-use Rattle.outside_sight.specs.ModulesIn.{AreModules}
-use Rattle.outside_sight.proofs.ModuleLaws.{standard_given}
+use Rattle.module_outside.specs.declared.modules.Modules.{Modules}
+use Rattle.module_outside.specs.ModulesIn.{AreModules}
+use Rattle.module_outside.proofs.ModuleLaws.{standard_given}
 use Rattle.declared_rules.specs.Finding.{reserved_in, seen_offences, seen_after}
 
 -- ---- names that were seen

@@ -22,8 +22,8 @@ use Rattle.pcal_tree.specs.Offences.{offence_if}
 use Rattle.pcal_tree.specs.OffencesNames.{names_of}
 use Rattle.pcal_tree.specs.Reads.{initial}
 use Rattle.pcal_tree.proofs.OneStand.{every_both}
-use Rattle.outside_sight.specs.declared.modules.Modules.{Modules}
-use Rattle.outside_sight.specs.ModulesIn.{AreModules}
+use Rattle.module_outside.specs.declared.modules.Modules.{Modules}
+use Rattle.module_outside.specs.ModulesIn.{AreModules}
 use Rattle.declared_rules.specs.Parts.{Part, declaration_names, body_parts, start_parts, declaration_parts, global_parts, definition_parts, macro_parts, procedure_parts, process_parts, main_parts, parts_of_algorithm}
 use Rattle.declared_rules.specs.Finding.{reserved_in}
 use Rattle.declared_rules.proofs.EachLaws.{every_split}

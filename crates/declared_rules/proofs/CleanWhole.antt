@@ -13,8 +13,8 @@ use Rattle.pcal_tree.specs.OffencesNames.{repeated, names_of, repeated_in_main}
 use Rattle.pcal_tree.specs.OffencesReserved.{names_of_definition, names_of_macro, names_of_procedure, names_of_process, names_of_main, declared_names}
 use Rattle.pcal_tree.specs.Reads.{initial}
 use Rattle.pcal_tree.proofs.OneStand.{every_both}
-use Rattle.outside_sight.specs.declared.modules.Modules.{Modules}
-use Rattle.outside_sight.specs.ModulesIn.{AreModules}
+use Rattle.module_outside.specs.declared.modules.Modules.{Modules}
+use Rattle.module_outside.specs.ModulesIn.{AreModules}
 use Rattle.declared_rules.proofs.EachLaws.{every_map, unmapped, unflattened, each_none}
 use Rattle.declared_rules.proofs.CleanBodies.{CleanList, CleanText, CleanStatement, CleanLabel, stacks_same}
 use Rattle.declared_rules.proofs.CleanParts.{CleanDeclared, CleanStart, CleanGlobal, CleanDefinition, CleanMacro, CleanProcedure, CleanProcess, CleanMain, CleanAlgorithm}

@@ -7,7 +7,7 @@ use Rattle.pcal_tree.specs.declared.algorithm.Algorithm.{Algorithm}
 use Rattle.pcal_tree.specs.Offences.{first}
 use Rattle.pcal_tree.specs.Outside.{unit_names}
 use Rattle.algorithm_answer.specs.Joined.{joined}
-use Rattle.outside_sight.specs.declared.modules.Modules.{Modules}
+use Rattle.module_outside.specs.declared.modules.Modules.{Modules}
 use Rattle.declared_rules.specs.declared.found.Found.{Found}
 use Rattle.declared_rules.specs.Parts.{parts_of_algorithm}
 use Rattle.declared_rules.specs.Finding.{parts_offences, finding, Joins, Adds}

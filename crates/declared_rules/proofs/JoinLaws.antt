@@ -13,7 +13,7 @@ use Rattle.pcal_tree.proofs.SetLaws.{Same}
 use Rattle.pcal_tree.proofs.FirstLaws.{same_first}
 use Rattle.algorithm_answer.specs.Joined.{joined}
 use Rattle.algorithm_answer.proofs.Joins.{joined_assoc, joined_none, joined_swapped, first_append}
-use Rattle.outside_sight.specs.declared.modules.Modules.{Modules}
+use Rattle.module_outside.specs.declared.modules.Modules.{Modules}
 use Rattle.declared_rules.specs.declared.found.Found.{Found}
 use Rattle.declared_rules.specs.Parts.{Part, expr_parts}
 use Rattle.declared_rules.specs.Finding.{tree_offences, part_offences, parts_offences, marked, finding, Joins, Adds}

@@ -14,9 +14,9 @@ use Rattle.pcal_tree.specs.BoundNames.{all_of}
 use Rattle.pcal_tree.specs.Offences.{offence_if}
 use Rattle.tla_pool.specs.FormOf.{groups_of}
 use Rattle.algorithm_limits.specs.DepthsIn.{Hides}
-use Rattle.outside_sight.specs.declared.modules.Modules.{Modules}
-use Rattle.outside_sight.specs.SightIn.{Binds}
-use Rattle.outside_sight.proofs.SightLaws.{binds_more, none_bound}
+use Rattle.module_outside.specs.declared.modules.Modules.{Modules}
+use Rattle.module_outside.specs.SightIn.{Binds}
+use Rattle.module_outside.proofs.SightLaws.{binds_more, none_bound}
 use Rattle.declared_rules.specs.declared.found.Found.{Found}
 use Rattle.declared_rules.specs.Parts.{bound, declares}
 use Rattle.declared_rules.specs.Finding.{reserved_in, seen_offences, seen_after, Joins, Adds, AddsNames}

@@ -23,8 +23,8 @@ use Rattle.pcal_tree.specs.Outside.{unit_names}
 use Rattle.pcal_tree.proofs.SetLaws.{none_of_both, none_together}
 use Rattle.pcal_tree.proofs.FirstLaws.{same_first}
 use Rattle.pcal_tree.proofs.OneStand.{every_both}
-use Rattle.outside_sight.specs.declared.modules.Modules.{Modules}
-use Rattle.outside_sight.specs.ModulesIn.{AreModules}
+use Rattle.module_outside.specs.declared.modules.Modules.{Modules}
+use Rattle.module_outside.specs.ModulesIn.{AreModules}
 use Rattle.declared_rules.specs.Parts.{parts_of_algorithm}
 use Rattle.declared_rules.specs.Finding.{reserved_in, seen_offences, seen_after, part_offences, parts_offences}
 use Rattle.declared_rules.specs.Titles.{kept_titles, other_titles, main_names, pure_title, passed_offences, unit_offences, outside_offences, title_offences}

@@ -14,7 +14,7 @@ use Rattle.pcal_tree.specs.OffencesModules.{strings_offences}
 use Rattle.pcal_tree.specs.BoundNames.{all_of, lists_of}
 use Rattle.algorithm_answer.specs.Joined.{joined}
 use Rattle.algorithm_answer.proofs.Joins.{joined_assoc, joined_none, first_append}
-use Rattle.outside_sight.specs.declared.modules.Modules.{Modules}
+use Rattle.module_outside.specs.declared.modules.Modules.{Modules}
 use Rattle.declared_rules.specs.declared.found.Found.{Found}
 use Rattle.declared_rules.specs.Parts.{bound, expression, in_trees, expr_parts}
 use Rattle.declared_rules.specs.Finding.{is_strings_of, list_offences, sign_in, node_offences, tree_offences, trees_offences, parts_offences, marked, finding, Joins, Adds}

@@ -6,17 +6,17 @@ use Rattle.std.proofs.lemmas.Grind.{flat_map-append}
 use Rattle.tla_token.specs.declared.rule.Refusal.{Refusal}
 use Rattle.tla_tree.specs.Tree.{Name, Word, Tree}
 use Rattle.tla_value.specs.Outside as pure
-use Rattle.outside_units.specs.declared.passed.Passed.{Passed}
-use Rattle.outside_units.specs.Passing.{passed_seen}
+use Rattle.module_outside.specs.declared.passed.Passed.{Passed}
+use Rattle.module_outside.specs.Passing.{passed_seen}
 use Rattle.module_outside.specs.declared.definition.ReadDefinition.{ReadDefinition}
 use Rattle.module_outside.specs.declared.outside.Outside.{Outside}
 use Rattle.module_outside.specs.OutsideAt.{definition_seen}
 use Rattle.module_outside.specs.WholeAt.{outside_at}
 use Rattle.algorithm_limits.specs.DepthsIn.{Hides}
 use Rattle.algorithm_limits.proofs.BoundLemmas.{hides_then, hides_as}
-use Rattle.outside_sight.specs.declared.modules.Modules.{Modules}
-use Rattle.outside_sight.specs.SightIn.{Binds}
-use Rattle.outside_sight.proofs.SightLaws.{binds_all, none_bound}
+use Rattle.module_outside.specs.declared.modules.Modules.{Modules}
+use Rattle.module_outside.specs.SightIn.{Binds}
+use Rattle.module_outside.proofs.SightLaws.{binds_all, none_bound}
 use Rattle.declared_rules.specs.declared.found.Found.{Found}
 use Rattle.declared_rules.specs.Finding.{reserved_in, parts_offences, seen_offences, Joins, AddsNames}
 use Rattle.declared_rules.specs.Titles.{constant_parts, read_parts, pure_title, unit_offences, outside_offences, read_words, passed_words, title_offences}

@@ -15,9 +15,9 @@ use Rattle.pcal_tree.specs.BoundNames.{lists_of}
 use Rattle.pcal_tree.specs.Offences.{offence_if, first}
 use Rattle.pcal_tree.specs.OffencesModules.{strings_offences}
 use Rattle.algorithm_answer.specs.Joined.{joined}
-use Rattle.outside_sight.specs.declared.modules.Modules.{Modules}
-use Rattle.outside_sight.specs.ModulesIn.{has_op, is_standard_in}
-use Rattle.outside_sight.specs.SightIn.{Binds}
+use Rattle.module_outside.specs.declared.modules.Modules.{Modules}
+use Rattle.module_outside.specs.ModulesIn.{has_op, is_standard_in}
+use Rattle.module_outside.specs.SightIn.{Binds}
 use Rattle.declared_rules.specs.declared.found.Found.{Found}
 use Rattle.declared_rules.specs.Parts.{Part, expression, bound, declares, labels, prints, stacks, in_body}
 

@@ -2,3 +2,13 @@ pub mod Parts
 pub mod Finding
 pub mod Titles
 pub mod Refusal
+pub mod Held
+pub mod Telling
+pub mod Gathering
+pub mod Keeping
+pub mod Bodies
+pub mod Macros
+pub mod Units
+pub mod Processes
+pub mod OutsideWords
+pub mod Whole

@@ -9,7 +9,7 @@ use Rattle.pcal_tree.specs.Outside.{unit_names}
 use Rattle.pcal_tree.specs.OffencesModules.{module_needs, outside_variables}
 use Rattle.pcal_tree.specs.OffencesNames.{repeated_names}
 use Rattle.pcal_tree.specs.OffencesReserved.{reserved_declared}
-use Rattle.outside_sight.specs.declared.modules.Modules.{Modules}
+use Rattle.module_outside.specs.declared.modules.Modules.{Modules}
 use Rattle.declared_rules.specs.Parts.{parts_of_algorithm}
 use Rattle.declared_rules.specs.Finding.{parts_offences}
 use Rattle.declared_rules.specs.Titles.{kept_titles, other_titles, title_offences, outside_offences}

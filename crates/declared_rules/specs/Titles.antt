@@ -17,8 +17,8 @@ use Rattle.pcal_tree.specs.declared.algorithm.Main as code_main
 use Rattle.pcal_tree.specs.declared.algorithm.Main.TheVariants as main
 use Rattle.pcal_tree.specs.declared.algorithm.Algorithm.{Algorithm}
 use Rattle.pcal_tree.specs.Offences.{offence_if}
-use Rattle.outside_sight.specs.declared.modules.Modules.{Modules}
-use Rattle.outside_units.specs.declared.passed.Passed.{Passed}
+use Rattle.module_outside.specs.declared.modules.Modules.{Modules}
+use Rattle.module_outside.specs.declared.passed.Passed.{Passed}
 use Rattle.module_outside.specs.declared.definition.ReadDefinition.{ReadDefinition}
 use Rattle.declared_rules.specs.Parts.{Part, declares, declaration_names}
 use Rattle.declared_rules.specs.Finding.{reserved_in, seen_offences}

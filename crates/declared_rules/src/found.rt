@@ -13,7 +13,7 @@ ghost use Rattle.declared_rules.specs.Finding.{Joins, Adds, AddsNames, node_offe
 use crate::own::{is_end, is_reserved};
 use algorithm_limits::bound::Bound;
 use algorithm_limits::order::or_offence;
-use outside_sight::modules::Modules;
+use module_outside::modules::Modules;
 use pcal_tree::algorithm::{Bind, Declaration};
 use std::alloc::AllocError;
 use tla_token::{Place, Refusal, Rule};

@@ -1,11 +1,11 @@
 //! Names that the translation has.
 
 ghost use Rattle.std.specs.Prelude.{◌≡◌, ◌∷◌, ◌||◌, [], codes};
-ghost use Rattle.outside_sight.specs.ModulesIn.{is_standard_in};
+ghost use Rattle.module_outside.specs.ModulesIn.{is_standard_in};
 ghost use Rattle.tla_token.specs.Signs.{is_among as is_among_of};
 ghost use Rattle.tla_token.specs.Words.{is_own as is_own_of};
 
-use outside_sight::modules::Modules;
+use module_outside::modules::Modules;
 use tla_token::own::is_own;
 use tla_token::word::is_among;
 

@@ -4,14 +4,14 @@ ghost use Rattle.std.specs.Prelude.{◌≡◌, ◌≤◌, length, IfOk};
 ghost use Rattle.pcal_tree.specs.InMemory.{past_algorithm, algorithm_at};
 ghost use Rattle.pcal_tree.specs.Offences.{first};
 ghost use Rattle.tla_tree.specs.Tree.{words};
-ghost use Rattle.outside_sight.specs.ModulesIn.{AreModules};
+ghost use Rattle.module_outside.specs.ModulesIn.{AreModules};
 ghost use Rattle.module_outside.specs.WholeAt.{outside_at};
 ghost use Rattle.declared_rules.specs.Refusal.{declared_offences, offences_found};
 
 use crate::sweep::none_found;
+use module_outside::modules::Modules;
 use module_outside::outside::Outside;
-use outside_sight::modules::Modules;
-use outside_sight::sight::Sight;
+use module_outside::sight::Sight;
 use pcal_tree::algorithm::Algorithm;
 use std::alloc::{AllocError, Global};
 use tla_pool::Pool;

@@ -12,7 +12,7 @@ ghost use Rattle.declared_rules.specs.Parts.{expr_parts};
 
 use crate::found::Found;
 use algorithm_limits::bound::Bound;
-use outside_sight::modules::Modules;
+use module_outside::modules::Modules;
 use std::alloc::{AllocError, Global};
 use tla_pool::Pool;
 use tla_pool::form::{Form, Strict};

@@ -6,7 +6,7 @@ use Rattle.pcal_tree.specs.Program.{Program, Actor}
 use Rattle.pcal_tree.specs.Scope.{State}
 use Rattle.pcal_tree.specs.Step.{pc_of}
 use Rattle.step_runner.specs.Shown.{first_holding, known, step_before, from_pc, terminating}
-use Rattle.step_values.specs.StatesOf.{state_of}
+use Rattle.step_moves.specs.StatesOf.{state_of}
 use Rattle.followed_runs.specs.Parties.{program_of, actors_of}
 use Rattle.action_truth.specs.AskedOf.{IsAsked}
 use Rattle.explained_traces.specs.declared.befores.Leaving.{Leaving}

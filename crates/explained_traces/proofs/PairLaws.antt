@@ -15,8 +15,8 @@ use Rattle.step_runner.specs.Explained as pure
 use Rattle.step_runner.specs.Explained.{told}
 use Rattle.step_runner.specs.Fronts.{Text}
 use Rattle.step_runner.specs.Shown.{pair_before, state_text, pairs_text}
-use Rattle.step_values.specs.StatesOf.{state_of}
-use Rattle.trouble_walks.specs.WrittenTroubles.{written_trouble_of_all}
+use Rattle.step_moves.specs.StatesOf.{state_of}
+use Rattle.written_runs.specs.WrittenTroubles.{written_trouble_of_all}
 use Rattle.written_traces.specs.WrittenTraces.{pairs_explained_once}
 use Rattle.explained_traces.specs.declared.explaining.Halt.{Halt}
 use Rattle.explained_traces.specs.Halts.{halt_of}

@@ -14,7 +14,7 @@ use Rattle.step_runner.specs.Explained as pure
 use Rattle.step_runner.specs.Explained.{told, troubled}
 use Rattle.step_runner.specs.Fronts.{Text}
 use Rattle.step_runner.specs.Shown.{initial, state_text, pairs_text, trace_text}
-use Rattle.step_values.specs.StatesOf.{state_of}
+use Rattle.step_moves.specs.StatesOf.{state_of}
 use Rattle.written_traces.specs.WrittenTraces.{written_start_trouble, pairs_explained_once, states_explained_once, explained_for}
 use Rattle.explained_traces.specs.declared.explaining.Halt.{Halt}
 use Rattle.explained_traces.specs.Halts.{halt_of}

@@ -11,8 +11,8 @@ use Rattle.pcal_tree.specs.Scope.{State}
 use Rattle.pcal_tree.specs.Variables.{vars, on_variables}
 use Rattle.step_runner.specs.Explained.{Halt, Explained, after_verdict}
 use Rattle.step_runner.specs.Shown.{is_so}
-use Rattle.step_values.specs.StatesOf.{state_of}
-use Rattle.step_values.proofs.StateLaws.{in_memory}
+use Rattle.step_moves.specs.StatesOf.{state_of}
+use Rattle.step_moves.proofs.StateLaws.{in_memory}
 use Rattle.followed_runs.specs.Parties.{program_of}
 use Rattle.explained_traces.specs.declared.judge.Judge.{Judge}
 use Rattle.explained_traces.specs.declared.judge.Pair.{Pair}

@@ -10,8 +10,8 @@ use Rattle.module_tree.specs.ProcessPart.{mine_holds}
 use Rattle.pcal_tree.specs.Variables.{vars, on_variables}
 use Rattle.action_truth.specs.AskedOf.{IsReady}
 use Rattle.step_runner.specs.Explained.{Halt, untrue, troubled, told}
-use Rattle.step_values.specs.StatesOf.{state_of, HasJust}
-use Rattle.trouble_walks.specs.WrittenTroubles.{written_trouble_of_all}
+use Rattle.step_moves.specs.StatesOf.{state_of, HasJust}
+use Rattle.written_runs.specs.WrittenTroubles.{written_trouble_of_all}
 use Rattle.written_traces.specs.WrittenTraces.{written_start_trouble}
 use Rattle.followed_runs.specs.Parties.{program_of, actors_of, IsParty}
 use Rattle.explained_traces.specs.declared.judge.Judge.{Judge}

@@ -7,7 +7,7 @@ use Rattle.pcal_tree.specs.Scope.{State}
 use Rattle.step_runner.specs.Explained as pure
 use Rattle.step_runner.specs.Fronts.{Text}
 use Rattle.step_runner.specs.Shown.{Before, stepped, terminating, pair_before, state_text}
-use Rattle.step_values.specs.StatesOf.{state_of}
+use Rattle.step_moves.specs.StatesOf.{state_of}
 use Rattle.followed_runs.specs.Parties.{program_of}
 use Rattle.explained_traces.specs.declared.befores.Leaving.{Leaving}
 use Rattle.explained_traces.specs.declared.explaining.Halt.{Halt}

@@ -5,7 +5,7 @@ ghost use Rattle.std.specs.List.{AllByRecursion};
 ghost use Rattle.tla_value.specs.States.{value_of};
 ghost use Rattle.module_tree.specs.Module.{Module};
 ghost use Rattle.step_runner.specs.Shown.{pairs_text};
-ghost use Rattle.step_values.specs.StatesOf.{state_of};
+ghost use Rattle.step_moves.specs.StatesOf.{state_of};
 ghost use Rattle.action_truth.specs.AskedOf.{IsAsked};
 ghost use Rattle.followed_runs.specs.Parties.{program_of, actors_of};
 ghost use Rattle.written_traces.specs.WrittenTraces.{pairs_explained_once};

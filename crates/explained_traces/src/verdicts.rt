@@ -6,9 +6,9 @@ ghost use Rattle.module_tree.specs.ActionTruth.{Verdict};
 ghost use Rattle.module_tree.specs.Module.{Module};
 ghost use Rattle.pcal_tree.specs.Program.{Actor};
 ghost use Rattle.run_files.specs.InMemory.{trouble_of};
-ghost use Rattle.step_program.specs.Programs.{program_at};
+ghost use Rattle.step_moves.specs.Programs.{program_at};
 ghost use Rattle.step_runner.specs.Explained.{told, troubled};
-ghost use Rattle.step_values.specs.StatesOf.{state_of};
+ghost use Rattle.step_moves.specs.StatesOf.{state_of};
 ghost use Rattle.value_forms.specs.Gives.{Stops, Tells};
 ghost use Rattle.tla_value.specs.Value.{Outcome};
 ghost use Rattle.action_truth.specs.AskedOf.{IsAsked};
@@ -20,12 +20,12 @@ ghost use Rattle.explained_traces.specs.Judging.{IsJudge, IsState, IsPair, truth
 use crate::explaining::Halt;
 use crate::judge::{Judge, Pair};
 use action_truth::{holds, starts};
-use first_troubles::first_trouble;
+use followed_runs::first_trouble;
 use run_files::Trouble;
 use start_troubles::start_trouble;
 use std::alloc::{AllocError, Global};
 use step_meaning::Origin;
-use step_program::Program;
+use step_moves::Program;
 use tla_value::state::State;
 use tla_value::stop::EvalStop;
 

@@ -4,8 +4,8 @@ use Rattle.tla_tree.specs.Tree.{Tree}
 use Rattle.tla_value.specs.Value.{Value}
 use Rattle.pcal_tree.specs.Processes.{OneOf}
 use Rattle.pcal_tree.specs.StepAnswers.{with_self}
-use Rattle.step_program.specs.declared.actor.Actor.{Actor}
-use Rattle.step_program.specs.InMemory.{actor_at}
+use Rattle.step_moves.specs.declared.actor.Actor.{Actor}
+use Rattle.step_moves.specs.InMemory.{actor_at}
 
 pub one_at : {X : Type 0} (xs : List X) (i : ℕ) (x : X) → x ≡ get_or xs i x → i < length xs → OneOf x xs
 one_at [] i x e less = absurd (omega arith)

@@ -6,9 +6,9 @@ use Rattle.pcal_tree.proofs.OneStand.{own_is_main}
 use Rattle.pcal_tree.proofs.RoutineNames.{every_one}
 use Rattle.pcal_tree.specs.Algorithm.{main_routines}
 use Rattle.step_spots.specs.InMemory.{routine_at}
-use Rattle.step_program.specs.Programs.{program_at}
-use Rattle.step_program.specs.declared.actor.Actor.{Actor}
-use Rattle.step_program.specs.InMemory.{actor_at}
+use Rattle.step_moves.specs.Programs.{program_at}
+use Rattle.step_moves.specs.declared.actor.Actor.{Actor}
+use Rattle.step_moves.specs.InMemory.{actor_at}
 use Rattle.step_meaning.specs.declared.stage.Stage.{Stage}
 use Rattle.followed_runs.specs.Parties.{AreOwn}
 

@@ -6,9 +6,9 @@ use Rattle.pcal_tree.specs.Processes.{actors, OneOf}
 use Rattle.pcal_tree.specs.Program as pure
 use Rattle.pcal_tree.specs.Variables.{vars}
 use Rattle.step_spots.specs.InMemory.{routine_at}
-use Rattle.step_program.specs.Programs.{program_at}
-use Rattle.step_program.specs.declared.actor.Actor.{Actor}
-use Rattle.step_program.specs.InMemory.{actor_at}
+use Rattle.step_moves.specs.Programs.{program_at}
+use Rattle.step_moves.specs.declared.actor.Actor.{Actor}
+use Rattle.step_moves.specs.InMemory.{actor_at}
 use Rattle.step_meaning.specs.declared.stage.Stage.{Stage}
 use Rattle.step_meaning.specs.Stages.{IsStage}
 use Rattle.followed_runs.specs.declared.party.Party.{Party}

@@ -6,7 +6,7 @@ use Rattle.pcal_tree.specs.StepAnswers.{Reply, stopped_by}
 use Rattle.run_files.specs.InMemory.{reply_of, trouble_of}
 use Rattle.step_runner.specs.Followed as pure
 use Rattle.step_runner.specs.Fronts.{Text}
-use Rattle.step_values.specs.StatesOf.{state_of}
+use Rattle.step_moves.specs.StatesOf.{state_of}
 use Rattle.step_meaning.specs.declared.halt.Halt.{Halt}
 use Rattle.step_meaning.specs.declared.halt.Halt.TheVariants as halt
 use Rattle.followed_runs.specs.declared.cause.Cause.{Cause}

@@ -2,10 +2,10 @@
 
 ghost use Rattle.std.specs.Prelude.{◌≡◌, IfOk};
 ghost use Rattle.pcal_tree.specs.Variables.{vars};
-ghost use Rattle.step_program.specs.Programs.{program_at};
+ghost use Rattle.step_moves.specs.Programs.{program_at};
 ghost use Rattle.step_runner.specs.Shown.{run_text};
-ghost use Rattle.step_values.specs.StatesOf.{state_of};
-ghost use Rattle.step_values.specs.ScopeIn.{IsScene};
+ghost use Rattle.step_moves.specs.StatesOf.{state_of};
+ghost use Rattle.step_moves.specs.ScopeIn.{IsScene};
 ghost use Rattle.written_runs.specs.WrittenRuns.{begun_in, followed_in, followed_once};
 ghost use Rattle.run_files.specs.Turns.{script_of};
 ghost use Rattle.step_meaning.specs.Replies.{Replies};
@@ -20,7 +20,7 @@ use run_files::script::Script;
 use run_files::state::{Before, add_state};
 use std::alloc::{AllocError, Global};
 use step_meaning::{Halt, Origin, Stage, start};
-use step_program::actors;
+use step_moves::actors;
 use tla_tree::{Name, Text};
 use tla_value::state::State;
 

@@ -1,7 +1,7 @@
 //! The processes of a run, with what their steps are taken from.
 
 use step_meaning::Stage;
-use step_program::Actor;
+use step_moves::Actor;
 use tla_tree::Name;
 
 /// The processes of a run, with what their steps are taken from.

@@ -23,8 +23,8 @@ use Rattle.tla_expr.specs.Numbers.{NumbersFit}
 use Rattle.tla_expr.specs.ReadTrees.{ReadsTree}
 use Rattle.outside_reading.specs.PlainUnits.{whole_tree, body_in}
 use Rattle.outside_reading.specs.SmallNumbers.{is_small, all_small}
-use Rattle.outside_units.proofs.FrontLaws.{ahead_end}
-use Rattle.outside_units.proofs.UnitLaws.{ahead_length}
+use Rattle.module_outside.proofs.FrontLaws.{ahead_end}
+use Rattle.module_outside.proofs.UnitLaws.{ahead_length}
 
 -- ---- numbers
 

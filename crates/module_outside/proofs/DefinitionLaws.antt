@@ -15,7 +15,7 @@ use Rattle.expr_nodes.proofs.AheadLemmas.{ahead_tail}
 use Rattle.outside_reading.specs.PlainUnits.{head_in, body_in, with_body, with_tree, spelled_if, spelled_in, if_reads}
 use Rattle.outside_reading.specs.TreeDepth.{if_so, definition_depth}
 use Rattle.outside_reading.proofs.TreeDepths.{definition_told}
-use Rattle.outside_units.proofs.FrontLaws.{ahead_end}
+use Rattle.module_outside.proofs.FrontLaws.{ahead_end}
 use Rattle.module_outside.specs.OutsideAt.{title_in, made}
 
 -- ---- what it is spelled as

@@ -10,10 +10,10 @@ use Rattle.module_tree.specs.Module.{OutsideUnit, definitions_of, unread_of}
 use Rattle.module_tree.specs.Outside.{Sight, opaque_of}
 use Rattle.outside_reading.specs.PlainUnits.{modules_in, constants_in, declares, constants_or, extends_or, defined_before, defined_in, unit_in, seen_behind}
 use Rattle.outside_reading.proofs.Earlier.{same_sight}
-use Rattle.outside_units.specs.declared.passed.Passed.{Passed}
-use Rattle.outside_units.specs.Passing.{passed_seen}
-use Rattle.outside_sight.specs.declared.sight.Sight as memory
-use Rattle.outside_sight.specs.SightIn.{Sees}
+use Rattle.module_outside.specs.declared.passed.Passed.{Passed}
+use Rattle.module_outside.specs.Passing.{passed_seen}
+use Rattle.module_outside.specs.declared.sight.Sight as memory
+use Rattle.module_outside.specs.SightIn.{Sees}
 use Rattle.module_outside.specs.declared.definition.ReadDefinition.{ReadDefinition}
 use Rattle.module_outside.specs.declared.found.Found.{Found}
 use Rattle.module_outside.specs.OutsideAt.{definition_seen, made_of, with_found}

@@ -12,12 +12,12 @@ use Rattle.module_tree.specs.Outside.{Sight}
 use Rattle.expr_nodes.specs.Ahead.{ahead}
 use Rattle.outside_reading.specs.PlainUnits.{modules_in, constants_in, extends_or, unit_in, units_in, seen_behind}
 use Rattle.outside_reading.proofs.OutsideFound as pure
-use Rattle.outside_units.specs.Fronts.{front_begins}
-use Rattle.outside_units.specs.Passing.{passed_seen}
-use Rattle.outside_units.proofs.FrontLaws.{ahead_end}
-use Rattle.outside_units.proofs.UnitLaws.{unit_there, units_first, ahead_length}
-use Rattle.outside_sight.specs.declared.sight.Sight as memory
-use Rattle.outside_sight.specs.SightIn.{Sees}
+use Rattle.module_outside.specs.Fronts.{front_begins}
+use Rattle.module_outside.specs.Passing.{passed_seen}
+use Rattle.module_outside.proofs.FrontLaws.{ahead_end}
+use Rattle.module_outside.proofs.UnitLaws.{unit_there, units_first, ahead_length}
+use Rattle.module_outside.specs.declared.sight.Sight as memory
+use Rattle.module_outside.specs.SightIn.{Sees}
 use Rattle.module_outside.specs.declared.found.Found.{Found}
 use Rattle.module_outside.specs.OutsideAt.{definition_seen}
 use Rattle.module_outside.specs.FoundAt.{Goes, IsFound}

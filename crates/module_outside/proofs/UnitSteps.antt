@@ -5,9 +5,9 @@ use Rattle.tla_token.specs.declared.token.Tokens.{Tokens}
 use Rattle.tla_tree.specs.Lexical.{Token}
 use Rattle.module_tree.specs.FileUnits.{cut}
 use Rattle.expr_nodes.specs.Ahead.{ahead}
-use Rattle.outside_units.specs.Fronts.{front_begins}
-use Rattle.outside_units.proofs.FrontLaws.{ahead_end}
-use Rattle.outside_units.proofs.UnitLaws.{unit_there, units_first}
+use Rattle.module_outside.specs.Fronts.{front_begins}
+use Rattle.module_outside.proofs.FrontLaws.{ahead_end}
+use Rattle.module_outside.proofs.UnitLaws.{unit_there, units_first}
 
 module _ {A : Type 0} (f : List Token → List A) (v : Tokens) where
   -- the first one, and those behind it

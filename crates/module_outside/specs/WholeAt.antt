@@ -2,7 +2,7 @@
 use Rattle.std.specs.Prelude.{List, map}
 use Rattle.tla_tree.specs.Tree.{Tree, words}
 use Rattle.tla_value.specs.Outside as pure
-use Rattle.outside_units.specs.Passing.{passed_seen}
+use Rattle.module_outside.specs.Passing.{passed_seen}
 use Rattle.module_outside.specs.declared.outside.Outside.{Outside}
 use Rattle.module_outside.specs.OutsideAt.{definition_seen}
 

@@ -9,9 +9,9 @@ ghost use Rattle.outside_reading.specs.SmallNumbers.{all_small, is_small};
 ghost use Rattle.expr_nodes.specs.ViewSeen.{view_seen};
 ghost use Rattle.module_outside.specs.OutsideAt.{tree_found};
 
+use crate::front::token_at;
 use expr_nodes::cursor::Halt;
 use expr_nodes::view::View;
-use outside_units::front::token_at;
 use std::alloc::{AllocError, Global};
 use tla_expr::read_expression_at;
 use tla_pool::Pool;

@@ -6,8 +6,8 @@ ghost use Rattle.expr_nodes.specs.Ahead.{ahead};
 ghost use Rattle.outside_reading.specs.PlainUnits.{modules_in, constants_in, constants_of_unit, all_modules, all_constants, declares};
 ghost use Rattle.module_outside.specs.OutsideAt.{with_names};
 
-use outside_units::names::{constants, modules};
-use outside_units::unit::{next_begun, unit_tokens};
+use crate::names::{constants, modules};
+use crate::unit::{next_begun, unit_tokens};
 use std::alloc::{AllocError, Global};
 use tla_token::Tokens;
 use tla_tree::PlacedName;

@@ -7,18 +7,13 @@ use Rattle.tla_value.specs.Defs.{read_at, DefinitionsIn}
 use Rattle.tla_value.proofs.DefsGrown.{definition_at-kept}
 use Rattle.module_outside.specs.declared.definition.ReadDefinition.{ReadDefinition}
 use Rattle.module_outside.specs.OutsideAt.{definition_seen}
-use Rattle.module_outside.specs.FoundAt.{AreHeld}
 use Rattle.module_write.specs.declared.«module».Outside.{Outside}
 use Rattle.module_write.specs.InMemory.{opaque_of, outside_at}
-use Rattle.module_reading.specs.InModule.{kept_of}
+use Rattle.module_outside.specs.KeptOf.{kept_of}
 
 pub read_kept : (ts : List Tree) (ds : List ReadDefinition) → map (read_at ts) (map kept_of ds) ≡ map (definition_seen ts) ds
 read_kept ts [] = refl
 read_kept ts (d ∷ ds) = λ i. definition_seen ts d ∷ read_kept ts ds i
-
-pub held_kept : (m : ℕ) (ds : List ReadDefinition) → AreHeld m ds → DefinitionsIn m (map kept_of ds)
-held_kept m [] h = tt
-held_kept m (d ∷ ds) h = (h.0, held_kept m ds h.1)
 
 reads_kept : (ts us : List Tree) → Keeps ts us → (ds : List Kept) → DefinitionsIn (length ts) ds → map (read_at us) ds ≡ map (read_at ts) ds
 reads_kept ts us k [] h = refl

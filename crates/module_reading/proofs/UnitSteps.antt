@@ -13,9 +13,9 @@ use Rattle.module_tree.specs.Module.{RegionUnit}
 use Rattle.expr_nodes.specs.declared.cursor.Halt.{Halt}
 use Rattle.expr_nodes.specs.declared.cursor.Halt.TheVariants as halt
 use Rattle.expr_nodes.specs.Ahead.{ahead}
-use Rattle.outside_units.specs.Fronts.{front_begins}
-use Rattle.outside_units.proofs.FrontLaws.{ahead_end}
-use Rattle.outside_units.proofs.UnitLaws.{unit_there, units_first}
+use Rattle.module_outside.specs.Fronts.{front_begins}
+use Rattle.module_outside.proofs.FrontLaws.{ahead_end}
+use Rattle.module_outside.proofs.UnitLaws.{unit_there, units_first}
 use Rattle.region_reading.specs.Bound.{Bound, unbounded}
 use Rattle.region_reading.specs.UnitReader.{unit_within}
 use Rattle.region_reading.specs.ModuleReader.{one_unit_more, units_are}

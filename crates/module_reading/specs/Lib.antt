@@ -1,2 +1,1 @@
-pub mod InModule
 pub mod Translated

@@ -1,38 +1,25 @@
 //! What is outside a translation, as modules have it.
 
 ghost use Rattle.std.specs.Prelude.{◌≡◌, ℕ, List, length, map, IfOk};
-ghost use Rattle.tla_tree.specs.Tree.{Tree, words};
+ghost use Rattle.tla_tree.specs.Tree.{Tree};
 ghost use Rattle.tla_tree.specs.Pool.{Keeps};
 ghost use Rattle.tla_value.specs.Defs.{DefinitionsIn};
 ghost use Rattle.module_tree.specs.FileUnits.{cut};
 ghost use Rattle.expr_nodes.specs.Ahead.{ahead};
 ghost use Rattle.outside_reading.specs.PlainUnits.{outside_in};
-ghost use Rattle.outside_units.specs.Passing.{passed_seen};
+ghost use Rattle.module_outside.specs.Passing.{passed_seen};
 ghost use Rattle.module_outside.specs.FoundAt.{AreHeld};
 ghost use Rattle.module_outside.specs.WholeAt as read;
 ghost use Rattle.module_write.specs.InMemory.{opaque_of, outside_at};
-ghost use Rattle.module_reading.specs.InModule.{kept_of};
 
-use module_outside::definition::ReadDefinition;
+use module_outside::kept::{all_kept, words_of};
 use module_outside::outside::{Outside as ReadOutside, read_outside};
+use module_outside::passed::Passed;
 use module_write::module::{Opaque, Outside};
-use outside_units::passed::Passed;
 use std::alloc::{AllocError, Global};
 use tla_pool::Pool;
 use tla_token::Tokens;
-use tla_tree::{Name, NameList, PlacedName};
-use tla_value::names::{Definition, Defs};
-
-// The words of names.
-fn words_of(alloc: Global, names: &[PlacedName]) -> Result<NameList, AllocError>
-    ensures { IfOk result (λ r. r ≡ words names.now) }
-{
-    let mut all = NameList::new(alloc);
-    for one in names {
-        all.push(one.name.copied()?)?;
-    }
-    Ok(all)
-}
+use tla_tree::{Name, NameList};
 
 // Names as a list of names.
 fn list_of(alloc: Global, names: &[Name]) -> Result<NameList, AllocError>
@@ -41,32 +28,6 @@ fn list_of(alloc: Global, names: &[Name]) -> Result<NameList, AllocError>
     let mut all = NameList::new(alloc);
     for one in names {
         all.push(one.copied()?)?;
-    }
-    Ok(all)
-}
-
-// A definition as modules have it.
-fn kept(alloc: Global, one: &ReadDefinition) -> Result<Definition, AllocError>
-    ensures { IfOk result (λ r. r ≡ kept_of one.now) }
-{
-    let name = one.title.name.copied()?;
-    let params = words_of(alloc, &one.params)?;
-    Ok(Definition {
-        name,
-        params,
-        body: one.body,
-        outside: true,
-        place: one.title.place,
-    })
-}
-
-// All definitions.
-fn definitions_of(alloc: Global, list: &[ReadDefinition]) -> Result<Defs, AllocError>
-    ensures { IfOk result (λ r. r ≡ map kept_of list.now) }
-{
-    let mut all = Defs::new(alloc);
-    for one in list {
-        all.push(kept(alloc, one)?)?;
     }
     Ok(all)
 }
@@ -105,7 +66,7 @@ pub fn as_outside(alloc: Global, found: ReadOutside) -> Result<Outside, AllocErr
     ensures within { IfOk result (λ o. (m : ℕ) → AreHeld m found.definitions.items → DefinitionsIn m o.definitions) }
 {
     let extended = words_of(alloc, &found.extended)?;
-    let definitions = definitions_of(alloc, &found.definitions)?;
+    let definitions = all_kept(alloc, &found.definitions)?;
     let opaque = all_passed(alloc, &found.opaque)?;
     Ok(Outside {
         extended,

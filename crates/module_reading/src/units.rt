@@ -10,7 +10,7 @@ ghost use Rattle.region_made.specs.UnitsAt.{units_at, UnitsIn};
 ghost use Rattle.module_reading.specs.Translated.{module_bound, NoUnits};
 
 use expr_nodes::cursor::Halt;
-use outside_units::unit::{next_begun, unit_tokens};
+use module_outside::unit::{next_begun, unit_tokens};
 use region_made::unit::Unit;
 use region_units::units::unit;
 use std::alloc::Global;

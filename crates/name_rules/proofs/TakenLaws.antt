@@ -7,7 +7,7 @@ use Rattle.tla_value.specs.Outside as pure
 use Rattle.pcal_tree.specs.BoundNames.{lists_of, lists_in, lists_in_all}
 use Rattle.algorithm_limits.specs.DepthsIn.{Hides}
 use Rattle.algorithm_limits.proofs.BoundLemmas.{hides_then, hides_as}
-use Rattle.outside_sight.proofs.SightLaws.{binds_more}
+use Rattle.module_outside.proofs.SightLaws.{binds_more}
 use Rattle.module_outside.specs.declared.definition.ReadDefinition.{ReadDefinition}
 use Rattle.module_outside.specs.OutsideAt.{definition_seen}
 use Rattle.written_names.specs.Giving.{SameNames}

@@ -7,12 +7,12 @@ ghost use Rattle.pcal_tree.specs.OffencesOfNames.{name_offences};
 ghost use Rattle.module_outside.specs.WholeAt.{outside_at};
 
 use algorithm_limits::order::least;
+use declared_rules::rebind_refusal;
 use declared_rules::refusal::declared_refusal;
 use module_outside::outside::Outside;
 use pcal_tree::algorithm::Algorithm;
+use read_rules::stale::stale_refusal;
 use read_rules::{read_refusal, self_refusal};
-use rebind_rules::rebind_refusal;
-use stale_rules::stale::stale_refusal;
 use std::alloc::{AllocError, Global};
 use tla_pool::Pool;
 use tla_token::Refusal;

@@ -19,7 +19,7 @@ ghost use Rattle.name_rules.specs.Taken.{words_within};
 use algorithm_limits::bound::Bound;
 use module_outside::definition::ReadDefinition;
 use module_outside::outside::Outside;
-use outside_units::passed::Passed;
+use module_outside::passed::Passed;
 use pcal_tree::algorithm::Algorithm;
 use std::alloc::{AllocError, Global};
 use tla_pool::Pool;

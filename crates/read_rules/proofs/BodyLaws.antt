@@ -19,8 +19,8 @@ use Rattle.pcal_tree.proofs.InMemoryEach.{label_at, simple_in_list_at, if_at, ei
 use Rattle.algorithm_limits.specs.DepthsIn.{Hides}
 use Rattle.algorithm_limits.proofs.BoundLemmas.{hides_none, hides_then, hides_as, first_kept}
 use Rattle.early_reads.specs.BodyNames.{names_in_one, names_in, names_in_some}
-use Rattle.outside_sight.specs.SightIn.{Binds}
-use Rattle.outside_sight.proofs.SightLaws.{binds_more}
+use Rattle.module_outside.specs.SightIn.{Binds}
+use Rattle.module_outside.proofs.SightLaws.{binds_more}
 use Rattle.read_rules.specs.declared.used.Used.{Used}
 use Rattle.read_rules.specs.Using.{kept, Adds}
 use Rattle.read_rules.specs.UsingBodies.{bind_word, bind_number, AddsBind, AddsBinds, AddsStmt}

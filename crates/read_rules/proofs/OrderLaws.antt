@@ -15,8 +15,8 @@ use Rattle.algorithm_answer.specs.Joined.{joined}
 use Rattle.algorithm_answer.proofs.Joins.{joined_assoc, joined_none, first_append}
 use Rattle.early_reads.specs.Levels.{Levels}
 use Rattle.early_reads.specs.EarlyReads.{early_in_start, early_in}
-use Rattle.outside_sight.specs.SightIn.{Binds}
-use Rattle.outside_sight.proofs.SightLaws.{binds_more}
+use Rattle.module_outside.specs.SightIn.{Binds}
+use Rattle.module_outside.proofs.SightLaws.{binds_more}
 use Rattle.read_rules.specs.declared.order.Known.{Known}
 use Rattle.read_rules.specs.NumbersIn.{declared_in, AreLevels}
 use Rattle.read_rules.specs.Order.{Knows, behind}

@@ -18,9 +18,9 @@ use Rattle.algorithm_limits.specs.Literals.{are_literals}
 use Rattle.algorithm_limits.proofs.BoundLemmas.{hides_none, hides_then, hides_as, first_kept, seen_first, seen_more}
 use Rattle.algorithm_limits.proofs.LiteralLaws.{each_literal, first_literal, more_literals}
 use Rattle.outside_reading.specs.TreeDepth.{first_names, more_names}
-use Rattle.outside_sight.specs.SightIn.{Binds}
-use Rattle.outside_sight.proofs.SightLaws.{binds_more}
-use Rattle.outside_sight.proofs.DepthLaws.{part_sees}
+use Rattle.module_outside.specs.SightIn.{Binds}
+use Rattle.module_outside.proofs.SightLaws.{binds_more}
+use Rattle.module_outside.proofs.DepthLaws.{part_sees}
 use Rattle.read_rules.specs.declared.used.Used.{Used}
 use Rattle.read_rules.specs.Using.{if_self, kept, own_names, Adds, AddsParts}
 

@@ -2,7 +2,7 @@
 use Rattle.std.specs.Prelude.{List, [], ◌∷◌}
 use Rattle.tla_tree.specs.Tree.{Word}
 use Rattle.early_reads.specs.Levels.{Levels}
-use Rattle.outside_sight.specs.SightIn.{Binds}
+use Rattle.module_outside.specs.SightIn.{Binds}
 use Rattle.read_rules.specs.declared.order.Known.{Known}
 use Rattle.read_rules.specs.NumbersIn.{AreLevels}
 

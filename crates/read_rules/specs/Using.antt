@@ -5,7 +5,7 @@ use Rattle.tla_token.specs.declared.place.Place.{Place}
 use Rattle.tla_tree.specs.Tree.{Word, Form, name, operator_call}
 use Rattle.pcal_tree.specs.Algorithm.{Name}
 use Rattle.pcal_tree.specs.Reads.{named, if_free}
-use Rattle.outside_sight.specs.SightIn.{Binds}
+use Rattle.module_outside.specs.SightIn.{Binds}
 use Rattle.read_rules.specs.declared.used.Used.{Used}
 
 -- what a form at a place uses besides its parts, where these names are bound

@@ -11,7 +11,7 @@ ghost use Rattle.algorithm_limits.specs.DepthsIn.{Hides};
 ghost use Rattle.algorithm_answer.specs.Joined.{joined};
 ghost use Rattle.early_reads.specs.Levels.{Levels};
 ghost use Rattle.early_reads.specs.EarlyReads.{is_early, early_in_tree, early_in_start, early_in};
-ghost use Rattle.outside_sight.specs.SightIn.{Binds};
+ghost use Rattle.module_outside.specs.SightIn.{Binds};
 ghost use Rattle.read_rules.specs.NumbersIn.{declared_in, AreLevels};
 ghost use Rattle.read_rules.specs.Order.{Knows};
 

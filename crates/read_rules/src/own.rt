@@ -9,7 +9,7 @@ ghost use Rattle.pcal_tree.specs.Offences.{first};
 ghost use Rattle.pcal_tree.specs.OffencesReads.{processes_of, of_one_process, own_in_start, own_in_sets};
 ghost use Rattle.pcal_tree.specs.Variables.{declared};
 ghost use Rattle.algorithm_answer.specs.Joined.{joined};
-ghost use Rattle.outside_sight.specs.SightIn.{Binds};
+ghost use Rattle.module_outside.specs.SightIn.{Binds};
 ghost use Rattle.read_rules.specs.Own.{own_name, own_in_declaration};
 
 use crate::declared::add_declared;

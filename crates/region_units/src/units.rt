@@ -23,7 +23,7 @@ use crate::words::{EDGE, is_word};
 use expr_nodes::cursor::{Halt, Next, Word};
 use expr_nodes::spot::{Spot, refused};
 use expr_nodes::view::View;
-use outside_units::front::token_at;
+use module_outside::front::token_at;
 use region_items::names::past_names;
 use region_made::unit::Unit;
 use std::alloc::Global;

@@ -34,12 +34,12 @@ use Rattle.translation.proofs.KeptAccepted.{checked_is_fine}
 use Rattle.translation.proofs.NextLaw.{canonical_steps}
 use Rattle.translation.proofs.SameProgram.{same_program}
 use Rattle.translation.proofs.VariableNames.{each_to}
-use Rattle.started_states.proofs.StartedStates.{without_limits}
+use Rattle.accepted_steps.proofs.StartedStates.{without_limits}
 use Rattle.step_runner.specs.Config.{constants_of}
 use Rattle.step_runner.specs.Followed.{Stop, Followed, followed}
 use Rattle.step_runner.proofs.FollowedRuns.{followed_is_run}
-use Rattle.run_laws.specs.LimitedRuns.{StopBelow}
-use Rattle.run_laws.proofs.Followed.{followed_below}
+use Rattle.run_answer.specs.LimitedRuns.{StopBelow}
+use Rattle.run_answer.proofs.Followed.{followed_below}
 use Rattle.run_answer.specs.Chosen.{Files, algorithm_in, Chosen, program_of, followed_of, IsRun}
 use Rattle.run_answer.specs.Promised.{TrueNext, TruePairs, AreTrue, KeepsRun}
 use Rattle.run_answer.proofs.Choices.{stands_right, right_accepted}

@@ -9,3 +9,11 @@ pub mod ReadOutside
 pub mod KeptRuns
 mod Rows
 mod RowsRun
+pub mod Outcomes
+pub mod Scopes
+pub mod Statements
+pub mod Calls
+pub mod Steps
+pub mod Starts
+pub mod Followed
+pub mod ScriptsFollowed

@@ -2,3 +2,4 @@
 pub mod Chosen
 pub mod Stops
 pub mod Promised
+pub mod LimitedRuns

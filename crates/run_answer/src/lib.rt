@@ -1,4 +1,4 @@
-//! What is answered to a module, a file of constants and a script, and what a run promises: definitions and laws.
+//! What the limits of a run change, what three files of a run are answered, and what a run promises.
 #![tactic(auto)]
 
 pub mod laws;

@@ -5,7 +5,7 @@ use Rattle.tla_value.specs.Value.{Value}
 use Rattle.tla_value.specs.States.{Entries, value_of, updated}
 use Rattle.pcal_tree.specs.Calls.{defaultInitValue}
 use Rattle.pcal_tree.proofs.SelfByMacro.{turned}
-use Rattle.step_values.proofs.StateLaws.{value_updated}
+use Rattle.step_moves.proofs.StateLaws.{value_updated}
 use Rattle.step_runner.specs.Config.{constants_of}
 
 default_put : (es : Entries) → value_of (updated es (codes "defaultInitValue") defaultInitValue) ≡ constants_of es

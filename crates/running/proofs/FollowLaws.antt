@@ -14,8 +14,8 @@ use Rattle.module_outside.specs.FoundAt.{AreHeld}
 use Rattle.module_outside.specs.OutsideAt.{definition_seen}
 use Rattle.module_outside.specs.WholeAt.{outside_at}
 use Rattle.checking.specs.declared.check.Checked.{Checked}
-use Rattle.step_program.specs.declared.program.Program as code
-use Rattle.step_program.specs.Programs.{program_at, IsWhole}
+use Rattle.step_moves.specs.declared.program.Program as code
+use Rattle.step_moves.specs.Programs.{program_at, IsWhole}
 use Rattle.step_runner.specs.Config.{constants_of}
 use Rattle.step_runner.specs.Followed.{followed}
 use Rattle.step_runner.specs.Script.{Script}

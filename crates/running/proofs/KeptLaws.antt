@@ -14,17 +14,14 @@ use Rattle.pcal_tree.specs.Program.{inner}
 use Rattle.module_outside.specs.declared.definition.ReadDefinition.{ReadDefinition}
 use Rattle.module_outside.specs.OutsideAt.{definition_seen}
 use Rattle.module_outside.specs.FoundAt.{AreHeld}
-use Rattle.step_program.specs.declared.program.Program as code
-use Rattle.step_program.specs.Programs.{IsWhole}
-use Rattle.running.specs.KeptOf.{kept_of}
+use Rattle.step_moves.specs.declared.program.Program as code
+use Rattle.step_moves.specs.Programs.{IsWhole}
+use Rattle.module_outside.specs.KeptOf.{kept_of}
+use Rattle.module_outside.proofs.KeptLaws.{held_kept}
 
 pub found_kept : (ts : List Tree) (ds : List ReadDefinition) → definitions_at ts (map kept_of ds) ≡ found (map (definition_seen ts) ds)
 found_kept ts [] = refl
 found_kept ts (d ∷ ds) = ap (λ (l : List Definition). definition_at ts (kept_of d) ∷ l) (found_kept ts ds)
-
-pub held_kept : (m : ℕ) (ds : List ReadDefinition) → AreHeld m ds → DefinitionsIn m (map kept_of ds)
-held_kept m [] h = tt
-held_kept m (d ∷ ds) h = (h.0, held_kept m ds h.1)
 
 -- all are those outside, and then the algorithm's
 pub record AreAll (ds : List ReadDefinition) (a : code_algorithm.Algorithm) (all : List Kept) : Type 0 where

@@ -14,3 +14,11 @@ pub mod Told
 pub mod FilesRead
 pub mod Answering
 pub mod Putting
+mod PlacesLaws
+mod NumberedLaws
+mod RoutineLaws
+pub mod LabelLaws
+mod MadeOnto
+mod LeftSides
+mod Members
+mod EachKind

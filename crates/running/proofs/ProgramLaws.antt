@@ -18,10 +18,10 @@ use Rattle.translation.specs.laws.AcceptedAlgorithm.{IsAcceptedInFile}
 use Rattle.translation.proofs.NamesApart.{writable}
 use Rattle.build_premises.proofs.VariablesApart.{variables_apart}
 use Rattle.step_moves.specs.Prepared.{IsLabelled}
-use Rattle.prepared_program.proofs.LabelLaws.{procedures_begin_labelled}
+use Rattle.running.proofs.LabelLaws.{procedures_begin_labelled}
 use Rattle.written_runs.proofs.OwnSpotLaws.{accepted_opens}
-use Rattle.step_program.specs.declared.program.Program as code
-use Rattle.step_program.specs.Programs.{program_at}
+use Rattle.step_moves.specs.declared.program.Program as code
+use Rattle.step_moves.specs.Programs.{program_at}
 use Rattle.step_runner.specs.Config.{constants_of}
 use Rattle.running.specs.ProgramsOf.{IsProgramOf}
 

@@ -10,7 +10,7 @@ use Rattle.pcal_tree.proofs.InMemoryGrown.{algorithm_at-kept}
 use Rattle.module_outside.specs.declared.definition.ReadDefinition.{ReadDefinition}
 use Rattle.module_outside.specs.OutsideAt.{made_of, definition_seen}
 use Rattle.module_outside.specs.FoundAt.{AreHeld}
-use Rattle.step_program.specs.declared.program.Program as code
+use Rattle.step_moves.specs.declared.program.Program as code
 use Rattle.running.specs.ProgramsOf.{IsProgramOf}
 use Rattle.running.specs.ReadBefore.{WasRead, IsFilled}
 

@@ -14,8 +14,8 @@ use Rattle.name_bits.specs.NamesIn.{most, AllApart}
 use Rattle.written_names.specs.Units.{naming_of}
 use Rattle.action_builder.specs.WrittenNames.{with_names}
 use Rattle.translation.specs.laws.AcceptedAlgorithm.{IsAcceptedInFile}
-use Rattle.step_program.specs.declared.program.Program as code
-use Rattle.step_program.specs.Programs.{program_at}
+use Rattle.step_moves.specs.declared.program.Program as code
+use Rattle.step_moves.specs.Programs.{program_at}
 use Rattle.step_runner.specs.Config.{constants_of}
 use Rattle.running.specs.declared.made.Grounds.{Grounds}
 use Rattle.running.specs.GroundsOf.{AreGrounds}

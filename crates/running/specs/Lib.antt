@@ -3,7 +3,6 @@ pub mod InMemory
 pub mod Ready
 pub mod Beside
 pub mod GroundsOf
-pub mod KeptOf
 pub mod ProgramsOf
 pub mod ReadBefore
 pub mod Names
@@ -11,3 +10,5 @@ pub mod Answers
 pub mod Answered
 pub mod Reading
 pub mod Put
+pub mod PlacesOf
+pub mod Prepared

@@ -7,7 +7,7 @@ use Rattle.pcal_tree.specs.Algorithm.{Algorithm}
 use Rattle.pcal_tree.specs.InMemory.{algorithm_at}
 use Rattle.pcal_tree.specs.Names.{naming}
 use Rattle.written_names.specs.Units.{naming_of}
-use Rattle.step_program.specs.declared.program.Program as code
+use Rattle.step_moves.specs.declared.program.Program as code
 use Rattle.step_runner.specs.Config.{constants_of}
 
 pub record IsProgramOf (p : code.Program) (o : Outside) (g : Algorithm) (es : Entries) : Type 0 where

@@ -12,7 +12,7 @@ use Rattle.written_names.specs.Units.{naming_of}
 use Rattle.module_outside.specs.declared.definition.ReadDefinition.{ReadDefinition}
 use Rattle.module_outside.specs.OutsideAt.{definition_seen}
 use Rattle.module_outside.specs.FoundAt.{AreHeld}
-use Rattle.step_program.specs.declared.program.Program as code
+use Rattle.step_moves.specs.declared.program.Program as code
 use Rattle.step_runner.specs.Config.{constants_of}
 
 -- where the pool had these trees, the program's algorithm was this one, and these definitions were those outside of it

@@ -22,8 +22,8 @@ use Rattle.step_runner.specs.Shown.{run_text}
 use Rattle.followed_runs.specs.Stopping.{stop_of}
 use Rattle.followed_runs.specs.declared.following.Followed.{Followed}
 use Rattle.step_forms.specs.Opened.{IsOpenable}
-use Rattle.step_program.specs.declared.program.Program as code
-use Rattle.step_program.specs.Programs.{program_at, IsWhole}
+use Rattle.step_moves.specs.declared.program.Program as code
+use Rattle.step_moves.specs.Programs.{program_at, IsWhole}
 use Rattle.written_runs.specs.WrittenRuns.{followed_once}
 use Rattle.running.specs.declared.made.Grounds.{Grounds}
 use Rattle.running.specs.GroundsOf.{AreGrounds}

@@ -11,7 +11,7 @@ use checking::check::Checked;
 use followed_runs::{Followed, follow};
 use run_files::Script;
 use std::alloc::{AllocError, Global};
-use step_program::Program;
+use step_moves::Program;
 use tla_pool::Pool;
 use tla_value::state::State;
 

@@ -1,6 +1,6 @@
 //! Laws of what runs of accepted algorithms stand on, stated as what functions without a body ensure.
 
-ghost use Rattle.std.specs.Prelude.{◌≡◌, ◌≤◌, ℕ, List, length, map};
+ghost use Rattle.std.specs.Prelude.{◌≡◌, ◌≤◌, ℕ, List, length, map, []};
 ghost use Rattle.std.specs.List.{AllByRecursion};
 ghost use Rattle.tla_tree.specs.Tree.{Tree};
 ghost use Rattle.tla_tree.specs.Pool.{Keeps};
@@ -23,14 +23,15 @@ ghost use Rattle.step_moves.specs.Prepared.{IsLabelled};
 ghost use Rattle.module_outside.specs.declared.definition.ReadDefinition.{ReadDefinition};
 ghost use Rattle.module_outside.specs.OutsideAt.{definition_seen};
 ghost use Rattle.module_outside.specs.FoundAt.{AreHeld};
-ghost use Rattle.step_program.specs.declared.program.Program as code;
-ghost use Rattle.step_program.specs.Programs.{program_at};
+ghost use Rattle.step_moves.specs.declared.program.Program as code;
+ghost use Rattle.step_moves.specs.Programs.{program_at};
 ghost use Rattle.step_runner.specs.Config.{constants_of};
 ghost use Rattle.translation.specs.laws.AcceptedAlgorithm.{IsAcceptedInFile};
 ghost use Rattle.running.specs.declared.made.Grounds.{Grounds};
 ghost use Rattle.running.specs.GroundsOf.{AreGrounds};
 ghost use Rattle.running.specs.ProgramsOf.{IsProgramOf};
 ghost use Rattle.running.specs.ReadBefore.{WasRead, IsFilled};
+ghost use Rattle.pcal_tree.specs.OffencesLabels.{label_offences};
 
 /// What is asked of an algorithm before a run is had of an accepted one: no rule on labels is broken and each macro has a statement,
 /// each procedure's body begins with a label, and no variable stands twice, under any limits and with any values of the constants.
@@ -65,4 +66,9 @@ pub fn what_was_read_stays_as_the_pool_grows()
     ensures outside { (ts us : List Tree) (ds : List ReadDefinition) → Keeps ts us → AreHeld (length ts) ds → map (definition_seen us) ds ≡ map (definition_seen ts) ds }
     ensures held { (m n : ℕ) (ds : List ReadDefinition) → m ≤ n → AreHeld m ds → AreHeld n ds }
     ensures program { (ts : List Tree) (ds : List ReadDefinition) (p : code.Program) (o : Outside) (g : Algorithm) (es : Entries) → WasRead ts ds p o g → IsFilled ds p es → IsProgramOf p o g es }
+{}
+
+/// Where no rule on labels is broken, no body of a procedure begins with a statement that has no label.
+pub fn bodies_of_procedures_are_labelled()
+    ensures { (a : Algorithm) → label_offences a ≡ [] → AllByRecursion (λ (p : Procedure). IsLabelled p.body) a.procedures }
 {}

@@ -14,12 +14,12 @@ ghost use Rattle.action_builder.specs.OwnVariables.{is_own_variable};
 ghost use Rattle.running.specs.GroundsOf.{AreGrounds};
 
 use crate::made::Grounds;
+use crate::program::prepared;
 use crate::words::word;
 use draft::Draft;
 use draft::variables::{own_bits, own_variables, variables};
 use name_bits::{Bits, Order};
 use pcal_tree::algorithm::Algorithm;
-use prepared_program::prepared;
 use std::alloc::{AllocError, Global};
 use tla_pool::Pool;
 use written_names::naming::Naming;

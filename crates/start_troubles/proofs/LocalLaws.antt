@@ -17,10 +17,10 @@ use Rattle.action_builder.specs.laws.WrittenScope.{written_scope}
 use Rattle.value_forms.specs.Gives.{Stops, Tells}
 use Rattle.step_spots.specs.InMemory.{routine_at}
 use Rattle.step_spots.specs.declared.routine.Routine as code_routine
-use Rattle.step_program.specs.declared.program.Program as code
-use Rattle.step_program.specs.Programs.{program_at}
-use Rattle.step_values.specs.declared.values.Bound.{Bound}
-use Rattle.step_values.specs.ScopeIn.{scope_in}
+use Rattle.step_moves.specs.declared.program.Program as code
+use Rattle.step_moves.specs.Programs.{program_at}
+use Rattle.step_moves.specs.declared.values.Bound.{Bound}
+use Rattle.step_moves.specs.ScopeIn.{scope_in}
 use Rattle.step_moves.specs.Prepared.{prepared_start}
 use Rattle.step_meaning.specs.declared.routines.Locals.{Locals}
 use Rattle.step_meaning.specs.Identified.{HaveThese}

@@ -8,7 +8,7 @@ use Rattle.pcal_tree.specs.Algorithm.{Start, among, Declaration, Routine, locals
 use Rattle.pcal_tree.specs.InitialStates.{is_multiprocess, running}
 use Rattle.pcal_tree.specs.Program.{Program, Actor}
 use Rattle.pcal_tree.specs.Scope.{State}
-use Rattle.step_values.specs.ScopeIn.{scope_in}
+use Rattle.step_moves.specs.ScopeIn.{scope_in}
 use Rattle.written_traces.specs.AskedStarts.{Meanings, as_written, plain_asked, locals_asked, globals_asked, procedures_asked, processes_asked}
 
 -- what an expression means where these names are bound

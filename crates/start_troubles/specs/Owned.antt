@@ -4,7 +4,7 @@ use Rattle.tla_value.specs.Order.{IsAscending}
 use Rattle.tla_value.specs.Value.{values_in}
 use Rattle.pcal_tree.specs.Program.{Program, Actor}
 use Rattle.action_builder.specs.laws.WrittenScope.{written_scope}
-use Rattle.step_values.specs.ScopeIn.{scope_in}
+use Rattle.step_moves.specs.ScopeIn.{scope_in}
 use Rattle.step_meaning.specs.Identified.{HaveThese}
 use Rattle.start_troubles.specs.declared.locals.Owners.{Owners}
 use Rattle.start_troubles.specs.declared.locals.Owners.TheVariants as owners

@@ -4,14 +4,14 @@ ghost use Rattle.std.specs.Prelude.{◌≡◌, Ok, Bool, map, IfOk};
 ghost use Rattle.std.specs.Option.{option_map};
 ghost use Rattle.tla_value.specs.Value.{Outcome};
 ghost use Rattle.pcal_tree.specs.Processes.{actors as actors_of};
-ghost use Rattle.step_program.specs.InMemory.{actor_at};
+ghost use Rattle.step_moves.specs.InMemory.{actor_at};
 ghost use Rattle.value_forms.specs.Gives.{Stops, Tells};
 ghost use Rattle.run_files.specs.InMemory.{trouble_of};
-ghost use Rattle.step_program.specs.Programs.{program_at};
+ghost use Rattle.step_moves.specs.Programs.{program_at};
 ghost use Rattle.step_meaning.specs.Origins.{IsOrigin};
-ghost use Rattle.step_values.specs.StatesOf.{state_of};
+ghost use Rattle.step_moves.specs.StatesOf.{state_of};
 ghost use Rattle.step_runner.specs.Explained.{trouble_in};
-ghost use Rattle.step_values.specs.ScopeIn.{IsScene};
+ghost use Rattle.step_moves.specs.ScopeIn.{IsScene};
 ghost use Rattle.written_traces.specs.WrittenTraces.{written_start_trouble};
 ghost use Rattle.start_troubles.specs.Asked.{variables_asked};
 
@@ -20,7 +20,7 @@ use crate::routines::{procedures_allowed, processes_allowed};
 use run_files::Trouble;
 use std::alloc::{AllocError, Global};
 use step_meaning::Origin;
-use step_program::Actor;
+use step_moves::Actor;
 use tla_value::state::State;
 use tla_value::stop::EvalStop;
 

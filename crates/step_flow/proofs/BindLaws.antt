@@ -17,8 +17,8 @@ use Rattle.step_walks.specs.Flows.{Flow, flowing, chosen}
 use Rattle.step_walks.specs.StepFlows.{flow_binds}
 use Rattle.step_choices.specs.declared.pause.Pause.{Pause}
 use Rattle.step_choices.specs.Pauses.{Pauses}
-use Rattle.step_values.specs.ScopeIn.{scope_in}
-use Rattle.step_values.proofs.ScopeLaws.{scope_more}
+use Rattle.step_moves.specs.ScopeIn.{scope_in}
+use Rattle.step_moves.proofs.ScopeLaws.{scope_more}
 use Rattle.step_flow.specs.Binding.{bind_name, Leads}
 
 pub binds_more : (ts : List Tree) (bs : List Bind) (i : ℕ) (b : Bind) → b ≡ get_or bs i b → i < length bs → binds_at ts (drop i bs) ≡ bind_at ts b (binds_at ts (drop (i + 1) bs))

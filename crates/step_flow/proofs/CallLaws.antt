@@ -17,7 +17,7 @@ use Rattle.step_walks.specs.FirstValues.{as_written}
 use Rattle.step_walks.specs.Flows.{Flow, halts, flowing}
 use Rattle.step_walks.specs.StepFlows.{flow_one}
 use Rattle.step_walks.specs.WrittenCalls.{called_by, entered_at_by, written_rules}
-use Rattle.step_values.specs.ScopeIn.{scope_in}
+use Rattle.step_moves.specs.ScopeIn.{scope_in}
 use Rattle.step_moves.specs.Prepared.{called_if}
 use Rattle.step_choices.specs.Pauses.{pause_of, Pauses}
 use Rattle.step_flow.specs.Ends.{root_places}

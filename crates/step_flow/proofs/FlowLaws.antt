@@ -8,7 +8,7 @@ use Rattle.pcal_tree.specs.Choices.{went}
 use Rattle.pcal_tree.specs.Scope.{State}
 use Rattle.value_forms.specs.Gives.{Stops}
 use Rattle.step_walks.specs.Flows.{Flow, falls, halts, onward, flowing}
-use Rattle.step_values.specs.StatesOf.{state_of}
+use Rattle.step_moves.specs.StatesOf.{state_of}
 use Rattle.step_choices.specs.declared.pause.Pause.{Pause}
 use Rattle.step_choices.specs.declared.pause.Pause.TheVariants as pause
 use Rattle.step_choices.specs.Pauses.{pause_of, Pauses}

@@ -24,9 +24,9 @@ use Rattle.pcal_tree.specs.Scope.{State, Scope, test}
 use Rattle.step_walks.specs.Flows.{Flow, falls, onward, flowing}
 use Rattle.step_walks.specs.StepFlows.{flow, flow_binds, back}
 use Rattle.step_walks.specs.WrittenCalls.{written_rules}
-use Rattle.step_program.specs.Programs.{program_at}
-use Rattle.step_values.specs.StatesOf.{state_of}
-use Rattle.step_values.specs.ScopeIn.{scope_in}
+use Rattle.step_moves.specs.Programs.{program_at}
+use Rattle.step_moves.specs.StatesOf.{state_of}
+use Rattle.step_moves.specs.ScopeIn.{scope_in}
 use Rattle.step_moves.specs.declared.runner.Runner.{Runner}
 use Rattle.step_flow.specs.declared.going.End.TheVariants as end
 use Rattle.step_flow.specs.declared.going.Going.{Going}

@@ -12,9 +12,9 @@ use Rattle.pcal_tree.specs.Run.{Partner, Rules}
 use Rattle.step_walks.specs.Flows.{Flow, falls, halts}
 use Rattle.step_walks.specs.StepFlows.{flow, flow_one, back}
 use Rattle.step_walks.specs.WrittenCalls.{written_rules}
-use Rattle.step_program.specs.Programs.{program_at}
-use Rattle.step_values.specs.StatesOf.{state_of}
-use Rattle.step_values.specs.ScopeIn.{scope_in, IsScene}
+use Rattle.step_moves.specs.Programs.{program_at}
+use Rattle.step_moves.specs.StatesOf.{state_of}
+use Rattle.step_moves.specs.ScopeIn.{scope_in, IsScene}
 use Rattle.step_moves.specs.Runners.{IsReady}
 use Rattle.step_moves.specs.declared.runner.Runner.{Runner}
 use Rattle.step_choices.specs.declared.pause.Pause.{Pause}

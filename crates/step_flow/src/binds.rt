@@ -9,8 +9,8 @@ ghost use Rattle.pcal_tree.specs.InMemory.{bind_at, binds_at, past_bind, past_bi
 ghost use Rattle.pcal_tree.specs.Scope.{State as PureState, Scope, bound as with_bound, members as pure_members};
 ghost use Rattle.step_walks.specs.Flows.{Flow, flowing, chosen};
 ghost use Rattle.step_walks.specs.StepFlows.{flow_binds};
-ghost use Rattle.step_program.specs.Programs.{program_at};
-ghost use Rattle.step_values.specs.StatesOf.{state_of};
+ghost use Rattle.step_moves.specs.Programs.{program_at};
+ghost use Rattle.step_moves.specs.StatesOf.{state_of};
 ghost use Rattle.step_flow.specs.Ends.{left_of, scope_of, Stands, Rebound};
 ghost use Rattle.step_flow.specs.Binding.{bind_name, Leads, StillBound};
 
@@ -18,8 +18,7 @@ use crate::going::Going;
 use pcal_tree::algorithm::Bind;
 use std::alloc::{AllocError, Global};
 use step_choices::{Pause, picked};
-use step_moves::Runner;
-use step_values::{members, value};
+use step_moves::{Runner, members, value};
 use tla_token::Place;
 use tla_tree::{Name, NodeId};
 use tla_value::value::{Value, copied};

@@ -9,9 +9,8 @@ ghost use Rattle.step_flow.specs.Ends.{jump_from, Ends, Stands, Rebound};
 
 use std::alloc::Global;
 use step_choices::Pause;
-use step_moves::{Runner, jump};
+use step_moves::{Bound, Runner, jump};
 use step_spots::Target;
-use step_values::Bound;
 use tla_value::state::State;
 
 /// How far a step got.

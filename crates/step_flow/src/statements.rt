@@ -17,10 +17,9 @@ use crate::simple::simple;
 use pcal_tree::algorithm::{Bind, Simple, Span, Stmt};
 use std::alloc::Global;
 use step_choices::{Pause, picked};
-use step_moves::{Partner, Runner};
+use step_moves::{Partner, Runner, truth};
 use step_spots::Target;
 use step_spots::target::next_target;
-use step_values::truth;
 use tla_tree::NodeId;
 
 // What the statements behind a call begin with, if that is one statement with it.

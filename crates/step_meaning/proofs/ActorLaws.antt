@@ -11,8 +11,8 @@ use Rattle.pcal_tree.specs.Processes.{identifier, identifiers, actors_in, all_ac
 use Rattle.pcal_tree.specs.Algorithm.{first_process}
 use Rattle.pcal_tree.specs.Program.{Program, Actor}
 use Rattle.pcal_tree.proofs.ProcessesInOrder.{id, ids, apart_gives, sorted_ascending}
-use Rattle.step_program.specs.InMemory.{actor_at}
-use Rattle.step_program.specs.declared.actor.Actor as code
+use Rattle.step_moves.specs.InMemory.{actor_at}
+use Rattle.step_moves.specs.declared.actor.Actor as code
 use Rattle.step_meaning.specs.Identified.{numbered_so, those, selves, HaveThese}
 
 -- ---- those of a routine

@@ -17,9 +17,9 @@ use Rattle.action_builder.specs.laws.WrittenScope.{written_scope}
 use Rattle.step_walks.specs.FirstValues.{as_written}
 use Rattle.step_walks.specs.Flows.{Flow, falls, onward}
 use Rattle.step_walks.specs.StartFlows.{plain_flow, globals_flow, local_flow, locals_flow}
-use Rattle.step_program.specs.declared.program.Program as code
-use Rattle.step_program.specs.Programs.{program_at}
-use Rattle.step_values.specs.ScopeIn.{scope_in}
+use Rattle.step_moves.specs.declared.program.Program as code
+use Rattle.step_moves.specs.Programs.{program_at}
+use Rattle.step_moves.specs.ScopeIn.{scope_in}
 use Rattle.step_choices.specs.declared.pause.Pause.{Pause}
 use Rattle.step_choices.specs.Pauses.{Pauses}
 use Rattle.step_moves.specs.Prepared.{prepared_start, prepared_declaration, prepared_declarations}

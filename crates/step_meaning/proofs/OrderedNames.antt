@@ -12,11 +12,11 @@ use Rattle.tla_value.specs.States.{Entries, value_of, updated}
 use Rattle.pcal_tree.specs.InitialChoice.{nothing}
 use Rattle.pcal_tree.specs.Scope.{put}
 use Rattle.pcal_tree.specs.Variables.{vars}
-use Rattle.step_program.specs.declared.program.Program as code
-use Rattle.step_program.specs.Programs.{program_at}
-use Rattle.step_values.specs.StatesOf.{state_of, HasJust}
-use Rattle.step_values.proofs.StateLaws.{state_updated}
-use Rattle.step_values.specs.ScopeIn.{IsScene}
+use Rattle.step_moves.specs.declared.program.Program as code
+use Rattle.step_moves.specs.Programs.{program_at}
+use Rattle.step_moves.specs.StatesOf.{state_of, HasJust}
+use Rattle.step_moves.proofs.StateLaws.{state_updated}
+use Rattle.step_moves.specs.ScopeIn.{IsScene}
 use Rattle.step_meaning.specs.Begun.{names_in, IsBegun}
 
 abbrev equal : Word → Word → Bool

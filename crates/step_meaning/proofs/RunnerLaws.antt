@@ -7,7 +7,7 @@ use Rattle.pcal_tree.specs.Processes.{OneOf}
 use Rattle.pcal_tree.specs.Program.{Program}
 use Rattle.pcal_tree.specs.Variables.{declared, written_all, written_by_all, vars}
 use Rattle.written_names.specs.Units.{naming_of}
-use Rattle.step_program.specs.Programs.{program_at}
+use Rattle.step_moves.specs.Programs.{program_at}
 use Rattle.step_spots.specs.declared.routine.Routine as spots
 use Rattle.step_moves.specs.Prepared.{prepared_declarations}
 use Rattle.step_moves.specs.Runners.{names_of, written_names}

@@ -21,10 +21,10 @@ use Rattle.action_builder.specs.laws.WrittenScope.{written_scope}
 use Rattle.step_walks.specs.FirstValues.{as_written}
 use Rattle.step_walks.specs.Flows.{Flow, falls, onward, flowing, chosen}
 use Rattle.step_walks.specs.StartFlows.{each_flow, values_flow, spread_flow}
-use Rattle.step_program.specs.declared.program.Program as code
-use Rattle.step_program.specs.Programs.{program_at}
-use Rattle.step_values.specs.ScopeIn.{scope_in}
-use Rattle.step_values.proofs.ScopeLaws.{scope_process}
+use Rattle.step_moves.specs.declared.program.Program as code
+use Rattle.step_moves.specs.Programs.{program_at}
+use Rattle.step_moves.specs.ScopeIn.{scope_in}
+use Rattle.step_moves.proofs.ScopeLaws.{scope_process}
 use Rattle.step_meaning.specs.Begun.{value_by, members_by}
 use Rattle.step_meaning.specs.Identified.{selves, HaveThese, each_chosen}
 use Rattle.step_meaning.proofs.ActorLaws.{have_ids}

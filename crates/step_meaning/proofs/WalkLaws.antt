@@ -12,12 +12,12 @@ use Rattle.step_walks.specs.Flows.{Flow, falls, halts, finish}
 use Rattle.step_walks.specs.StepFlows.{flow}
 use Rattle.step_walks.specs.WrittenCalls.{written_rules}
 use Rattle.step_walks.specs.WrittenFlows.{written_flow_by}
-use Rattle.step_program.specs.Programs.{program_at}
-use Rattle.step_program.specs.declared.program.Program as program
+use Rattle.step_moves.specs.Programs.{program_at}
+use Rattle.step_moves.specs.declared.program.Program as program
 use Rattle.step_spots.specs.Targets.{target_word}
 use Rattle.step_spots.specs.declared.walk.Spot.{Spot}
-use Rattle.step_values.specs.StatesOf.{state_of}
-use Rattle.step_values.specs.ScopeIn.{scope_in}
+use Rattle.step_moves.specs.StatesOf.{state_of}
+use Rattle.step_moves.specs.ScopeIn.{scope_in}
 use Rattle.step_choices.specs.declared.pause.Pause.{Pause}
 use Rattle.step_choices.specs.declared.pause.Pause.TheVariants as pause
 use Rattle.step_choices.specs.Pauses.{Pauses}

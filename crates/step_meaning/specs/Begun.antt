@@ -9,9 +9,9 @@ use Rattle.tla_value.specs.Stops.{members_at}
 use Rattle.pcal_tree.specs.Program.{Program}
 use Rattle.pcal_tree.specs.Scope.{State, value_of}
 use Rattle.pcal_tree.specs.Variables.{vars}
-use Rattle.step_program.specs.declared.program.Program as code
-use Rattle.step_program.specs.Programs.{program_at, IsWhole}
-use Rattle.step_values.specs.ScopeIn.{scope_in}
+use Rattle.step_moves.specs.declared.program.Program as code
+use Rattle.step_moves.specs.Programs.{program_at, IsWhole}
+use Rattle.step_moves.specs.ScopeIn.{scope_in}
 
 abbrev pub names_in : Entries → List Word
 names_in m = map (λ (e : Word × Value). e.0) m

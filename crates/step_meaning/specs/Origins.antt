@@ -6,8 +6,8 @@ use Rattle.pcal_tree.specs.InMemory.{procedure_at, main_at, past_procedure, past
 use Rattle.pcal_tree.specs.Scope.{State}
 use Rattle.pcal_tree.specs.Variables.{vars}
 use Rattle.step_walks.specs.Flows.{Flow, falls}
-use Rattle.step_program.specs.Programs.{program_at, IsWhole}
-use Rattle.step_values.specs.StatesOf.{state_of}
+use Rattle.step_moves.specs.Programs.{program_at, IsWhole}
+use Rattle.step_moves.specs.StatesOf.{state_of}
 use Rattle.step_choices.specs.declared.pause.Pause.{Pause}
 use Rattle.step_choices.specs.Pauses.{Pauses}
 use Rattle.step_moves.specs.Prepared.{prepared_procedures, prepared_main}

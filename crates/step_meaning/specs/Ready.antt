@@ -14,8 +14,8 @@ use Rattle.step_walks.specs.Flows.{Flow}
 use Rattle.step_walks.specs.StartFlows.{locals_flow}
 use Rattle.step_spots.specs.InMemory.{routine_at}
 use Rattle.step_spots.specs.declared.routine.Routine.{Routine}
-use Rattle.step_program.specs.declared.program.Program as code
-use Rattle.step_program.specs.Programs.{program_at}
+use Rattle.step_moves.specs.declared.program.Program as code
+use Rattle.step_moves.specs.Programs.{program_at}
 use Rattle.step_moves.specs.Prepared.{prepared_declarations}
 use Rattle.step_meaning.specs.declared.routines.Locals.{Locals}
 

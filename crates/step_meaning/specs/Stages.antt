@@ -8,7 +8,7 @@ use Rattle.pcal_tree.specs.InMemory.{procedure_at, main_at, past_procedure, past
 use Rattle.pcal_tree.specs.Processes.{OneOf}
 use Rattle.pcal_tree.specs.Variables.{pc, stack}
 use Rattle.step_forms.specs.Opened.{IsOpenable}
-use Rattle.step_program.specs.Programs.{program_at, IsWhole}
+use Rattle.step_moves.specs.Programs.{program_at, IsWhole}
 use Rattle.step_spots.specs.declared.routine.Routine as spots
 use Rattle.step_spots.specs.InMemory.{routine_at}
 use Rattle.step_moves.specs.Prepared.{prepared_procedures, prepared_main, prepared_routine, IsLabelled}

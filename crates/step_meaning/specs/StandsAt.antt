@@ -8,8 +8,8 @@ use Rattle.pcal_tree.specs.Program.{Program}
 use Rattle.pcal_tree.specs.Step as pure
 use Rattle.pcal_tree.specs.StepAnswers.{label_place}
 use Rattle.step_spots.specs.InMemory.{spot_at, routine_at}
-use Rattle.step_program.specs.Programs.{program_at}
-use Rattle.step_program.specs.declared.program.Program as code
+use Rattle.step_moves.specs.Programs.{program_at}
+use Rattle.step_moves.specs.declared.program.Program as code
 use Rattle.step_moves.specs.Prepared.{prepared_procedures, prepared_routine}
 use Rattle.written_runs.specs.OwnSpots.{prepared_stand}
 use Rattle.step_meaning.specs.declared.stage.Stage.{Stage}

@@ -7,10 +7,10 @@ use Rattle.pcal_tree.specs.Program.{Actor}
 use Rattle.pcal_tree.specs.Run.{no_partner}
 use Rattle.step_walks.specs.Flows.{finish}
 use Rattle.step_walks.specs.WrittenCalls.{written_rules}
-use Rattle.step_program.specs.Programs.{program_at}
+use Rattle.step_moves.specs.Programs.{program_at}
 use Rattle.step_spots.specs.declared.walk.Spot.{Spot}
 use Rattle.step_spots.specs.Targets.{target_word}
-use Rattle.step_values.specs.StatesOf.{state_of}
+use Rattle.step_moves.specs.StatesOf.{state_of}
 use Rattle.step_choices.specs.declared.pause.Pause.{Pause}
 use Rattle.step_choices.specs.declared.pause.Pause.TheVariants as pause
 use Rattle.step_moves.specs.declared.runner.Runner.{Runner}

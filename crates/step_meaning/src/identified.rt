@@ -6,13 +6,12 @@ ghost use Rattle.tla_tree.specs.Tree.{Tree};
 ghost use Rattle.module_tree.specs.Formulas.{self};
 ghost use Rattle.pcal_tree.specs.Program as pure;
 ghost use Rattle.action_builder.specs.laws.WrittenScope.{written_scope};
-ghost use Rattle.step_program.specs.InMemory.{actor_at};
-ghost use Rattle.step_values.specs.ScopeIn.{scope_in};
+ghost use Rattle.step_moves.specs.InMemory.{actor_at};
+ghost use Rattle.step_moves.specs.ScopeIn.{scope_in};
 ghost use Rattle.step_meaning.specs.Identified.{those, first, selves, HaveThese};
 
 use std::alloc::{AllocError, Global};
-use step_program::Actor;
-use step_values::Bound;
+use step_moves::{Actor, Bound};
 use tla_tree::Name;
 use tla_value::value::{Value, copied};
 

@@ -1,7 +1,7 @@
 //! What a start is made from, and what it gives.
 
 use pcal_tree::algorithm::{Main, Procedure};
-use step_program::Program;
+use step_moves::Program;
 use tla_tree::Name;
 use tla_value::state::State;
 

@@ -6,9 +6,9 @@ ghost use Rattle.tla_tree.specs.Tree.{Word};
 ghost use Rattle.pcal_tree.specs.InitialChoice.{nothing};
 ghost use Rattle.pcal_tree.specs.Scope.{put};
 ghost use Rattle.pcal_tree.specs.Variables.{vars};
-ghost use Rattle.step_program.specs.declared.program.Program as code;
-ghost use Rattle.step_program.specs.Programs.{program_at};
-ghost use Rattle.step_values.specs.StatesOf.{state_of};
+ghost use Rattle.step_moves.specs.declared.program.Program as code;
+ghost use Rattle.step_moves.specs.Programs.{program_at};
+ghost use Rattle.step_moves.specs.StatesOf.{state_of};
 ghost use Rattle.step_meaning.specs.Begun.{names_in, IsBegun};
 
 use std::alloc::{AllocError, Global};

@@ -5,16 +5,15 @@ ghost use Rattle.pcal_tree.specs.Algorithm.{Routine as PureRoutine, main_routine
 ghost use Rattle.pcal_tree.specs.InMemory.{past_statements};
 ghost use Rattle.pcal_tree.specs.Processes.{OneOf};
 ghost use Rattle.step_spots.specs.InMemory.{routine_at};
-ghost use Rattle.step_program.specs.Programs.{program_at};
+ghost use Rattle.step_moves.specs.Programs.{program_at};
 ghost use Rattle.step_moves.specs.Prepared.{prepared_routine};
 ghost use Rattle.step_moves.specs.Runners.{IsReady, IsRunner};
-ghost use Rattle.step_program.specs.InMemory.{actor_at};
+ghost use Rattle.step_moves.specs.InMemory.{actor_at};
 ghost use Rattle.step_meaning.specs.Stages.{IsStage, IsPrepared};
 
 use pcal_tree::algorithm::{Main, Procedure};
 use std::alloc::AllocError;
-use step_moves::Runner;
-use step_program::{Actor, Program};
+use step_moves::{Actor, Program, Runner};
 use step_spots::{Routine, Target};
 use tla_tree::Name;
 

@@ -4,9 +4,9 @@ ghost use Rattle.std.specs.Prelude.{◌≡◌, [], map, Ok, IfOk};
 ghost use Rattle.pcal_tree.specs.Processes.{actors as actors_of};
 ghost use Rattle.step_walks.specs.FirstValues.{as_written};
 ghost use Rattle.step_walks.specs.StartFlows.{parts_flow};
-ghost use Rattle.step_program.specs.InMemory.{actor_at};
-ghost use Rattle.step_program.specs.Programs.{program_at};
-ghost use Rattle.step_values.specs.ScopeIn.{IsScene};
+ghost use Rattle.step_moves.specs.InMemory.{actor_at};
+ghost use Rattle.step_moves.specs.Programs.{program_at};
+ghost use Rattle.step_moves.specs.ScopeIn.{IsScene};
 ghost use Rattle.step_meaning.specs.Begun.{names_in};
 ghost use Rattle.step_meaning.specs.Origins.{IsOrigin, Starts};
 
@@ -17,7 +17,7 @@ use crate::ready::make_ready;
 use crate::routines::{procedures, processes};
 use std::alloc::Global;
 use step_choices::Pause;
-use step_program::Actor;
+use step_moves::Actor;
 
 /// The start of a run by a list of choices ("A PlusCal User's Manual", sections 3.3 and 3.4): globals, variables of procedures and of
 /// processes have values that their declarations allow, every stack is empty, and every `pc` is at its process's first label.

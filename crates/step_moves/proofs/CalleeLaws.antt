@@ -22,7 +22,7 @@ use Rattle.value_forms.proofs.StopLaws.{then_stops}
 use Rattle.step_walks.specs.WrittenCalls.{called_by}
 use Rattle.step_spots.specs.declared.routine.Routine as spots
 use Rattle.step_spots.specs.InMemory.{routine_at}
-use Rattle.step_program.specs.Programs.{program_at}
+use Rattle.step_moves.specs.Programs.{program_at}
 use Rattle.step_moves.specs.declared.runner.Runner.{Runner}
 use Rattle.step_moves.specs.Prepared.{as_prepared, prepared_procedure, prepared_routine, called_if}
 use Rattle.step_moves.specs.Runners.{written_names, IsReady, IsCallee}

@@ -27,7 +27,7 @@ use Rattle.step_walks.specs.FirstValues.{Evaluation}
 use Rattle.step_walks.specs.WrittenCalls.{first_value, variables_by, entered_keeping_by, entered_by}
 use Rattle.step_spots.specs.declared.routine.Routine as spots
 use Rattle.step_spots.specs.InMemory.{routine_at}
-use Rattle.step_program.specs.Programs.{program_at}
+use Rattle.step_moves.specs.Programs.{program_at}
 use Rattle.step_moves.specs.declared.runner.Runner.{Runner}
 use Rattle.step_moves.specs.Prepared.{as_prepared, started, given}
 use Rattle.step_moves.specs.Runners.{names_of, written_names, IsReady}

@@ -10,3 +10,13 @@ pub mod ReturnForms
 pub mod EntryForms
 pub mod ReplaceForms
 pub mod CalleeLaws
+pub mod ScopeLaws
+pub mod LeftLaws
+pub mod SettingLists
+pub mod StateLaws
+pub mod SightLaws
+pub mod DefinitionLaws
+pub mod SortedLaws
+pub mod EntryLaws
+pub mod GatherLaws
+pub mod IdentityLaws

@@ -14,10 +14,10 @@ use Rattle.pcal_tree.specs.Program.{Actor, index, read_at}
 use Rattle.pcal_tree.specs.Calls.{setting, on_stack}
 use Rattle.pcal_tree.specs.Variables.{pc, stack, vars}
 use Rattle.value_forms.specs.Gives.{Gives}
-use Rattle.step_program.specs.declared.program.Program as code
-use Rattle.step_program.specs.Programs.{program_at}
-use Rattle.step_values.specs.StatesOf.{state_of}
-use Rattle.step_values.specs.ScopeIn.{IsScene}
+use Rattle.step_moves.specs.declared.program.Program as code
+use Rattle.step_moves.specs.Programs.{program_at}
+use Rattle.step_moves.specs.StatesOf.{state_of}
+use Rattle.step_moves.specs.ScopeIn.{IsScene}
 use Rattle.step_moves.specs.declared.runner.Runner.{Runner}
 use Rattle.step_moves.specs.Runners.{IsReady, IsRunner, fault_without}
 use Rattle.step_moves.proofs.SettingLaws.{kept_one, pc_among}

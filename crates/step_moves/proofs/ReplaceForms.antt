@@ -20,7 +20,7 @@ use Rattle.step_walks.specs.FirstValues.{Evaluation}
 use Rattle.step_walks.specs.WrittenCalls.{entered_keeping_by, replaced_by, returned_and_entered_by}
 use Rattle.step_spots.specs.declared.routine.Routine as spots
 use Rattle.step_spots.specs.InMemory.{routine_at}
-use Rattle.step_program.specs.Programs.{program_at}
+use Rattle.step_moves.specs.Programs.{program_at}
 use Rattle.step_moves.specs.declared.runner.Runner.{Runner}
 use Rattle.step_moves.specs.Runners.{written_names, IsRunner}
 use Rattle.step_moves.proofs.EntryForms.{olds_are}

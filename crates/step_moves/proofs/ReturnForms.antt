@@ -16,7 +16,7 @@ use Rattle.pcal_tree.specs.Calls.{setting, part_settings, fields_read, restored}
 use Rattle.pcal_tree.specs.Variables.{pc, written_all}
 use Rattle.value_forms.specs.Gives.{Stops}
 use Rattle.value_forms.proofs.StopLaws.{then_stops}
-use Rattle.step_program.specs.Programs.{program_at}
+use Rattle.step_moves.specs.Programs.{program_at}
 use Rattle.step_moves.specs.declared.runner.Runner.{Runner}
 use Rattle.step_moves.specs.Runners.{written_names, IsReady, IsRunner}
 

@@ -15,8 +15,8 @@ use Rattle.pcal_tree.specs.Assign as pure
 use Rattle.pcal_tree.specs.Program.{Program}
 use Rattle.pcal_tree.specs.Calls.{setting, argument_settings, part_settings}
 use Rattle.pcal_tree.specs.Variables.{pc, declared, stack_for, written_by_all, vars}
-use Rattle.step_values.specs.declared.settings.Setting.{Setting}
-use Rattle.step_values.specs.StatesOf.{HasJust, setting_of, settings_of, AreOf}
+use Rattle.step_moves.specs.declared.setting.Setting.{Setting}
+use Rattle.step_moves.specs.StatesOf.{HasJust, setting_of, settings_of, AreOf}
 
 -- ---- names
 

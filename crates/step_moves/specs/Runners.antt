@@ -18,10 +18,10 @@ use Rattle.pcal_tree.specs.Variables.{pc, stack, declared, vars}
 use Rattle.action_builder.specs.laws.WrittenScope.{written_scope}
 use Rattle.written_names.specs.Units.{naming_of}
 use Rattle.step_spots.specs.declared.routine.Routine as spots
-use Rattle.step_program.specs.declared.program.Program as code
-use Rattle.step_program.specs.Programs.{program_at}
-use Rattle.step_values.specs.declared.values.Bound.{Bound}
-use Rattle.step_values.specs.ScopeIn.{scope_in}
+use Rattle.step_moves.specs.declared.program.Program as code
+use Rattle.step_moves.specs.Programs.{program_at}
+use Rattle.step_moves.specs.declared.values.Bound.{Bound}
+use Rattle.step_moves.specs.ScopeIn.{scope_in}
 use Rattle.step_moves.specs.declared.runner.Runner.{Runner}
 use Rattle.step_moves.specs.declared.runner.Partner.{Partner}
 use Rattle.step_moves.specs.declared.runner.Partner.TheVariants as partner

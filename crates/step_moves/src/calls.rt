@@ -14,9 +14,9 @@ ghost use Rattle.step_walks.specs.WrittenCalls.{called_by, entered_by, replaced_
 ghost use Rattle.value_forms.specs.Gives.{Gives};
 ghost use Rattle.step_spots.specs.Targets.{target_word};
 ghost use Rattle.step_spots.specs.InMemory.{routine_at};
-ghost use Rattle.step_program.specs.Programs.{program_at};
-ghost use Rattle.step_values.specs.StatesOf.{state_of};
-ghost use Rattle.step_values.specs.ScopeIn.{IsScene};
+ghost use Rattle.step_moves.specs.Programs.{program_at};
+ghost use Rattle.step_moves.specs.StatesOf.{state_of};
+ghost use Rattle.step_moves.specs.ScopeIn.{IsScene};
 ghost use Rattle.step_moves.specs.Prepared.{as_prepared, called_if};
 ghost use Rattle.step_moves.specs.Runners.{partner_of, written_names, IsReady, IsRunner, IsCallee};
 

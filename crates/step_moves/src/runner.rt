@@ -1,7 +1,7 @@
 //! A process that runs, with what its steps are taken from.
 
+use crate::Program;
 use pcal_tree::algorithm::{Procedure, Span};
-use step_program::Program;
 use step_spots::Routine;
 use tla_token::Place;
 use tla_tree::Name;

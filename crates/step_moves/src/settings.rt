@@ -2,10 +2,10 @@
 
 ghost use Rattle.std.specs.Prelude.{◌≡◌, ◌++◌, replicate, IfOk, OnOk};
 ghost use Rattle.pcal_tree.specs.Calls.{argument_settings};
-ghost use Rattle.step_values.specs.StatesOf.{settings_of};
+ghost use Rattle.step_moves.specs.StatesOf.{settings_of};
 
+use crate::Setting;
 use std::alloc::{AllocError, Global};
-use step_values::Setting;
 use tla_token::Place;
 use tla_tree::Name;
 use tla_value::value::{Value, copied};

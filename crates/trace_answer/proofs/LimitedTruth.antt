@@ -11,7 +11,7 @@ use Rattle.tla_value.proofs.Below.{eval_below, bind_below, scope_below}
 use Rattle.module_tree.specs.Module.{Item, test, setting, unchanged, exists, local, if_then_else, either, Items, no_items, item, Branches, no_branches, branch, Call, call, call_with, Way, one_way, some_way, Body, all_of, some_of, Action, Module}
 use Rattle.module_tree.specs.ActionTruth.{Verdict, value_in, truth_in, members_in, some_member, item_holds, items_hold, some_branch, Acts, acted, call_holds, way_holds, some_way_holds, body_holds, with_argument, action_of, acts_of, no_acts}
 use Rattle.module_tree.specs.ModuleTruth.{definitions_in, scope, terminating, acts_in, next_holds, all_hold, init_holds}
-use Rattle.run_laws.proofs.Outcomes.{below_same, below_then}
+use Rattle.run_answer.proofs.Outcomes.{below_same, below_then}
 
 -- ---- outcomes
 

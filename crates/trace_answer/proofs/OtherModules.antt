@@ -29,7 +29,7 @@ use Rattle.translation.specs.Region.{written_module}
 use Rattle.translation.specs.laws.AcceptedAlgorithm.{IsAcceptedInFile}
 use Rattle.translation.proofs.NextLaw.{kept_law}
 use Rattle.translation.proofs.SameProgram.{same_program}
-use Rattle.run_laws.proofs.Steps.{actors_below}
+use Rattle.run_answer.proofs.Steps.{actors_below}
 use Rattle.run_answer.specs.Promised.{TrueNext, TruePairs}
 use Rattle.step_runner.specs.Explained.{state_of}
 use Rattle.step_runner.specs.Trace.{AreSome}

@@ -15,12 +15,12 @@ use Rattle.module_outside.specs.OutsideAt.{definition_seen}
 use Rattle.module_outside.specs.WholeAt.{outside_at}
 use Rattle.module_tree.specs.Module.{Module}
 use Rattle.checking.specs.declared.check.Checked.{Checked}
-use Rattle.step_program.specs.declared.program.Program as code
-use Rattle.step_program.specs.Programs.{program_at, IsWhole}
+use Rattle.step_moves.specs.declared.program.Program as code
+use Rattle.step_moves.specs.Programs.{program_at, IsWhole}
 use Rattle.step_runner.specs.Config.{constants_of}
 use Rattle.step_runner.specs.Explained.{state_of, explained}
 use Rattle.step_runner.specs.Shown.{trace_text}
-use Rattle.step_values.specs.StatesOf.{HasJust}
+use Rattle.step_moves.specs.StatesOf.{HasJust}
 use Rattle.running.specs.declared.made.Grounds.{Grounds}
 use Rattle.running.specs.GroundsOf.{AreGrounds}
 use Rattle.running.specs.ProgramsOf.{IsProgramOf}

@@ -12,7 +12,7 @@ use Rattle.step_runner.specs.Fronts.{Text}
 use Rattle.step_runner.specs.Items.{names_of, is_new, are_new, SpellsValues}
 use Rattle.step_runner.specs.Stretches.{Stretch}
 use Rattle.step_runner.specs.Trace.{SpellStates, SpellsTrace}
-use Rattle.step_values.specs.StatesOf.{HasJust}
+use Rattle.step_moves.specs.StatesOf.{HasJust}
 
 abbrev equal : Word → Word → Bool
 equal = pointwise ◌==◌

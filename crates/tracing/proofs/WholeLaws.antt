@@ -29,7 +29,7 @@ use Rattle.step_runner.specs.Config.{SpellsConfig, ConfigOffends, constants_of}
 use Rattle.step_runner.specs.Explained.{state_of, explained}
 use Rattle.step_runner.specs.Shown.{trace_text}
 use Rattle.step_runner.specs.Trace.{SpellsTrace, TraceOffends}
-use Rattle.step_values.specs.StatesOf.{HasJust}
+use Rattle.step_moves.specs.StatesOf.{HasJust}
 use Rattle.run_answer.specs.Chosen.{Right, algorithm_in}
 use Rattle.explained_traces.specs.declared.explaining.Explained.{Explained}
 use Rattle.explained_traces.specs.declared.explaining.Halt.{Halt as Halted}

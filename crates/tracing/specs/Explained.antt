@@ -5,11 +5,11 @@ use Rattle.tla_value.specs.States.{Entries}
 use Rattle.pcal_tree.specs.Program.{Program}
 use Rattle.pcal_tree.specs.Variables.{vars}
 use Rattle.module_tree.specs.Module.{Module}
-use Rattle.step_program.specs.declared.program.Program as code
-use Rattle.step_program.specs.Programs.{program_at}
+use Rattle.step_moves.specs.declared.program.Program as code
+use Rattle.step_moves.specs.Programs.{program_at}
 use Rattle.step_runner.specs.Explained.{state_of, explained}
 use Rattle.step_runner.specs.Shown.{trace_text}
-use Rattle.step_values.specs.StatesOf.{HasJust}
+use Rattle.step_moves.specs.StatesOf.{HasJust}
 use Rattle.running.specs.declared.made.Grounds.{Grounds}
 use Rattle.running.specs.Ready.{CanFollow}
 use Rattle.written_traces.specs.WrittenTraces.{explained_once}

@@ -4,7 +4,7 @@ ghost use Rattle.std.specs.Prelude.{IfOk};
 ghost use Rattle.std.specs.List.{AllByRecursion};
 ghost use Rattle.tla_value.specs.States.{Entries};
 ghost use Rattle.module_tree.specs.Module.{Module};
-ghost use Rattle.step_values.specs.StatesOf.{HasJust};
+ghost use Rattle.step_moves.specs.StatesOf.{HasJust};
 ghost use Rattle.running.specs.GroundsOf.{AreGrounds};
 ghost use Rattle.running.specs.Ready.{CanRun, program_read};
 ghost use Rattle.tracing.specs.Beside.{variables_read};
@@ -18,7 +18,7 @@ use checking::check::Checked;
 use explained_traces::{Explained, explain};
 use running::{Grounds, run_definitions, stage, with_default};
 use std::alloc::{AllocError, Global};
-use step_program::Program;
+use step_moves::Program;
 use tla_pool::Pool;
 use tla_value::state::State;
 

@@ -21,8 +21,8 @@ use Rattle.algorithm_answer.specs.Joined.{joined}
 use Rattle.algorithm_answer.proofs.Joins.{joined_assoc, joined_none, first_append}
 use Rattle.algorithm_limits.specs.DepthsIn.{Hides}
 use Rattle.algorithm_limits.proofs.BoundLemmas.{hides_then, hides_as}
-use Rattle.outside_sight.specs.SightIn.{Binds}
-use Rattle.outside_sight.proofs.SightLaws.{binds_all}
+use Rattle.module_outside.specs.SightIn.{Binds}
+use Rattle.module_outside.proofs.SightLaws.{binds_all}
 use Rattle.use_rules.specs.declared.using.NameUse.{NameUse}
 use Rattle.use_rules.specs.declared.using.Use.TheVariants as known
 use Rattle.use_rules.specs.declared.found.Found.{Found}

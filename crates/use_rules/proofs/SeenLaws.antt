@@ -20,12 +20,12 @@ use Rattle.pcal_tree.specs.NameUses.{takes, standard, use_of, knowing, known_sta
 use Rattle.pcal_tree.specs.OffencesNames.{always_known, defined_outside}
 use Rattle.pcal_tree.specs.laws.MacroUses.{offences_as}
 use Rattle.algorithm_limits.proofs.Tables.{equal}
-use Rattle.outside_sight.specs.declared.modules.Modules.{Modules}
-use Rattle.outside_sight.specs.declared.standard.Giver.TheVariants as giver
-use Rattle.outside_sight.specs.declared.standard.Standard.{Standard}
-use Rattle.outside_sight.specs.ModulesIn.{AreModules, gives, given, standard_of}
-use Rattle.outside_units.specs.declared.passed.Passed.{Passed}
-use Rattle.outside_units.specs.Passing.{passed_seen}
+use Rattle.module_outside.specs.declared.modules.Modules.{Modules}
+use Rattle.module_outside.specs.declared.standard.Giver.TheVariants as giver
+use Rattle.module_outside.specs.declared.standard.Standard.{Standard}
+use Rattle.module_outside.specs.ModulesIn.{AreModules, gives, given, standard_of}
+use Rattle.module_outside.specs.declared.passed.Passed.{Passed}
+use Rattle.module_outside.specs.Passing.{passed_seen}
 use Rattle.module_outside.specs.declared.definition.ReadDefinition.{ReadDefinition}
 use Rattle.module_outside.specs.OutsideAt.{definition_seen}
 use Rattle.use_rules.specs.declared.using.Kind.{Kind}

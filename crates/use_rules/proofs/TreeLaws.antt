@@ -17,7 +17,7 @@ use Rattle.algorithm_limits.specs.Literals.{are_literals}
 use Rattle.algorithm_limits.proofs.BoundLemmas.{hides_none, hides_then, hides_as, first_kept, seen_first, seen_more}
 use Rattle.algorithm_limits.proofs.LiteralLaws.{each_literal, first_literal, more_literals}
 use Rattle.outside_reading.specs.TreeDepth.{first_names, more_names}
-use Rattle.outside_sight.proofs.DepthLaws.{part_sees}
+use Rattle.module_outside.proofs.DepthLaws.{part_sees}
 use Rattle.use_rules.specs.declared.found.Found.{Found}
 use Rattle.use_rules.specs.Telling.{told_by, Inside}
 use Rattle.use_rules.specs.Finding.{told, Tells, TellsParts}

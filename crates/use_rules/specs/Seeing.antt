@@ -8,9 +8,9 @@ use Rattle.tla_tree.specs.Tree.{Word}
 use Rattle.pcal_tree.specs.NameUses as names
 use Rattle.pcal_tree.specs.NameUses.{use_of}
 use Rattle.pcal_tree.specs.laws.MacroUses.{offences_as}
-use Rattle.outside_sight.specs.declared.modules.Modules.{Modules}
-use Rattle.outside_sight.specs.declared.standard.Standard.{Standard}
-use Rattle.outside_sight.specs.ModulesIn.{given, standard_of}
+use Rattle.module_outside.specs.declared.modules.Modules.{Modules}
+use Rattle.module_outside.specs.declared.standard.Standard.{Standard}
+use Rattle.module_outside.specs.ModulesIn.{given, standard_of}
 use Rattle.use_rules.specs.declared.using.Kind.{Kind}
 use Rattle.use_rules.specs.declared.using.Use.{Use}
 use Rattle.use_rules.specs.declared.using.Use.TheVariants as known

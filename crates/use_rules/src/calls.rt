@@ -18,7 +18,7 @@ use crate::found::Found;
 use crate::macros::Callees;
 use crate::using::{Kind, NameUse, Use, offence_as};
 use algorithm_limits::order::or_offence;
-use outside_sight::standard::is;
+use module_outside::standard::is;
 use std::alloc::AllocError;
 use tla_pool::Pool;
 use tla_pool::form::{Form, Strict};

@@ -12,7 +12,7 @@ ghost use Rattle.pcal_tree.specs.NameUses as names;
 ghost use Rattle.pcal_tree.specs.OffencesNames.{Calls, in_start, in_declared, in_whole, in_body, in_definitions, in_procedure, in_process, in_main, defined_inside};
 ghost use Rattle.pcal_tree.specs.Variables.{declared};
 ghost use Rattle.algorithm_limits.specs.DepthsIn.{Hides};
-ghost use Rattle.outside_sight.specs.SightIn.{Binds};
+ghost use Rattle.module_outside.specs.SightIn.{Binds};
 ghost use Rattle.use_rules.specs.Finding.{told, Tells};
 ghost use Rattle.use_rules.specs.Calling.{Means};
 ghost use Rattle.use_rules.specs.Seeing.{within_use, Sees};

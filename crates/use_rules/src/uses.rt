@@ -2,7 +2,7 @@
 
 ghost use Rattle.std.specs.Prelude.{◌≡◌, ◌≤◌, length, IfOk};
 ghost use Rattle.tla_tree.specs.Tree.{words};
-ghost use Rattle.outside_sight.specs.ModulesIn.{AreModules};
+ghost use Rattle.module_outside.specs.ModulesIn.{AreModules};
 ghost use Rattle.pcal_tree.specs.InMemory.{algorithm_at, past_algorithm};
 ghost use Rattle.pcal_tree.specs.Offences.{first};
 ghost use Rattle.pcal_tree.specs.OffencesNames.{use_offences_of};
@@ -13,8 +13,8 @@ use crate::found::Found;
 use crate::macros::Callees;
 use crate::sight::{Sight, modules_among};
 use algorithm_limits::order::least;
+use module_outside::modules::Modules;
 use module_outside::outside::Outside;
-use outside_sight::modules::Modules;
 use pcal_tree::algorithm::Algorithm;
 use std::alloc::{AllocError, Global};
 use tla_pool::Pool;

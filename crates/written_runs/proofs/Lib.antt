@@ -5,3 +5,7 @@ pub mod StandLaws
 pub mod SpotsPut
 pub mod OwnSpotLaws
 pub mod Rows
+pub mod SearchLaws
+pub mod RestLaws
+pub mod WrittenLaws
+pub mod TroubleRows

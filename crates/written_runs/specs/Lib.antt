@@ -3,3 +3,5 @@ pub mod Ways
 pub mod WrittenRuns
 pub mod Stands
 pub mod OwnSpots
+pub mod Searches
+pub mod WrittenTroubles

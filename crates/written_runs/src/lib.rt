@@ -1,4 +1,4 @@
-//! Runs that take their steps with the written names: they are those that follow a script.
+//! Runs and the first trouble by the written names: they are those of the meaning, for accepted algorithms.
 #![tactic(auto)]
 
 pub mod laws;

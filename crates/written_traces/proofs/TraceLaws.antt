@@ -14,7 +14,7 @@ use Rattle.module_tree.specs.Module.{Module}
 use Rattle.module_tree.specs.ModuleTruth.{next_holds, init_holds}
 use Rattle.step_runner.specs.Explained.{trouble_in, told, after_verdict, pairs_explained, states_explained, explained_by, explained}
 use Rattle.translation.specs.laws.AcceptedAlgorithm.{IsAcceptedInFile}
-use Rattle.trouble_walks.proofs.WrittenLaws.{all_same}
+use Rattle.written_runs.proofs.WrittenLaws.{all_same}
 use Rattle.written_traces.specs.WrittenTraces.{pairs_explained_once, states_explained_once, explained_for, explained_once}
 use Rattle.written_traces.proofs.WrittenStarts.{asked_written}
 

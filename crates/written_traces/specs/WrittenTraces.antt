@@ -9,7 +9,7 @@ use Rattle.pcal_tree.specs.Variables.{on_variables}
 use Rattle.module_tree.specs.Module.{Module}
 use Rattle.module_tree.specs.ModuleTruth.{next_holds, init_holds}
 use Rattle.step_runner.specs.Explained.{Explained, troubled, trouble_in, told, after_verdict}
-use Rattle.trouble_walks.specs.WrittenTroubles.{written_trouble_of_all}
+use Rattle.written_runs.specs.WrittenTroubles.{written_trouble_of_all}
 use Rattle.written_traces.specs.AskedStarts.{as_written, start_asked}
 
 -- the trouble that is met while it is looked whether a state is initial

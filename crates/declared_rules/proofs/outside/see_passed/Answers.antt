@@ -1,5 +1,5 @@
 -- Proves that the names of units that are passed on are seen.
-use Rattle.outside_units.specs.declared.passed.Passed.{Passed}
+use Rattle.module_outside.specs.declared.passed.Passed.{Passed}
 use Rattle.algorithm_limits.proofs.BoundLemmas.{hides_as}
 use Rattle.declared_rules.proofs.TitleLaws.{hides_more, hides_all}
 use Rattle.declared_rules.proofs.outside.see_passed.Goals as goal

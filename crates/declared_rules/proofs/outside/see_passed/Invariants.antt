@@ -1,7 +1,7 @@
 -- What is kept: the names of those that were passed are seen.
 use Rattle.std.proofs.Common.{take}
 use Rattle.std.specs.List.{flat_map}
-use Rattle.outside_units.specs.declared.passed.Passed.{Passed}
+use Rattle.module_outside.specs.declared.passed.Passed.{Passed}
 use Rattle.algorithm_limits.specs.DepthsIn.{Hides}
 use Rattle.declared_rules.proofs.outside.see_passed.Given as goal
 

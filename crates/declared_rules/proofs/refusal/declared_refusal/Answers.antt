@@ -2,7 +2,7 @@
 use Rattle.std.proofs.Common.{◌≡◌, List, Option, IfOk, subst}
 use Rattle.tla_token.specs.declared.rule.Refusal.{Refusal}
 use Rattle.tla_tree.specs.Tree.{Name, words}
-use Rattle.outside_sight.specs.ModulesIn.{AreModules}
+use Rattle.module_outside.specs.ModulesIn.{AreModules}
 use Rattle.module_outside.specs.WholeAt.{outside_at}
 use Rattle.declared_rules.proofs.SameRefusal.{same_refusal_found}
 use Rattle.declared_rules.proofs.refusal.declared_refusal.Goals as goal

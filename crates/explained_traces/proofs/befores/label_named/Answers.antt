@@ -6,9 +6,9 @@ use Rattle.pcal_tree.specs.Calls.{label_name}
 use Rattle.pcal_tree.specs.FirstTrouble.{stand_named}
 use Rattle.pcal_tree.specs.Step.{Stand, routines_of}
 use Rattle.step_runner.specs.Shown.{stepped}
-use Rattle.step_program.specs.Programs.{program_at}
+use Rattle.step_moves.specs.Programs.{program_at}
 use Rattle.step_spots.specs.InMemory.{routine_at}
-use Rattle.step_program.specs.InMemory.{actor_at}
+use Rattle.step_moves.specs.InMemory.{actor_at}
 use Rattle.step_meaning.specs.StandsAt.{stand_at, IsPlaced}
 use Rattle.step_meaning.proofs.StandLaws.{stand_place, some_prepared, if_some, label_is}
 use Rattle.step_meaning.proofs.StepLaws.{before_is}

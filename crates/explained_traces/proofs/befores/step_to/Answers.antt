@@ -1,7 +1,7 @@
 -- Proves that the step is told of the process that is found, from where it is.
 use Rattle.std.proofs.Common.{None, sym, ap, ◌∙◌}
 use Rattle.std.specs.Option.{option_map}
-use Rattle.step_program.specs.InMemory.{actor_at}
+use Rattle.step_moves.specs.InMemory.{actor_at}
 use Rattle.followed_runs.proofs.OwnLaws.{one_own}
 use Rattle.step_meaning.proofs.StandLaws.{if_some}
 use Rattle.explained_traces.proofs.BeforeLaws.{before_is, unread_before, read_before}

@@ -1,7 +1,7 @@
 -- What the loop keeps: the process that is found from here on is the one that is found among all.
 use Rattle.std.proofs.Common.{◌≡◌, drop, map}
 use Rattle.module_tree.specs.Module.{Module}
-use Rattle.step_program.specs.InMemory.{actor_at}
+use Rattle.step_moves.specs.InMemory.{actor_at}
 use Rattle.step_runner.specs.Shown.{first_holding}
 use Rattle.action_truth.specs.AskedOf.{IsAsked}
 use Rattle.explained_traces.specs.Judging.{mine_of}

@@ -3,10 +3,10 @@ use Rattle.std.proofs.Common.{Ok, refl, ◌∙◌, ap, sym, map}
 use Rattle.tla_value.specs.States.{value_of}
 use Rattle.pcal_tree.specs.Processes.{actors}
 use Rattle.run_files.specs.InMemory.{trouble_of}
-use Rattle.step_values.specs.StatesOf.{state_of}
+use Rattle.step_moves.specs.StatesOf.{state_of}
 use Rattle.step_meaning.proofs.StandLaws.{if_ok}
-use Rattle.step_program.specs.InMemory.{actor_at}
-use Rattle.step_program.specs.Programs.{program_at}
+use Rattle.step_moves.specs.InMemory.{actor_at}
+use Rattle.step_moves.specs.Programs.{program_at}
 use Rattle.followed_runs.proofs.OwnLaws.{all_own}
 use Rattle.explained_traces.proofs.TraceLaws.{told_shown, untold_shown}
 use Rattle.explained_traces.proofs.explaining.add_all.Goals as goal

@@ -1,7 +1,7 @@
 -- Proves that each state goes on as the trace does, and that one that isn't shown is where it stops.
 use Rattle.std.proofs.Common.{refl, sym, ap, ◌∙◌, arith}
 use Rattle.tla_value.specs.States.{value_of}
-use Rattle.step_values.specs.StatesOf.{state_of}
+use Rattle.step_moves.specs.StatesOf.{state_of}
 use Rattle.followed_runs.specs.Parties.{program_of, actors_of}
 use Rattle.explained_traces.specs.Halts.{halt_by, halt_of}
 use Rattle.explained_traces.specs.Judging.{IsState}

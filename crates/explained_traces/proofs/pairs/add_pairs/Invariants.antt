@@ -1,7 +1,7 @@
 -- What the loop keeps: the states that are left go on from here as all do from the first one.
 use Rattle.tla_value.specs.States.{value_of}
 use Rattle.module_tree.specs.Module.{Module}
-use Rattle.step_values.specs.StatesOf.{state_of}
+use Rattle.step_moves.specs.StatesOf.{state_of}
 use Rattle.action_truth.specs.AskedOf.{IsAsked}
 use Rattle.followed_runs.specs.Parties.{program_of, actors_of}
 use Rattle.explained_traces.specs.Judging.{IsState}

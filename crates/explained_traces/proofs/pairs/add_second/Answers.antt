@@ -1,7 +1,7 @@
 -- Proves that the text of the state is added, behind the step that leads to it.
 use Rattle.std.proofs.Common.{◌++◌, sym, ap, ◌∙◌}
 use Rattle.step_runner.specs.Shown.{Before, state_text}
-use Rattle.step_values.specs.StatesOf.{state_of}
+use Rattle.step_moves.specs.StatesOf.{state_of}
 use Rattle.step_meaning.proofs.FlowLaws.{on_ok}
 use Rattle.followed_runs.specs.Parties.{program_of}
 use Rattle.explained_traces.specs.Shows.{before_by}

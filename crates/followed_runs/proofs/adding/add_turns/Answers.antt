@@ -1,5 +1,5 @@
 -- Proves that each step goes on as the script does, and that one that isn't taken is where it stops.
-use Rattle.step_values.specs.StatesOf.{state_of}
+use Rattle.step_moves.specs.StatesOf.{state_of}
 use Rattle.followed_runs.specs.Parties.{program_of, actors_of}
 use Rattle.followed_runs.proofs.FollowLaws.{next_from, ends_shown}
 use Rattle.followed_runs.proofs.adding.add_turns.Goals as goal

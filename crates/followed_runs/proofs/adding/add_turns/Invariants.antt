@@ -1,6 +1,6 @@
 -- What the loop keeps: the steps that are left go on from here as all do from the first state.
-use Rattle.step_values.specs.StatesOf.{state_of}
-use Rattle.step_values.specs.ScopeIn.{IsScene}
+use Rattle.step_moves.specs.StatesOf.{state_of}
+use Rattle.step_moves.specs.ScopeIn.{IsScene}
 use Rattle.followed_runs.specs.Parties.{program_of, actors_of}
 use Rattle.followed_runs.proofs.FollowLaws.{GoingFrom}
 use Rattle.followed_runs.proofs.adding.add_turns.Given as goal

@@ -2,7 +2,7 @@
 use Rattle.std.proofs.Common.{◌++◌, Option, sym, ap, ◌∙◌}
 use Rattle.tla_value.specs.Value.{Value}
 use Rattle.step_runner.specs.Shown.{Before, stepped, state_text}
-use Rattle.step_values.specs.StatesOf.{state_of}
+use Rattle.step_moves.specs.StatesOf.{state_of}
 use Rattle.followed_runs.specs.Parties.{program_of, actors_of}
 use Rattle.followed_runs.proofs.FollowLaws.{before_by}
 use Rattle.followed_runs.proofs.adding.next_state.Goals as goal

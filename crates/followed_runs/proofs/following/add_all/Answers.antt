@@ -1,7 +1,7 @@
 -- Proves that the processes are those of the program, or that the start is where the run stops.
 use Rattle.std.proofs.Common.{Ok, ◌∙◌, ap, sym, map}
-use Rattle.step_program.specs.InMemory.{actor_at}
-use Rattle.step_program.specs.Programs.{program_at}
+use Rattle.step_moves.specs.InMemory.{actor_at}
+use Rattle.step_moves.specs.Programs.{program_at}
 use Rattle.run_files.specs.Turns.{script_of}
 use Rattle.followed_runs.proofs.OwnLaws.{all_own}
 use Rattle.followed_runs.proofs.FollowLaws.{untold_shown}

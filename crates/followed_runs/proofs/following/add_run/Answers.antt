@@ -1,5 +1,5 @@
 -- Proves that the start is followed by the steps, or that it is where the run stops.
-use Rattle.step_values.specs.StatesOf.{state_of}
+use Rattle.step_moves.specs.StatesOf.{state_of}
 use Rattle.run_files.specs.Turns.{script_of}
 use Rattle.followed_runs.specs.Parties.{program_of, actors_of}
 use Rattle.followed_runs.proofs.FollowLaws.{run_shown}

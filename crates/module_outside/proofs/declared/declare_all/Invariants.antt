@@ -3,7 +3,7 @@ use Rattle.std.proofs.Common.{◌≡◌, ◌≤◌, ◌<◌, ◌-◌, ◌++◌, 
 use Rattle.module_tree.specs.FileUnits.{cut}
 use Rattle.expr_nodes.specs.Ahead.{ahead}
 use Rattle.outside_reading.specs.PlainUnits.{all_modules, all_constants}
-use Rattle.outside_units.specs.Fronts.{front_begins}
+use Rattle.module_outside.specs.Fronts.{front_begins}
 use Rattle.module_outside.proofs.declared.declare_all.Given as goal
 
 abbrev pub invariant-loop-at : goal.invariant-loop-at

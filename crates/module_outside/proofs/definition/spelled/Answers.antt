@@ -1,7 +1,7 @@
 -- A definition is a name, a head and a body.
 use Rattle.std.proofs.Common.{ap, sym, ◌∙◌}
 use Rattle.std.proofs.lemmas.Result.{IfOk-weaker}
-use Rattle.outside_units.specs.Fronts.{names_and_rest}
+use Rattle.module_outside.specs.Fronts.{names_and_rest}
 use Rattle.module_outside.specs.OutsideAt.{definition_found}
 use Rattle.module_outside.proofs.DefinitionLaws.{headed, headless}
 use Rattle.module_outside.proofs.definition.spelled.Goals as goal

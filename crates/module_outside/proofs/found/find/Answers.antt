@@ -3,7 +3,7 @@ use Rattle.std.proofs.Common.{Option, ap, sym, subst, ◌∙◌, refl}
 use Rattle.expr_nodes.specs.Ahead.{ahead}
 use Rattle.module_outside.specs.OutsideAt.{definition_found, with_found}
 use Rattle.module_outside.specs.declared.definition.ReadDefinition.{ReadDefinition}
-use Rattle.outside_sight.specs.SightIn.{Sees}
+use Rattle.module_outside.specs.SightIn.{Sees}
 use Rattle.module_outside.proofs.FoundLaws.{goes_declared, sees_declared, goes_defined, goes_passed, sees_passed}
 use Rattle.module_outside.proofs.found.find.Goals as goal
 

@@ -4,8 +4,8 @@ use Rattle.tla_tree.specs.Pool.{Keeps}
 use Rattle.module_tree.specs.FileUnits.{cut}
 use Rattle.module_tree.specs.Outside as pure
 use Rattle.expr_nodes.specs.Ahead.{ahead}
-use Rattle.outside_units.specs.Fronts.{front_begins}
-use Rattle.outside_sight.specs.SightIn.{Sees}
+use Rattle.module_outside.specs.Fronts.{front_begins}
+use Rattle.module_outside.specs.SightIn.{Sees}
 use Rattle.module_outside.specs.FoundAt.{AreHeld}
 use Rattle.module_outside.proofs.FoundSteps.{Sought}
 use Rattle.module_outside.proofs.found.found_before.Given as goal

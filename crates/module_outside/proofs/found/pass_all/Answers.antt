@@ -3,7 +3,7 @@ use Rattle.std.proofs.Common.{◌<◌, ◌≤◌, ◌++◌, List, length, map, a
 use Rattle.tla_value.specs.Outside.{Opaque}
 use Rattle.module_tree.specs.FileUnits.{cut}
 use Rattle.expr_nodes.specs.Ahead.{ahead}
-use Rattle.outside_units.specs.Passing.{passed_seen}
+use Rattle.module_outside.specs.Passing.{passed_seen}
 use Rattle.module_outside.proofs.UnitSteps.{gathered_more, gathered_first, gathered_all}
 use Rattle.module_outside.proofs.FoundSteps.{passed_of, all_passed, no_sight}
 use Rattle.module_outside.proofs.found.pass_all.Goals as goal

@@ -3,8 +3,8 @@ use Rattle.std.proofs.Common.{◌≡◌, ◌≤◌, ◌<◌, ◌-◌, ◌++◌, 
 use Rattle.std.specs.List.{flat_map}
 use Rattle.module_tree.specs.FileUnits.{cut}
 use Rattle.expr_nodes.specs.Ahead.{ahead}
-use Rattle.outside_units.specs.Fronts.{front_begins}
-use Rattle.outside_units.specs.Passing.{passed_seen}
+use Rattle.module_outside.specs.Fronts.{front_begins}
+use Rattle.module_outside.specs.Passing.{passed_seen}
 use Rattle.module_outside.proofs.FoundSteps.{passed_of}
 use Rattle.module_outside.proofs.found.pass_all.Given as goal
 

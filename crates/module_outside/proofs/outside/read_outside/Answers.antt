@@ -8,7 +8,7 @@ use Rattle.module_tree.specs.FileUnits.{cut}
 use Rattle.module_tree.specs.Outside.{Sight}
 use Rattle.expr_nodes.specs.Ahead.{ahead}
 use Rattle.outside_reading.specs.PlainUnits.{all_modules, all_constants, units_in}
-use Rattle.outside_sight.specs.SightIn.{Sees}
+use Rattle.module_outside.specs.SightIn.{Sees}
 use Rattle.module_outside.proofs.OutsideLaws.{sight_by, outside_is, outside_of_file}
 use Rattle.module_outside.proofs.outside.read_outside.Goals as goal
 

@@ -1,6 +1,6 @@
 -- What the loop keeps: what is there, with the units that are left, is the whole.
 use Rattle.std.proofs.Common.{◌≡◌, ◌++◌, drop, map}
-use Rattle.outside_units.specs.Passing.{passed_seen}
+use Rattle.module_outside.specs.Passing.{passed_seen}
 use Rattle.module_write.specs.InMemory.{opaque_of}
 use Rattle.module_reading.proofs.outside.all_passed.Given as goal
 

@@ -2,9 +2,10 @@
 use Rattle.std.proofs.Common.{map, sym, ap, ◌∙◌, subst}
 use Rattle.tla_tree.specs.Tree.{words}
 use Rattle.tla_value.specs.Defs.{read_at, DefinitionsIn}
-use Rattle.outside_units.specs.Passing.{passed_seen}
-use Rattle.module_reading.specs.InModule.{kept_of}
-use Rattle.module_reading.proofs.OutsideKept.{read_kept, held_kept}
+use Rattle.module_outside.specs.Passing.{passed_seen}
+use Rattle.module_outside.specs.KeptOf.{kept_of}
+use Rattle.module_outside.proofs.KeptLaws.{held_kept}
+use Rattle.module_reading.proofs.OutsideKept.{read_kept}
 use Rattle.module_reading.proofs.outside.as_outside.Goals as goal
 
 pub returns-clause-same : goal.returns-clause-same

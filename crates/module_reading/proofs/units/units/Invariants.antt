@@ -3,7 +3,7 @@ use Rattle.std.proofs.Common.{◌≡◌, ◌≤◌, ◌<◌, ◌-◌, true, leng
 use Rattle.tla_tree.specs.Pool.{Keeps}
 use Rattle.module_tree.specs.FileUnits.{cut}
 use Rattle.expr_nodes.specs.Ahead.{ahead}
-use Rattle.outside_units.specs.Fronts.{front_begins}
+use Rattle.module_outside.specs.Fronts.{front_begins}
 use Rattle.region_made.specs.UnitsAt.{UnitsIn}
 use Rattle.module_reading.proofs.UnitSteps.{SoFar}
 use Rattle.module_reading.proofs.units.units.Given as goal

@@ -1,5 +1,5 @@
 -- Proves that the names of units that are passed on are added.
-use Rattle.outside_units.specs.declared.passed.Passed.{Passed}
+use Rattle.module_outside.specs.declared.passed.Passed.{Passed}
 use Rattle.algorithm_limits.proofs.BoundLemmas.{hides_none, hides_as}
 use Rattle.declared_rules.proofs.TitleLaws.{hides_more, hides_all}
 use Rattle.name_rules.proofs.taken.add_passed.Goals as goal

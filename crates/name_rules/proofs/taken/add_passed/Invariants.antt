@@ -1,7 +1,7 @@
 -- What is kept: the names of the units that were passed are added.
 use Rattle.std.proofs.Common.{take}
 use Rattle.std.specs.List.{flat_map}
-use Rattle.outside_units.specs.declared.passed.Passed.{Passed}
+use Rattle.module_outside.specs.declared.passed.Passed.{Passed}
 use Rattle.algorithm_limits.specs.DepthsIn.{Hides}
 use Rattle.name_rules.proofs.taken.add_passed.Given as goal
 

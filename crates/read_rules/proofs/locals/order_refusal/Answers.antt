@@ -14,8 +14,8 @@ use Rattle.algorithm_limits.specs.Numbers.{Numbers, number_of}
 use Rattle.algorithm_limits.specs.DepthsIn.{Hides}
 use Rattle.algorithm_answer.specs.Joined.{joined}
 use Rattle.early_reads.specs.EarlyReads.{early_in, early_in_locals, variables_of}
-use Rattle.outside_sight.specs.SightIn.{Binds}
-use Rattle.outside_sight.proofs.SightLaws.{none_bound, binds_all}
+use Rattle.module_outside.specs.SightIn.{Binds}
+use Rattle.module_outside.proofs.SightLaws.{none_bound, binds_all}
 use Rattle.read_rules.specs.declared.order.Known.{Known}
 use Rattle.read_rules.specs.NumbersIn.{declared_in}
 use Rattle.read_rules.specs.Order.{Knows}

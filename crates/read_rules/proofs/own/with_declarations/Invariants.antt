@@ -2,7 +2,7 @@
 use Rattle.pcal_tree.specs.Algorithm as tree
 use Rattle.pcal_tree.specs.InMemory.{declaration_at}
 use Rattle.pcal_tree.specs.Variables.{declared}
-use Rattle.outside_sight.specs.SightIn.{Binds}
+use Rattle.module_outside.specs.SightIn.{Binds}
 use Rattle.read_rules.specs.Own.{own_in_declaration}
 use Rattle.read_rules.proofs.FoundLaws.{Found}
 use Rattle.read_rules.proofs.own.with_declarations.Given as goal

@@ -9,8 +9,8 @@ use Rattle.pcal_tree.specs.InMemory.{declarations_at, process_at}
 use Rattle.pcal_tree.specs.Offences.{first}
 use Rattle.algorithm_limits.specs.DepthsIn.{Hides}
 use Rattle.algorithm_answer.specs.Joined.{joined}
-use Rattle.outside_sight.specs.SightIn.{Binds}
-use Rattle.outside_sight.proofs.SightLaws.{binds_all}
+use Rattle.module_outside.specs.SightIn.{Binds}
+use Rattle.module_outside.proofs.SightLaws.{binds_all}
 use Rattle.read_rules.specs.NumbersIn.{declared_in}
 use Rattle.read_rules.specs.Own.{own_in_declaration}
 use Rattle.read_rules.proofs.NumberLaws.{declared_is}

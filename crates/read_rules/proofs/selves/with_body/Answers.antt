@@ -10,8 +10,8 @@ use Rattle.pcal_tree.specs.OffencesSelf.{selves}
 use Rattle.algorithm_answer.specs.Joined.{joined}
 use Rattle.early_reads.specs.BodyNames.{names_in}
 use Rattle.early_reads.proofs.NamesOfBodies.{body_names}
-use Rattle.outside_sight.specs.SightIn.{Binds}
-use Rattle.outside_sight.proofs.SightLaws.{none_bound}
+use Rattle.module_outside.specs.SightIn.{Binds}
+use Rattle.module_outside.proofs.SightLaws.{none_bound}
 use Rattle.read_rules.specs.Using.{if_self}
 use Rattle.read_rules.proofs.SelfLaws.{selves_kept}
 use Rattle.read_rules.proofs.selves.with_body.Goals as goal

@@ -5,7 +5,7 @@ use Rattle.tla_tree.specs.Pool.{at}
 use Rattle.pcal_tree.specs.Algorithm.{Name}
 use Rattle.pcal_tree.specs.Reads.{used}
 use Rattle.algorithm_limits.specs.DepthsIn.{Hides}
-use Rattle.outside_sight.proofs.SightLaws.{binds_all}
+use Rattle.module_outside.proofs.SightLaws.{binds_all}
 use Rattle.read_rules.proofs.used.used_names.Goals as goal
 
 pub returns : goal.returns

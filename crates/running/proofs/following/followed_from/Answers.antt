@@ -1,8 +1,8 @@
 -- Proves that it is a stage, and that what is followed from it is followed by the written names.
 use Rattle.std.proofs.Common.{sym, ap, ◌∙◌}
 use Rattle.pcal_tree.specs.Variables.{vars}
-use Rattle.step_program.specs.declared.program.Program as code
-use Rattle.step_program.specs.Programs.{program_at}
+use Rattle.step_moves.specs.declared.program.Program as code
+use Rattle.step_moves.specs.Programs.{program_at}
 use Rattle.run_files.specs.Turns.{script_of}
 use Rattle.running.proofs.FollowLaws.{once_told}
 use Rattle.running.proofs.following.followed_from.Goals as goal

@@ -3,8 +3,8 @@ use Rattle.std.proofs.Common.{List, ap, map, ◌∙◌, arith}
 use Rattle.tla_tree.specs.Nesting.{greatest}
 use Rattle.pcal_tree.specs.declared.algorithm.Procedure.{Procedure}
 use Rattle.pcal_tree.specs.InMemory.{procedure_at, past_procedure}
-use Rattle.step_program.specs.Programs.{program_at}
-use Rattle.prepared_program.proofs.LabelLaws.{procedures_begin_labelled}
+use Rattle.step_moves.specs.Programs.{program_at}
+use Rattle.running.proofs.LabelLaws.{procedures_begin_labelled}
 use Rattle.running.proofs.standing.stage.Goals as goal
 
 pub returns-clause-stands : goal.returns-clause-stands

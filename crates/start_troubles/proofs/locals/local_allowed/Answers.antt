@@ -1,8 +1,8 @@
 -- Proves that the value is asked as it is declared, by whose the variable is.
 use Rattle.std.proofs.Common.{subst}
 use Rattle.step_spots.specs.InMemory.{routine_at}
-use Rattle.step_program.specs.Programs.{program_at}
-use Rattle.step_values.specs.StatesOf.{state_of}
+use Rattle.step_moves.specs.Programs.{program_at}
+use Rattle.step_moves.specs.StatesOf.{state_of}
 use Rattle.start_troubles.specs.declared.locals.Owners.{Owners}
 use Rattle.start_troubles.specs.Owned.{IsOrdered, AreOf}
 use Rattle.start_troubles.proofs.LocalLaws.{each_have, first_has}

@@ -5,9 +5,9 @@ use Rattle.tla_tree.proofs.PoolNumbers.{past_at}
 use Rattle.pcal_tree.specs.InMemory.{past_start, past_declaration}
 use Rattle.value_forms.proofs.StopLaws.{tells_err}
 use Rattle.step_spots.specs.InMemory.{routine_at}
-use Rattle.step_program.specs.Programs.{program_at}
-use Rattle.step_values.specs.StatesOf.{state_of}
-use Rattle.step_values.proofs.SettingLists.{found}
+use Rattle.step_moves.specs.Programs.{program_at}
+use Rattle.step_moves.specs.StatesOf.{state_of}
+use Rattle.step_moves.proofs.SettingLists.{found}
 use Rattle.step_meaning.proofs.LocalLaws.{prepared_at}
 use Rattle.start_troubles.proofs.AskedLaws.{all_asked, stops_is, asked_next, asked_not, asked_stops, asked_done}
 use Rattle.start_troubles.proofs.LocalLaws.{one_local, locals_all}

@@ -2,8 +2,8 @@
 use Rattle.std.proofs.Common.{Bool, List}
 use Rattle.pcal_tree.specs.Program.{Actor}
 use Rattle.step_spots.specs.InMemory.{routine_at}
-use Rattle.step_program.specs.Programs.{program_at}
-use Rattle.step_values.specs.StatesOf.{state_of}
+use Rattle.step_moves.specs.Programs.{program_at}
+use Rattle.step_moves.specs.StatesOf.{state_of}
 use Rattle.start_troubles.specs.Owned.{AreOf}
 use Rattle.start_troubles.proofs.AskedLaws.{AskedFrom}
 use Rattle.start_troubles.proofs.LocalLaws.{one_local}

@@ -1,5 +1,5 @@
 -- Proves that the value is asked as it is declared.
-use Rattle.step_values.specs.StatesOf.{state_of}
+use Rattle.step_moves.specs.StatesOf.{state_of}
 use Rattle.start_troubles.proofs.AskedLaws.{tells_is}
 use Rattle.start_troubles.proofs.LocalLaws.{global_seen}
 use Rattle.start_troubles.proofs.plain.global_allowed.Goals as goal

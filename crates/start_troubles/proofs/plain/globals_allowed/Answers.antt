@@ -4,7 +4,7 @@ use Rattle.tla_tree.specs.Nesting.{greatest}
 use Rattle.tla_tree.proofs.PoolNumbers.{past_at}
 use Rattle.pcal_tree.specs.InMemory.{past_start, past_declaration}
 use Rattle.value_forms.proofs.StopLaws.{tells_err}
-use Rattle.step_values.specs.StatesOf.{state_of}
+use Rattle.step_moves.specs.StatesOf.{state_of}
 use Rattle.start_troubles.proofs.AskedLaws.{all_asked, stops_is, asked_next, asked_not, asked_stops, asked_done}
 use Rattle.start_troubles.proofs.LocalLaws.{one_global, globals_all}
 use Rattle.start_troubles.proofs.plain.globals_allowed.Goals as goal

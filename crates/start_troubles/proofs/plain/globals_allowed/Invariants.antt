@@ -1,5 +1,5 @@
 -- What the loop keeps: those so far are allowed.
-use Rattle.step_values.specs.StatesOf.{state_of}
+use Rattle.step_moves.specs.StatesOf.{state_of}
 use Rattle.start_troubles.proofs.AskedLaws.{AskedFrom}
 use Rattle.start_troubles.proofs.LocalLaws.{one_global}
 use Rattle.start_troubles.proofs.plain.globals_allowed.Given as goal

@@ -1,7 +1,7 @@
 -- Proves that parameters are asked, and then variables.
 use Rattle.std.proofs.Common.{Bool, Ok, ap, ◌∙◌}
 use Rattle.value_forms.proofs.StopLaws.{tells_err}
-use Rattle.step_values.specs.StatesOf.{state_of}
+use Rattle.step_moves.specs.StatesOf.{state_of}
 use Rattle.step_meaning.proofs.ReadiedLaws.{params_many, variables_many}
 use Rattle.start_troubles.proofs.LocalLaws.{params_stop, params_not, variables_rest}
 use Rattle.start_troubles.proofs.routines.owned_allowed.Goals as goal

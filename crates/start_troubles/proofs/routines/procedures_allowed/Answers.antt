@@ -8,11 +8,11 @@ use Rattle.pcal_tree.specs.Algorithm as tree
 use Rattle.pcal_tree.specs.Algorithm.{Routine, procedure_routine, numbered, first_procedure}
 use Rattle.pcal_tree.specs.InMemory.{procedure_at, past_procedure}
 use Rattle.pcal_tree.specs.Variables.{written_by_all, vars}
-use Rattle.step_program.specs.InMemory.{actor_at}
+use Rattle.step_moves.specs.InMemory.{actor_at}
 use Rattle.value_forms.proofs.StopLaws.{tells_err}
-use Rattle.step_program.specs.Programs.{program_at}
-use Rattle.step_values.specs.StatesOf.{state_of}
-use Rattle.step_values.proofs.SettingLists.{found}
+use Rattle.step_moves.specs.Programs.{program_at}
+use Rattle.step_moves.specs.StatesOf.{state_of}
+use Rattle.step_moves.proofs.SettingLists.{found}
 use Rattle.step_moves.specs.Prepared.{prepared_procedure}
 use Rattle.step_meaning.proofs.RoutineLaws.{procedures_among, routine_known, numbered_at}
 use Rattle.written_traces.specs.AskedStarts.{as_written}

@@ -2,9 +2,9 @@
 use Rattle.std.proofs.Common.{map}
 use Rattle.pcal_tree.specs.Algorithm.{procedure_routine, first_procedure}
 use Rattle.pcal_tree.specs.InMemory.{procedure_at}
-use Rattle.step_program.specs.InMemory.{actor_at}
-use Rattle.step_program.specs.Programs.{program_at}
-use Rattle.step_values.specs.StatesOf.{state_of}
+use Rattle.step_moves.specs.InMemory.{actor_at}
+use Rattle.step_moves.specs.Programs.{program_at}
+use Rattle.step_moves.specs.StatesOf.{state_of}
 use Rattle.written_traces.specs.AskedStarts.{as_written}
 use Rattle.start_troubles.specs.Asked.{procedure_asked}
 use Rattle.start_troubles.proofs.RoutineLaws.{TurnsFrom}

@@ -3,10 +3,10 @@ use Rattle.std.proofs.Common.{◌∷◌, List, map, true, false, sym, subst, ◌
 use Rattle.tla_value.specs.Order.{IsAscending}
 use Rattle.tla_value.specs.Value.{Value, values_in}
 use Rattle.pcal_tree.specs.Algorithm.{locals}
-use Rattle.step_program.specs.InMemory.{actor_at}
+use Rattle.step_moves.specs.InMemory.{actor_at}
 use Rattle.step_spots.specs.InMemory.{routine_at}
-use Rattle.step_program.specs.Programs.{program_at}
-use Rattle.step_values.specs.StatesOf.{state_of}
+use Rattle.step_moves.specs.Programs.{program_at}
+use Rattle.step_moves.specs.StatesOf.{state_of}
 use Rattle.step_meaning.specs.Identified.{those, HaveThese}
 use Rattle.step_meaning.proofs.ActorLaws.{ascending_of}
 use Rattle.step_meaning.proofs.ReadiedLaws.{first_none, first_some}

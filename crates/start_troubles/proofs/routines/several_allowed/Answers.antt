@@ -8,10 +8,10 @@ use Rattle.pcal_tree.specs.Algorithm as tree
 use Rattle.pcal_tree.specs.Algorithm.{Routine, process_routine, main_routines, numbered, first_process}
 use Rattle.pcal_tree.specs.InMemory.{process_at, past_process}
 use Rattle.pcal_tree.specs.Variables.{written_by_all, vars}
-use Rattle.step_program.specs.InMemory.{actor_at}
+use Rattle.step_moves.specs.InMemory.{actor_at}
 use Rattle.value_forms.proofs.StopLaws.{tells_err}
-use Rattle.step_program.specs.Programs.{program_at}
-use Rattle.step_values.specs.StatesOf.{state_of}
+use Rattle.step_moves.specs.Programs.{program_at}
+use Rattle.step_moves.specs.StatesOf.{state_of}
 use Rattle.step_moves.specs.Prepared.{prepared_process}
 use Rattle.step_meaning.proofs.RoutineLaws.{processes_among, routine_known, numbered_at}
 use Rattle.written_traces.specs.AskedStarts.{as_written}

@@ -3,8 +3,8 @@ use Rattle.std.proofs.Common.{ap, ◌∙◌}
 use Rattle.std.specs.Ordering.{is_eq}
 use Rattle.pcal_tree.specs.InMemory.{start_at}
 use Rattle.step_spots.specs.InMemory.{routine_at}
-use Rattle.step_program.specs.Programs.{program_at}
-use Rattle.step_values.specs.StatesOf.{state_of}
+use Rattle.step_moves.specs.Programs.{program_at}
+use Rattle.step_moves.specs.StatesOf.{state_of}
 use Rattle.start_troubles.proofs.GivenLaws.{given_compared, given_stops}
 use Rattle.start_troubles.proofs.spread.is_first.Goals as goal
 

@@ -7,9 +7,9 @@ use Rattle.pcal_tree.specs.declared.algorithm.Start.{Start}
 use Rattle.pcal_tree.specs.InMemory.{start_at}
 use Rattle.pcal_tree.specs.Scope.{value_of}
 use Rattle.step_spots.specs.InMemory.{routine_at}
-use Rattle.step_program.specs.Programs.{program_at}
-use Rattle.step_values.specs.StatesOf.{state_of}
-use Rattle.step_values.specs.ScopeIn.{scope_in}
+use Rattle.step_moves.specs.Programs.{program_at}
+use Rattle.step_moves.specs.StatesOf.{state_of}
+use Rattle.step_moves.specs.ScopeIn.{scope_in}
 use Rattle.written_traces.specs.AskedStarts.{as_written, spread_asked}
 use Rattle.start_troubles.proofs.GivenLaws.{members_tell}
 use Rattle.start_troubles.proofs.spread.spread_allowed.Goals as goal

@@ -5,10 +5,10 @@ use Rattle.pcal_tree.specs.declared.algorithm.Declaration.{Declaration}
 use Rattle.pcal_tree.specs.declared.algorithm.Procedure.{Procedure}
 use Rattle.pcal_tree.specs.Algorithm.{first_procedure, procedure_routine, procedure_routines, main_routines, numbered}
 use Rattle.pcal_tree.specs.InMemory.{declarations_at, procedure_at}
-use Rattle.step_program.specs.InMemory.{actor_at}
+use Rattle.step_moves.specs.InMemory.{actor_at}
 use Rattle.value_forms.proofs.StopLaws.{tells_err}
-use Rattle.step_program.specs.Programs.{program_at}
-use Rattle.step_values.specs.StatesOf.{state_of}
+use Rattle.step_moves.specs.Programs.{program_at}
+use Rattle.step_moves.specs.StatesOf.{state_of}
 use Rattle.step_moves.specs.Prepared.{prepared_procedure}
 use Rattle.step_meaning.proofs.ActorLaws.{actors_ascend}
 use Rattle.step_meaning.proofs.RoutineLaws.{numbered_many}

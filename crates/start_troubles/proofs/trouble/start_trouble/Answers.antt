@@ -2,9 +2,9 @@
 use Rattle.std.proofs.Common.{map}
 use Rattle.pcal_tree.specs.Algorithm.{procedure_routines, main_routines}
 use Rattle.pcal_tree.specs.InitialStates.{stack_allowed, pc_allowed}
-use Rattle.step_program.specs.InMemory.{actor_at}
-use Rattle.step_program.specs.Programs.{program_at}
-use Rattle.step_values.specs.StatesOf.{state_of}
+use Rattle.step_moves.specs.InMemory.{actor_at}
+use Rattle.step_moves.specs.Programs.{program_at}
+use Rattle.step_moves.specs.StatesOf.{state_of}
 use Rattle.written_traces.specs.AskedStarts.{as_written, globals_asked, procedures_asked, processes_asked}
 use Rattle.start_troubles.proofs.TroubleLaws.{none_met, trouble_met}
 use Rattle.start_troubles.proofs.trouble.start_trouble.Goals as goal

@@ -5,8 +5,8 @@ use Rattle.pcal_tree.specs.InMemory.{binds_at}
 use Rattle.pcal_tree.specs.Scope.{State, Scope}
 use Rattle.step_walks.specs.Flows.{Flow}
 use Rattle.step_walks.specs.StepFlows.{flow_binds}
-use Rattle.step_program.specs.Programs.{program_at}
-use Rattle.step_values.specs.StatesOf.{state_of}
+use Rattle.step_moves.specs.Programs.{program_at}
+use Rattle.step_moves.specs.StatesOf.{state_of}
 use Rattle.step_flow.specs.Binding.{StillBound}
 use Rattle.step_flow.specs.Ends.{left_of, scope_of, Stands}
 use Rattle.step_flow.proofs.binds.bind_all.Given as goal

@@ -1,12 +1,12 @@
 -- Proves that one name more is bound.
 use Rattle.std.proofs.Common.{[], ◌∷◌, ◌++◌, refl, ap, ◌∙◌}
 use Rattle.tla_tree.specs.Tree.{Word}
-use Rattle.step_values.specs.declared.values.Bound.{Bound}
+use Rattle.step_moves.specs.declared.values.Bound.{Bound}
 use Rattle.pcal_tree.specs.Scope.{Scope}
 use Rattle.tla_value.specs.Limits.{bounded}
 use Rattle.step_walks.specs.StepFlows.{flow_binds}
-use Rattle.step_program.specs.Programs.{program_at}
-use Rattle.step_values.specs.StatesOf.{state_of}
+use Rattle.step_moves.specs.Programs.{program_at}
+use Rattle.step_moves.specs.StatesOf.{state_of}
 use Rattle.step_flow.specs.Ends.{left_of}
 use Rattle.step_flow.proofs.BindLaws.{one_more}
 use Rattle.step_flow.proofs.binds.bind_one.Goals as goal

@@ -1,6 +1,6 @@
 -- Proves what is bound.
-use Rattle.step_program.specs.Programs.{program_at}
-use Rattle.step_values.specs.StatesOf.{state_of}
+use Rattle.step_moves.specs.Programs.{program_at}
+use Rattle.step_moves.specs.StatesOf.{state_of}
 use Rattle.step_flow.specs.Ends.{scope_of}
 use Rattle.step_flow.proofs.BindLaws.{among_bound, is_bound}
 use Rattle.step_flow.proofs.binds.bound_value.Goals as goal

@@ -2,9 +2,9 @@
 use Rattle.std.proofs.Common.{◌∙◌, ap}
 use Rattle.tla_tree.specs.Pool.{trees_at}
 use Rattle.tla_tree.specs.Tree.{Name}
-use Rattle.step_program.specs.Programs.{program_at}
+use Rattle.step_moves.specs.Programs.{program_at}
 use Rattle.step_spots.specs.Targets.{target_word}
-use Rattle.step_values.specs.StatesOf.{state_of}
+use Rattle.step_moves.specs.StatesOf.{state_of}
 use Rattle.step_moves.specs.Runners.{partner_of}
 use Rattle.step_flow.specs.Ends.{left_of, root_places}
 use Rattle.step_choices.specs.Pauses.{pause_of}

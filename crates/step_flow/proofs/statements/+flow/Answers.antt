@@ -12,9 +12,9 @@ use Rattle.pcal_tree.proofs.InMemoryEach.{past_either}
 use Rattle.pcal_tree.proofs.StatementHeights.{height, heights, branch_heights, either_height}
 use Rattle.step_walks.specs.StepFlows.{flow}
 use Rattle.step_walks.specs.WrittenCalls.{written_rules}
-use Rattle.step_program.specs.Programs.{program_at}
+use Rattle.step_moves.specs.Programs.{program_at}
 use Rattle.step_spots.specs.Targets.{target_word}
-use Rattle.step_values.specs.StatesOf.{state_of}
+use Rattle.step_moves.specs.StatesOf.{state_of}
 use Rattle.step_choices.specs.Pauses.{Pauses}
 use Rattle.step_moves.specs.Runners.{partner_of}
 use Rattle.step_flow.specs.declared.going.End.TheVariants as end

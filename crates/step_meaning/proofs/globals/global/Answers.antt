@@ -1,6 +1,6 @@
 -- Proves that the variable has the value that its declaration gives.
 use Rattle.std.proofs.Common.{drop}
-use Rattle.step_values.specs.StatesOf.{state_of}
+use Rattle.step_moves.specs.StatesOf.{state_of}
 use Rattle.step_meaning.proofs.FlowLaws.{flows_is}
 use Rattle.step_meaning.proofs.LocalLaws.{unbound_seen}
 use Rattle.step_meaning.proofs.globals.global.Goals as goal

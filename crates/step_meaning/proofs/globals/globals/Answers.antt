@@ -5,8 +5,8 @@ use Rattle.tla_tree.specs.Nesting.{greatest}
 use Rattle.tla_tree.proofs.PoolNumbers.{past_at}
 use Rattle.pcal_tree.specs.InMemory.{past_start, past_declaration}
 use Rattle.pcal_tree.specs.Variables.{vars}
-use Rattle.step_program.specs.Programs.{program_at}
-use Rattle.step_values.specs.StatesOf.{state_of}
+use Rattle.step_moves.specs.Programs.{program_at}
+use Rattle.step_moves.specs.StatesOf.{state_of}
 use Rattle.step_meaning.proofs.FlowLaws.{paused}
 use Rattle.step_meaning.proofs.LocalLaws.{global_known, globals_pause}
 use Rattle.step_meaning.proofs.globals.globals.Goals as goal

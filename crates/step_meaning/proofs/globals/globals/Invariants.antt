@@ -1,6 +1,6 @@
 -- What the loop keeps: the rest goes on from here as all do from the beginning.
 use Rattle.std.proofs.Common.{drop}
-use Rattle.step_values.specs.StatesOf.{state_of}
+use Rattle.step_moves.specs.StatesOf.{state_of}
 use Rattle.step_meaning.specs.Begun.{IsBegun}
 use Rattle.step_meaning.proofs.LocalLaws.{GlobalsFrom}
 use Rattle.step_meaning.proofs.globals.globals.Given as goal

@@ -1,7 +1,7 @@
 -- What the loop keeps: none was there so far.
 use Rattle.std.proofs.Common.{◌≡◌, List, map, drop}
 use Rattle.tla_tree.specs.Tree.{Tree}
-use Rattle.step_program.specs.InMemory.{actor_at}
+use Rattle.step_moves.specs.InMemory.{actor_at}
 use Rattle.step_meaning.specs.Identified.{those}
 use Rattle.step_meaning.proofs.identified.first_of.Given as goal
 

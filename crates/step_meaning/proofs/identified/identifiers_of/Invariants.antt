@@ -1,7 +1,7 @@
 -- What the loop keeps: what is there, with the identifiers that are left, is the whole.
 use Rattle.std.proofs.Common.{◌≡◌, ◌++◌, List, Some, map, drop}
 use Rattle.tla_tree.specs.Tree.{Tree}
-use Rattle.step_program.specs.InMemory.{actor_at}
+use Rattle.step_moves.specs.InMemory.{actor_at}
 use Rattle.step_meaning.specs.Identified.{those, selves}
 use Rattle.step_meaning.proofs.identified.identifiers_of.Given as goal
 

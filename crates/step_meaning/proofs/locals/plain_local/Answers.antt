@@ -1,7 +1,7 @@
 -- Proves that the variable has the value that its declaration gives.
 use Rattle.std.proofs.Common.{drop}
 use Rattle.step_spots.specs.InMemory.{routine_at}
-use Rattle.step_values.specs.StatesOf.{state_of}
+use Rattle.step_moves.specs.StatesOf.{state_of}
 use Rattle.step_meaning.proofs.FlowLaws.{flows_is}
 use Rattle.step_meaning.proofs.LocalLaws.{plain_seen}
 use Rattle.step_meaning.proofs.locals.plain_local.Goals as goal

@@ -6,9 +6,9 @@ use Rattle.tla_tree.proofs.PoolNumbers.{past_at}
 use Rattle.pcal_tree.specs.InMemory.{past_start, past_declaration}
 use Rattle.pcal_tree.specs.Variables.{vars}
 use Rattle.step_spots.specs.InMemory.{routine_at}
-use Rattle.step_program.specs.Programs.{program_at}
-use Rattle.step_values.specs.StatesOf.{state_of}
-use Rattle.step_values.proofs.SettingLists.{found}
+use Rattle.step_moves.specs.Programs.{program_at}
+use Rattle.step_moves.specs.StatesOf.{state_of}
+use Rattle.step_moves.proofs.SettingLists.{found}
 use Rattle.step_meaning.proofs.FlowLaws.{paused}
 use Rattle.step_meaning.proofs.LocalLaws.{local_known, prepared_at, locals_next, locals_pause, locals_done}
 use Rattle.step_meaning.proofs.locals.plain_locals.Goals as goal

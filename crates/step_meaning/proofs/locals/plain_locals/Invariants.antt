@@ -3,9 +3,9 @@ use Rattle.std.proofs.Common.{◌≡◌, ◌∷◌, [], List, false, drop}
 use Rattle.pcal_tree.specs.Program.{Actor}
 use Rattle.action_builder.specs.laws.WrittenScope.{written_scope}
 use Rattle.step_spots.specs.InMemory.{routine_at}
-use Rattle.step_program.specs.Programs.{program_at}
-use Rattle.step_values.specs.StatesOf.{state_of}
-use Rattle.step_values.specs.ScopeIn.{scope_in}
+use Rattle.step_moves.specs.Programs.{program_at}
+use Rattle.step_moves.specs.StatesOf.{state_of}
+use Rattle.step_moves.specs.ScopeIn.{scope_in}
 use Rattle.step_meaning.specs.Begun.{IsBegun}
 use Rattle.step_meaning.proofs.LocalLaws.{LocalsFrom}
 use Rattle.step_meaning.proofs.locals.plain_locals.Given as goal

@@ -5,7 +5,7 @@ use Rattle.pcal_tree.specs.declared.algorithm.Declaration.{Declaration}
 use Rattle.pcal_tree.specs.Program.{written}
 use Rattle.pcal_tree.specs.Variables.{vars}
 use Rattle.step_spots.specs.InMemory.{routine_at}
-use Rattle.step_program.specs.Programs.{program_at}
+use Rattle.step_moves.specs.Programs.{program_at}
 use Rattle.step_meaning.proofs.OrderedNames.{scene_of}
 use Rattle.step_meaning.proofs.locals.spread_local.Goals as goal
 

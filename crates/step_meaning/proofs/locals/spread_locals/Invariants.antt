@@ -2,7 +2,7 @@
 use Rattle.std.proofs.Common.{List, true, drop}
 use Rattle.pcal_tree.specs.Program.{Actor}
 use Rattle.step_spots.specs.InMemory.{routine_at}
-use Rattle.step_values.specs.StatesOf.{state_of}
+use Rattle.step_moves.specs.StatesOf.{state_of}
 use Rattle.step_meaning.specs.Begun.{IsBegun}
 use Rattle.step_meaning.specs.Identified.{HaveThese}
 use Rattle.step_meaning.proofs.LocalLaws.{LocalsFrom}

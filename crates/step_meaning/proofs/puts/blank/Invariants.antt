@@ -1,7 +1,7 @@
 -- What the loop keeps: the names so far have values, in their order, and all are FALSE.
 use Rattle.std.proofs.Common.{◌≡◌, take}
 use Rattle.pcal_tree.specs.InitialChoice.{nothing}
-use Rattle.step_values.specs.StatesOf.{state_of}
+use Rattle.step_moves.specs.StatesOf.{state_of}
 use Rattle.step_meaning.specs.Begun.{names_in}
 use Rattle.step_meaning.proofs.puts.blank.Given as goal
 

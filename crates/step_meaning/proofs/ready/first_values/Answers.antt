@@ -1,7 +1,7 @@
 -- Proves that there is a value for each process.
 use Rattle.pcal_tree.specs.Calls.{label_value, first_label}
 use Rattle.pcal_tree.specs.Program.{Actor}
-use Rattle.step_program.specs.InMemory.{actor_at}
+use Rattle.step_moves.specs.InMemory.{actor_at}
 use Rattle.step_meaning.proofs.ReadyLaws.{mapped_more, mapped_all}
 use Rattle.step_meaning.proofs.ready.first_values.Goals as goal
 

@@ -3,7 +3,7 @@ use Rattle.std.proofs.Common.{◌≡◌, List, map, take}
 use Rattle.tla_tree.specs.Tree.{Tree}
 use Rattle.pcal_tree.specs.Calls.{label_value, first_label}
 use Rattle.pcal_tree.specs.Program.{Program, Actor}
-use Rattle.step_program.specs.InMemory.{actor_at}
+use Rattle.step_moves.specs.InMemory.{actor_at}
 use Rattle.written_names.specs.Units.{naming_of}
 use Rattle.step_meaning.proofs.ready.first_values.Given as goal
 

@@ -7,9 +7,9 @@ use Rattle.pcal_tree.specs.InitialChoice.{own_begun, pc_begun}
 use Rattle.pcal_tree.specs.Program.{Actor}
 use Rattle.pcal_tree.specs.Scope.{State}
 use Rattle.pcal_tree.specs.Variables.{vars}
-use Rattle.step_program.specs.InMemory.{actor_at}
-use Rattle.step_program.specs.Programs.{program_at}
-use Rattle.step_values.specs.StatesOf.{state_of}
+use Rattle.step_moves.specs.InMemory.{actor_at}
+use Rattle.step_moves.specs.Programs.{program_at}
+use Rattle.step_moves.specs.StatesOf.{state_of}
 use Rattle.step_moves.proofs.SettingLaws.{pc_among}
 use Rattle.step_meaning.proofs.FlowLaws.{on_ok}
 use Rattle.step_meaning.proofs.ready.make_ready.Goals as goal

@@ -2,7 +2,7 @@
 use Rattle.std.proofs.Common.{[], List, None, map, sym, ap, subst, ◌∙◌}
 use Rattle.tla_value.specs.Order.{IsAscending}
 use Rattle.tla_value.specs.Value.{Value, fun, values_in}
-use Rattle.step_program.specs.InMemory.{actor_at}
+use Rattle.step_moves.specs.InMemory.{actor_at}
 use Rattle.step_meaning.proofs.ActorLaws.{ascending_of, have_ids}
 use Rattle.step_meaning.proofs.SpreadLaws.{bounded_is}
 use Rattle.step_meaning.proofs.ready.on_all.Goals as goal

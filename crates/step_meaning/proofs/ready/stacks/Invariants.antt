@@ -3,7 +3,7 @@ use Rattle.std.proofs.Common.{◌≡◌, List, map, take}
 use Rattle.tla_tree.specs.Tree.{Tree}
 use Rattle.pcal_tree.specs.InitialStates.{empty_stack}
 use Rattle.pcal_tree.specs.Program.{Actor}
-use Rattle.step_program.specs.InMemory.{actor_at}
+use Rattle.step_moves.specs.InMemory.{actor_at}
 use Rattle.step_meaning.proofs.ready.stacks.Given as goal
 
 abbrev pub invariant-loop-one : goal.invariant-loop-one

@@ -1,8 +1,8 @@
 -- Proves that parameters and then variables have their first values.
 use Rattle.std.proofs.Common.{◌∷◌, false, drop}
-use Rattle.step_program.specs.InMemory.{actor_at}
-use Rattle.step_program.specs.Programs.{program_at}
-use Rattle.step_values.specs.StatesOf.{state_of}
+use Rattle.step_moves.specs.InMemory.{actor_at}
+use Rattle.step_moves.specs.Programs.{program_at}
+use Rattle.step_moves.specs.StatesOf.{state_of}
 use Rattle.step_meaning.proofs.FlowLaws.{paused}
 use Rattle.step_meaning.proofs.ReadiedLaws.{params_names, variables_many, variables_names, readied_through, readied_pauses}
 use Rattle.step_meaning.proofs.routines.plain_routine.Goals as goal

@@ -8,8 +8,8 @@ use Rattle.pcal_tree.specs.Algorithm as tree
 use Rattle.pcal_tree.specs.Algorithm.{procedure_routine, numbered, first_procedure}
 use Rattle.pcal_tree.specs.InMemory.{procedure_at, past_procedure}
 use Rattle.pcal_tree.specs.Variables.{written_by_all, vars}
-use Rattle.step_program.specs.Programs.{program_at}
-use Rattle.step_values.proofs.SettingLists.{found}
+use Rattle.step_moves.specs.Programs.{program_at}
+use Rattle.step_moves.proofs.SettingLists.{found}
 use Rattle.step_moves.specs.Prepared.{prepared_procedure}
 use Rattle.step_meaning.proofs.RoutineLaws.{procedures_among, routine_known, numbered_at}
 use Rattle.step_meaning.proofs.routines.procedures.Goals as goal

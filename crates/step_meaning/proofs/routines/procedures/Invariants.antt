@@ -2,9 +2,9 @@
 use Rattle.std.proofs.Common.{map, drop}
 use Rattle.pcal_tree.specs.Algorithm.{procedure_routine, first_procedure}
 use Rattle.pcal_tree.specs.InMemory.{procedure_at}
-use Rattle.step_program.specs.InMemory.{actor_at}
-use Rattle.step_program.specs.Programs.{program_at}
-use Rattle.step_values.specs.StatesOf.{state_of}
+use Rattle.step_moves.specs.InMemory.{actor_at}
+use Rattle.step_moves.specs.Programs.{program_at}
+use Rattle.step_moves.specs.StatesOf.{state_of}
 use Rattle.step_meaning.specs.Begun.{IsBegun}
 use Rattle.step_meaning.specs.Ready.{procedure_flow}
 use Rattle.step_meaning.proofs.RoutineLaws.{TurnsFrom}

@@ -1,7 +1,7 @@
 -- Proves that there are as many prepared processes.
 use Rattle.std.proofs.Common.{List, length, sym, ap, ◌∙◌}
 use Rattle.pcal_tree.specs.declared.algorithm.Process.{Process}
-use Rattle.step_program.specs.Programs.{program_at}
+use Rattle.step_moves.specs.Programs.{program_at}
 use Rattle.step_meaning.proofs.MainLaws.{prepared_many}
 use Rattle.step_meaning.proofs.routines.processes.Goals as goal
 

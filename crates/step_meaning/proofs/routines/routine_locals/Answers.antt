@@ -3,10 +3,10 @@ use Rattle.std.proofs.Common.{[], map, drop, sym, ◌∙◌}
 use Rattle.pcal_tree.specs.Algorithm.{locals}
 use Rattle.step_walks.specs.FirstValues.{as_written}
 use Rattle.step_walks.specs.StartFlows.{locals_flow}
-use Rattle.step_program.specs.InMemory.{actor_at}
+use Rattle.step_moves.specs.InMemory.{actor_at}
 use Rattle.step_spots.specs.InMemory.{routine_at}
-use Rattle.step_program.specs.Programs.{program_at}
-use Rattle.step_values.specs.StatesOf.{state_of}
+use Rattle.step_moves.specs.Programs.{program_at}
+use Rattle.step_moves.specs.StatesOf.{state_of}
 use Rattle.step_meaning.specs.Identified.{those}
 use Rattle.step_meaning.proofs.FlowLaws.{flows_is}
 use Rattle.step_meaning.proofs.LocalLaws.{none_have}

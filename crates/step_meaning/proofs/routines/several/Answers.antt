@@ -8,7 +8,7 @@ use Rattle.pcal_tree.specs.Algorithm as tree
 use Rattle.pcal_tree.specs.Algorithm.{process_routine, main_routines, first_process}
 use Rattle.pcal_tree.specs.InMemory.{process_at, past_process}
 use Rattle.pcal_tree.specs.Variables.{written_by_all, vars}
-use Rattle.step_program.specs.Programs.{program_at}
+use Rattle.step_moves.specs.Programs.{program_at}
 use Rattle.step_moves.specs.Prepared.{prepared_process}
 use Rattle.step_meaning.proofs.RoutineLaws.{processes_among, routine_known, numbered_at}
 use Rattle.step_meaning.proofs.routines.several.Goals as goal

@@ -2,9 +2,9 @@
 use Rattle.std.proofs.Common.{map, drop}
 use Rattle.pcal_tree.specs.Algorithm.{process_routine, first_process}
 use Rattle.pcal_tree.specs.InMemory.{process_at}
-use Rattle.step_program.specs.InMemory.{actor_at}
-use Rattle.step_program.specs.Programs.{program_at}
-use Rattle.step_values.specs.StatesOf.{state_of}
+use Rattle.step_moves.specs.InMemory.{actor_at}
+use Rattle.step_moves.specs.Programs.{program_at}
+use Rattle.step_moves.specs.StatesOf.{state_of}
 use Rattle.step_meaning.specs.Begun.{IsBegun}
 use Rattle.step_meaning.specs.Ready.{process_flow}
 use Rattle.step_meaning.proofs.RoutineLaws.{TurnsFrom}

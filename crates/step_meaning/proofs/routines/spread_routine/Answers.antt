@@ -2,8 +2,8 @@
 use Rattle.std.proofs.Common.{List, true, map, drop, sym, subst}
 use Rattle.tla_value.specs.Order.{IsAscending}
 use Rattle.tla_value.specs.Value.{Value, values_in}
-use Rattle.step_program.specs.InMemory.{actor_at}
-use Rattle.step_values.specs.StatesOf.{state_of}
+use Rattle.step_moves.specs.InMemory.{actor_at}
+use Rattle.step_moves.specs.StatesOf.{state_of}
 use Rattle.step_meaning.specs.Identified.{those, HaveThese}
 use Rattle.step_meaning.proofs.ActorLaws.{ascending_of}
 use Rattle.step_meaning.proofs.FlowLaws.{paused}

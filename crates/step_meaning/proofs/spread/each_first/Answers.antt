@@ -7,8 +7,8 @@ use Rattle.pcal_tree.specs.InMemory.{start_at}
 use Rattle.action_builder.specs.InitialFormulas.{written_in}
 use Rattle.step_walks.specs.Flows.{falls, flowing}
 use Rattle.step_spots.specs.InMemory.{routine_at}
-use Rattle.step_program.specs.Programs.{program_at}
-use Rattle.step_values.specs.StatesOf.{state_of}
+use Rattle.step_moves.specs.Programs.{program_at}
+use Rattle.step_moves.specs.StatesOf.{state_of}
 use Rattle.step_moves.specs.Prepared.{prepared_start}
 use Rattle.step_meaning.proofs.FlowLaws.{outcome_through, pauses_flowing, pauses_is, paused, flows_is}
 use Rattle.step_meaning.proofs.SpreadLaws.{value_each, unset_is, equals_is, among_is}

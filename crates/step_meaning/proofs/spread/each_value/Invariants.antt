@@ -3,7 +3,7 @@ use Rattle.std.proofs.Common.{◌≡◌, drop}
 use Rattle.tla_tree.specs.Pool.{at}
 use Rattle.tla_value.specs.Value.{in_order}
 use Rattle.value_forms.proofs.StopLaws.{behind}
-use Rattle.step_values.specs.StatesOf.{state_of}
+use Rattle.step_moves.specs.StatesOf.{state_of}
 use Rattle.step_meaning.proofs.SpreadLaws.{value_each}
 use Rattle.step_meaning.proofs.spread.each_value.Given as goal
 

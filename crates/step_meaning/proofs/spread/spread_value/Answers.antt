@@ -5,7 +5,7 @@ use Rattle.tla_value.specs.Value.{fun, values_in}
 use Rattle.pcal_tree.specs.InMemory.{start_at}
 use Rattle.step_walks.specs.Flows.{falls}
 use Rattle.step_spots.specs.InMemory.{routine_at}
-use Rattle.step_values.specs.StatesOf.{state_of}
+use Rattle.step_moves.specs.StatesOf.{state_of}
 use Rattle.step_meaning.proofs.FlowLaws.{through, outcome_through, pauses_flowing, pauses_is, paused}
 use Rattle.step_meaning.proofs.SpreadLaws.{spread_alike, checked}
 use Rattle.step_meaning.proofs.spread.spread_value.Goals as goal

@@ -2,7 +2,7 @@
 use Rattle.std.proofs.Common.{◌-◌, ◌<◌, length, ap, sym, ◌∙◌, arith}
 use Rattle.tla_tree.proofs.PoolNumbers.{past_at}
 use Rattle.pcal_tree.specs.InMemory.{main_at, past_process, past_statements, past_main}
-use Rattle.step_program.specs.Programs.{program_at}
+use Rattle.step_moves.specs.Programs.{program_at}
 use Rattle.step_spots.specs.InMemory.{routine_at}
 use Rattle.step_meaning.proofs.OwnLaws.{own_prepared, made}
 use Rattle.step_meaning.proofs.stage.own_routine.Goals as goal

@@ -6,7 +6,7 @@ use Rattle.pcal_tree.specs.Calls.{label_value}
 use Rattle.pcal_tree.specs.FirstTrouble.{stand_at}
 use Rattle.pcal_tree.specs.InMemory.{past_statements}
 use Rattle.pcal_tree.specs.StepAnswers.{label_place}
-use Rattle.step_program.specs.Programs.{program_at}
+use Rattle.step_moves.specs.Programs.{program_at}
 use Rattle.step_spots.specs.declared.walk.Spot as code
 use Rattle.step_spots.specs.InMemory.{spot_at, routine_at, past_spots}
 use Rattle.step_spots.specs.declared.routine.Routine as spots

@@ -1,6 +1,6 @@
 -- What is kept: what is found from there on is what is found among all.
 use Rattle.std.proofs.Common.{◌≡◌}
-use Rattle.step_program.specs.Programs.{program_at}
+use Rattle.step_moves.specs.Programs.{program_at}
 use Rattle.step_spots.specs.InMemory.{routine_at}
 use Rattle.written_runs.specs.Stands.{stand_in}
 use Rattle.step_meaning.proofs.FoundLaws.{from}

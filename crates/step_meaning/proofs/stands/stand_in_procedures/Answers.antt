@@ -3,7 +3,7 @@ use Rattle.std.proofs.Common.{ℕ, ◌+◌, ap, sym, ◌∙◌, arith}
 use Rattle.std.specs.Option.{option_map}
 use Rattle.tla_tree.proofs.PoolNumbers.{past_at}
 use Rattle.pcal_tree.specs.InMemory.{past_procedure, past_statements}
-use Rattle.step_program.specs.Programs.{program_at}
+use Rattle.step_moves.specs.Programs.{program_at}
 use Rattle.step_meaning.specs.StandsAt.{stand_at}
 use Rattle.step_meaning.proofs.StandLaws.{made_procedure, rest_found, rest_missed, rest_ended}
 use Rattle.step_meaning.proofs.stands.stand_in_procedures.Goals as goal

@@ -1,9 +1,9 @@
 -- Proves that the label is found at which the process is.
 use Rattle.std.proofs.Common.{ap, sym, ◌∙◌}
 use Rattle.std.specs.Option.{option_map}
-use Rattle.step_program.specs.Programs.{program_at}
+use Rattle.step_moves.specs.Programs.{program_at}
 use Rattle.step_spots.specs.InMemory.{routine_at}
-use Rattle.step_program.specs.InMemory.{actor_at}
+use Rattle.step_moves.specs.InMemory.{actor_at}
 use Rattle.step_meaning.specs.StandsAt.{stand_at}
 use Rattle.step_meaning.proofs.StandLaws.{named_first, named_later, if_ok}
 use Rattle.step_meaning.proofs.stands.stand_named.Goals as goal

@@ -7,8 +7,8 @@ use Rattle.pcal_tree.specs.declared.algorithm.Procedure.{Procedure}
 use Rattle.pcal_tree.specs.Algorithm.{first_procedure}
 use Rattle.pcal_tree.specs.InMemory.{procedure_at}
 use Rattle.pcal_tree.specs.Variables.{vars}
-use Rattle.step_program.specs.InMemory.{actor_at}
-use Rattle.step_program.specs.Programs.{program_at}
+use Rattle.step_moves.specs.InMemory.{actor_at}
+use Rattle.step_moves.specs.Programs.{program_at}
 use Rattle.step_moves.specs.Prepared.{prepared_procedure}
 use Rattle.step_moves.specs.Runners.{names_of}
 use Rattle.step_meaning.proofs.ActorLaws.{actors_ascend, ids_anywhere}

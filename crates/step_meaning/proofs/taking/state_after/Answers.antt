@@ -4,12 +4,12 @@ use Rattle.std.proofs.lemmas.List.{length-drop}
 use Rattle.tla_tree.specs.Tree.{Name}
 use Rattle.pcal_tree.specs.Step.{Stand}
 use Rattle.pcal_tree.specs.StepAnswers.{too_many_choices, label_place}
-use Rattle.step_program.specs.Programs.{program_at}
-use Rattle.step_program.specs.declared.program.Program.{Program}
+use Rattle.step_moves.specs.Programs.{program_at}
+use Rattle.step_moves.specs.declared.program.Program.{Program}
 use Rattle.step_spots.specs.InMemory.{routine_at}
-use Rattle.step_values.specs.StatesOf.{state_of}
-use Rattle.step_values.specs.ScopeIn.{IsScene}
-use Rattle.step_program.specs.InMemory.{actor_at}
+use Rattle.step_moves.specs.StatesOf.{state_of}
+use Rattle.step_moves.specs.ScopeIn.{IsScene}
+use Rattle.step_moves.specs.InMemory.{actor_at}
 use Rattle.step_meaning.specs.Replies.{halt_of}
 use Rattle.step_meaning.specs.Walks.{PausesWalk}
 use Rattle.step_meaning.proofs.ReplyLaws.{pause_replies, err_replies, left_over, all_used}

@@ -8,10 +8,10 @@ use Rattle.pcal_tree.specs.Scope.{State}
 use Rattle.pcal_tree.specs.Step.{Stand, routines_of}
 use Rattle.pcal_tree.specs.StepAnswers.{reached, label_place}
 use Rattle.step_runner.specs.Shown.{stepped}
-use Rattle.step_program.specs.Programs.{program_at}
+use Rattle.step_moves.specs.Programs.{program_at}
 use Rattle.step_spots.specs.InMemory.{routine_at}
-use Rattle.step_values.specs.StatesOf.{state_of}
-use Rattle.step_program.specs.InMemory.{actor_at}
+use Rattle.step_moves.specs.StatesOf.{state_of}
+use Rattle.step_moves.specs.InMemory.{actor_at}
 use Rattle.step_meaning.specs.declared.taking.Taken.{Taken}
 use Rattle.step_meaning.specs.Replies.{HaltsBy}
 use Rattle.step_meaning.specs.StandsAt.{stand_at, IsPlaced}

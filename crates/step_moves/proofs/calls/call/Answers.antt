@@ -6,8 +6,8 @@ use Rattle.value_forms.proofs.StopLaws.{err_is}
 use Rattle.step_walks.specs.WrittenCalls.{called_by}
 use Rattle.step_spots.specs.InMemory.{routine_at}
 use Rattle.step_spots.specs.Targets.{target_word}
-use Rattle.step_program.specs.Programs.{program_at}
-use Rattle.step_values.specs.StatesOf.{state_of}
+use Rattle.step_moves.specs.Programs.{program_at}
+use Rattle.step_moves.specs.StatesOf.{state_of}
 use Rattle.step_moves.specs.Prepared.{as_prepared}
 use Rattle.step_moves.specs.Runners.{partner_of}
 use Rattle.step_moves.proofs.CalleeLaws.{calling_missing, calling_stops, calling_done}

@@ -2,7 +2,7 @@
 use Rattle.std.proofs.Common.{ℕ, ◌+◌, sym, ap, ◌∙◌}
 use Rattle.pcal_tree.specs.Algorithm.{first_procedure, procedure_routine}
 use Rattle.pcal_tree.specs.InMemory.{procedure_at}
-use Rattle.step_program.specs.Programs.{program_at}
+use Rattle.step_moves.specs.Programs.{program_at}
 use Rattle.step_moves.proofs.CalleeLaws.{named_later, callee_is}
 use Rattle.step_moves.proofs.calls.procedure_named.Goals as goal
 

@@ -3,7 +3,7 @@ use Rattle.std.proofs.Common.{◌≡◌, ◌+◌, drop, map}
 use Rattle.pcal_tree.specs.Algorithm.{numbered, procedure_routine, first_procedure}
 use Rattle.pcal_tree.specs.InMemory.{procedure_at}
 use Rattle.pcal_tree.specs.Calls.{routine_named}
-use Rattle.step_program.specs.Programs.{program_at}
+use Rattle.step_moves.specs.Programs.{program_at}
 use Rattle.step_moves.proofs.calls.procedure_named.Given as goal
 
 abbrev pub invariant-loop-i : goal.invariant-loop-i

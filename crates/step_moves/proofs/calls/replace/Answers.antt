@@ -1,8 +1,8 @@
 -- Proves that a return and then an entry begin with the stack, and stop where there is none.
 use Rattle.value_forms.proofs.StopLaws.{err_is}
 use Rattle.step_spots.specs.InMemory.{routine_at}
-use Rattle.step_program.specs.Programs.{program_at}
-use Rattle.step_values.specs.StatesOf.{state_of}
+use Rattle.step_moves.specs.Programs.{program_at}
+use Rattle.step_moves.specs.StatesOf.{state_of}
 use Rattle.step_moves.specs.Prepared.{as_prepared}
 use Rattle.step_moves.proofs.ReplaceForms.{gives_as, both_no_stack, both_stack}
 use Rattle.step_moves.proofs.calls.replace.Goals as goal

@@ -1,7 +1,7 @@
 -- Proves that the record that is returned by is the first.
 use Rattle.step_spots.specs.InMemory.{routine_at}
-use Rattle.step_program.specs.Programs.{program_at}
-use Rattle.step_values.specs.StatesOf.{state_of}
+use Rattle.step_moves.specs.Programs.{program_at}
+use Rattle.step_moves.specs.StatesOf.{state_of}
 use Rattle.step_moves.specs.Prepared.{as_prepared}
 use Rattle.step_moves.proofs.ReplaceForms.{gives_as, both_first}
 use Rattle.step_moves.proofs.calls.replace_first.Goals as goal

@@ -6,8 +6,8 @@ use Rattle.tla_value.specs.Value.{Value, text}
 use Rattle.value_forms.proofs.StopLaws.{err_is}
 use Rattle.step_walks.specs.WrittenCalls.{entered_keeping_by}
 use Rattle.step_spots.specs.InMemory.{routine_at}
-use Rattle.step_program.specs.Programs.{program_at}
-use Rattle.step_values.specs.StatesOf.{state_of}
+use Rattle.step_moves.specs.Programs.{program_at}
+use Rattle.step_moves.specs.StatesOf.{state_of}
 use Rattle.step_moves.specs.Prepared.{as_prepared}
 use Rattle.step_moves.proofs.ReplaceForms.{gives_as, both_not_restored, both_unread, both_last}
 use Rattle.step_moves.proofs.calls.replace_front.Goals as goal

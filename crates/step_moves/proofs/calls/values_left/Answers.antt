@@ -1,6 +1,6 @@
 -- Proves which values the variables of another procedure have after a return.
 use Rattle.std.proofs.Common.{◌∙◌}
-use Rattle.step_values.specs.StatesOf.{state_of}
+use Rattle.step_moves.specs.StatesOf.{state_of}
 use Rattle.step_moves.proofs.ReplaceForms.{gives_as, left_other}
 use Rattle.step_moves.proofs.calls.values_left.Goals as goal
 

@@ -10,8 +10,8 @@ use Rattle.pcal_tree.specs.Variables.{pc}
 use Rattle.value_forms.specs.Gives.{Gives, Stops}
 use Rattle.value_forms.proofs.StopLaws.{err_is}
 use Rattle.step_spots.specs.InMemory.{routine_at}
-use Rattle.step_program.specs.Programs.{program_at}
-use Rattle.step_values.specs.StatesOf.{state_of}
+use Rattle.step_moves.specs.Programs.{program_at}
+use Rattle.step_moves.specs.StatesOf.{state_of}
 use Rattle.step_moves.specs.Prepared.{as_prepared}
 use Rattle.step_moves.proofs.EntryForms.{frame_is, entry_over, entry_not_given, entry_not_started, entry_last}
 use Rattle.step_moves.proofs.entries.enter_keeping.Goals as goal

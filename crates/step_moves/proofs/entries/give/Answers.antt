@@ -13,8 +13,8 @@ use Rattle.pcal_tree.specs.Variables.{vars}
 use Rattle.value_forms.specs.Gives.{Gives}
 use Rattle.value_forms.proofs.StopLaws.{err_is}
 use Rattle.written_names.specs.Units.{naming_of}
-use Rattle.step_program.specs.Programs.{program_at}
-use Rattle.step_values.specs.StatesOf.{state_of}
+use Rattle.step_moves.specs.Programs.{program_at}
+use Rattle.step_moves.specs.StatesOf.{state_of}
 use Rattle.step_moves.specs.Runners.{names_of}
 use Rattle.step_moves.proofs.SettingLaws.{there_among}
 use Rattle.step_moves.proofs.EntryForms.{params_known, given_no_stack, given_over, given_unset, given_last}

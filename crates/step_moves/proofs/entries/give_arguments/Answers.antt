@@ -2,10 +2,10 @@
 use Rattle.std.proofs.Common.{◌≡◌, ◌++◌, List, ap, ◌∙◌}
 use Rattle.pcal_tree.specs.Calls.{argument_settings}
 use Rattle.pcal_tree.specs.Variables.{vars}
-use Rattle.step_program.specs.Programs.{program_at}
-use Rattle.step_values.specs.declared.settings.Setting.{Setting}
-use Rattle.step_values.specs.StatesOf.{settings_of}
-use Rattle.step_values.proofs.ScopeLaws.{scene_after}
+use Rattle.step_moves.specs.Programs.{program_at}
+use Rattle.step_moves.specs.declared.setting.Setting.{Setting}
+use Rattle.step_moves.specs.StatesOf.{settings_of}
+use Rattle.step_moves.proofs.ScopeLaws.{scene_after}
 use Rattle.step_moves.proofs.SettingLaws.{are_of, arguments_of}
 use Rattle.step_moves.proofs.entries.give_arguments.Goals as goal
 

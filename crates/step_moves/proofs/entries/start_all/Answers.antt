@@ -7,8 +7,8 @@ use Rattle.pcal_tree.specs.Variables.{vars}
 use Rattle.value_forms.proofs.StopLaws.{err_is}
 use Rattle.written_names.specs.Units.{naming_of}
 use Rattle.step_spots.specs.InMemory.{routine_at}
-use Rattle.step_program.specs.Programs.{program_at}
-use Rattle.step_values.specs.StatesOf.{state_of}
+use Rattle.step_moves.specs.Programs.{program_at}
+use Rattle.step_moves.specs.StatesOf.{state_of}
 use Rattle.step_moves.specs.Prepared.{as_prepared}
 use Rattle.step_moves.specs.Runners.{names_of}
 use Rattle.step_moves.proofs.EntryForms.{variable_known, started_next, started_stops, started_end}

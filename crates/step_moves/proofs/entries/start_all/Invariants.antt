@@ -5,9 +5,9 @@ use Rattle.pcal_tree.specs.InMemory.{declarations_at}
 use Rattle.pcal_tree.specs.Program.{Actor}
 use Rattle.step_walks.specs.WrittenCalls.{variables_by}
 use Rattle.step_spots.specs.InMemory.{routine_at}
-use Rattle.step_program.specs.Programs.{program_at}
-use Rattle.step_values.specs.StatesOf.{state_of}
-use Rattle.step_values.specs.ScopeIn.{IsScene}
+use Rattle.step_moves.specs.Programs.{program_at}
+use Rattle.step_moves.specs.StatesOf.{state_of}
+use Rattle.step_moves.specs.ScopeIn.{IsScene}
 use Rattle.step_moves.specs.Prepared.{as_prepared}
 use Rattle.step_moves.specs.Runners.{IsRunner}
 use Rattle.step_moves.proofs.entries.start_all.Given as goal

@@ -9,8 +9,8 @@ use Rattle.value_forms.proofs.StopLaws.{err_is}
 use Rattle.written_names.specs.Units.{naming_of}
 use Rattle.step_walks.specs.WrittenCalls.{first_value}
 use Rattle.step_spots.specs.InMemory.{routine_at}
-use Rattle.step_program.specs.Programs.{program_at}
-use Rattle.step_values.specs.StatesOf.{state_of}
+use Rattle.step_moves.specs.Programs.{program_at}
+use Rattle.step_moves.specs.StatesOf.{state_of}
 use Rattle.step_moves.specs.Prepared.{as_prepared}
 use Rattle.step_moves.proofs.EntryForms.{start_none, start_last}
 use Rattle.step_moves.proofs.MoveLaws.{scene_if}

@@ -1,6 +1,6 @@
 -- Proves that a first value is that of its expression.
-use Rattle.step_program.specs.Programs.{program_at}
-use Rattle.step_values.specs.StatesOf.{state_of}
+use Rattle.step_moves.specs.Programs.{program_at}
+use Rattle.step_moves.specs.StatesOf.{state_of}
 use Rattle.step_moves.proofs.EntryForms.{first_equals}
 use Rattle.step_moves.proofs.entries.start_value.Goals as goal
 

@@ -6,8 +6,8 @@ use Rattle.pcal_tree.specs.Program.{index}
 use Rattle.pcal_tree.specs.Calls.{setting}
 use Rattle.pcal_tree.specs.Variables.{pc}
 use Rattle.value_forms.specs.Gives.{Gives}
-use Rattle.step_program.specs.Programs.{program_at}
-use Rattle.step_values.specs.StatesOf.{state_of}
+use Rattle.step_moves.specs.Programs.{program_at}
+use Rattle.step_moves.specs.StatesOf.{state_of}
 use Rattle.step_moves.proofs.jumps.jump.Goals as goal
 
 pub returns-clause-jumped : goal.returns-clause-jumped

@@ -3,7 +3,7 @@ use Rattle.std.proofs.Common.{◌≡◌, drop}
 use Rattle.tla_value.specs.Value.{in_order}
 use Rattle.pcal_tree.specs.Program.{read_at}
 use Rattle.value_forms.proofs.StopLaws.{behind}
-use Rattle.step_values.specs.StatesOf.{state_of}
+use Rattle.step_moves.specs.StatesOf.{state_of}
 use Rattle.step_moves.proofs.reads.all_read.Given as goal
 
 abbrev pub invariant-loop-name : goal.invariant-loop-name

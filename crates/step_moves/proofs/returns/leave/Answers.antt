@@ -1,8 +1,8 @@
 -- Proves that a return stops where there is no stack.
 use Rattle.pcal_tree.specs.Calls.{restored}
 use Rattle.value_forms.proofs.StopLaws.{err_is, then_stops}
-use Rattle.step_program.specs.Programs.{program_at}
-use Rattle.step_values.specs.StatesOf.{state_of}
+use Rattle.step_moves.specs.Programs.{program_at}
+use Rattle.step_moves.specs.StatesOf.{state_of}
 use Rattle.step_moves.proofs.returns.leave.Goals as goal
 
 pub returns-in_err-frames-clause-returned : goal.returns-in_err-frames-clause-returned

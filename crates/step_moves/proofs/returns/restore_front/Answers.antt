@@ -10,7 +10,7 @@ use Rattle.pcal_tree.specs.Scope.{State}
 use Rattle.pcal_tree.specs.Calls.{setting, part_settings, fields_read}
 use Rattle.value_forms.specs.Gives.{Gives, Stops}
 use Rattle.value_forms.proofs.StopLaws.{err_is}
-use Rattle.step_values.specs.StatesOf.{state_of}
+use Rattle.step_moves.specs.StatesOf.{state_of}
 use Rattle.step_moves.specs.Runners.{written_names}
 use Rattle.step_moves.proofs.ReturnForms.{stops_values, stops_pc, stops_locals, restored_last}
 use Rattle.step_moves.proofs.returns.restore_front.Goals as goal

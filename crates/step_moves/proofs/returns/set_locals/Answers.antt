@@ -6,9 +6,9 @@ use Rattle.tla_value.specs.Limits.{bounded}
 use Rattle.pcal_tree.specs.Assign as pure
 use Rattle.pcal_tree.specs.Variables.{vars}
 use Rattle.value_forms.specs.Gives.{Gives}
-use Rattle.step_program.specs.Programs.{program_at}
-use Rattle.step_values.specs.StatesOf.{state_of}
-use Rattle.step_values.proofs.ScopeLaws.{scene_after}
+use Rattle.step_moves.specs.Programs.{program_at}
+use Rattle.step_moves.specs.StatesOf.{state_of}
+use Rattle.step_moves.proofs.ScopeLaws.{scene_after}
 use Rattle.step_moves.proofs.SettingLaws.{parts_made, are_of, parts_of}
 use Rattle.step_moves.proofs.returns.set_locals.Goals as goal
 

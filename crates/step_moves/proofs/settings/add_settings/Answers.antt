@@ -1,6 +1,6 @@
 -- Proves that no setting is left where places or values end.
 use Rattle.std.proofs.Common.{arith}
-use Rattle.step_values.specs.StatesOf.{settings_of}
+use Rattle.step_moves.specs.StatesOf.{settings_of}
 use Rattle.step_moves.proofs.SettingLaws.{places_end, values_end}
 use Rattle.step_moves.proofs.settings.add_settings.Goals as goal
 use Rattle.step_moves.proofs.settings.add_settings.Goals.{then-i-places-via-then-i-places, then-i-places-via-else-i-places+then-i-values}

@@ -1,7 +1,7 @@
 -- What the loop keeps: what is there, with the arguments that are left, is the whole.
 use Rattle.std.proofs.Common.{◌≡◌, ◌++◌, drop}
 use Rattle.pcal_tree.specs.Calls.{argument_settings}
-use Rattle.step_values.specs.StatesOf.{settings_of}
+use Rattle.step_moves.specs.StatesOf.{settings_of}
 use Rattle.step_moves.proofs.settings.add_settings.Given as goal
 
 abbrev pub invariant-loop-i : goal.invariant-loop-i

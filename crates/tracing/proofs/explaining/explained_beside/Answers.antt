@@ -2,7 +2,7 @@
 use Rattle.std.proofs.Common.{List, refl, sym, subst}
 use Rattle.std.specs.List.{AllByRecursion}
 use Rattle.tla_value.specs.States.{Entries}
-use Rattle.step_values.specs.StatesOf.{HasJust}
+use Rattle.step_moves.specs.StatesOf.{HasJust}
 use Rattle.tracing.specs.Beside.{variables_read}
 use Rattle.tracing.proofs.ExplainLaws.{can_explain, explained_told}
 use Rattle.tracing.proofs.explaining.explained_beside.Goals as goal

@@ -3,9 +3,9 @@ use Rattle.std.proofs.Common.{List, length, refl, sym, ap, subst, ◌∙◌}
 use Rattle.std.specs.List.{AllByRecursion}
 use Rattle.pcal_tree.specs.Variables.{vars}
 use Rattle.module_write.specs.declared.«module».Action.{Action}
-use Rattle.step_program.specs.declared.program.Program as code
-use Rattle.step_program.specs.Programs.{program_at}
-use Rattle.step_values.specs.StatesOf.{HasJust}
+use Rattle.step_moves.specs.declared.program.Program as code
+use Rattle.step_moves.specs.Programs.{program_at}
+use Rattle.step_moves.specs.StatesOf.{HasJust}
 use Rattle.action_truth.specs.AskedOf.{last_titled}
 use Rattle.tracing.proofs.ExplainLaws.{once_told}
 use Rattle.tracing.proofs.explaining.explained_from.Goals as goal

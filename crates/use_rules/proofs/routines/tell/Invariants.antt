@@ -2,7 +2,7 @@
 use Rattle.std.proofs.Common.{◌≡◌, List, take}
 use Rattle.tla_tree.specs.Tree.{Word}
 use Rattle.pcal_tree.specs.NameUses as names
-use Rattle.outside_sight.specs.SightIn.{Binds}
+use Rattle.module_outside.specs.SightIn.{Binds}
 use Rattle.use_rules.specs.Telling.{told_by}
 use Rattle.use_rules.specs.Seeing.{Sees}
 use Rattle.use_rules.proofs.routines.tell.Given as goal

@@ -2,8 +2,8 @@
 use Rattle.std.proofs.Common.{List, sym, subst}
 use Rattle.std.proofs.lemmas.Result.{IfOk-weaker}
 use Rattle.tla_tree.specs.Tree.{Name, words}
-use Rattle.outside_sight.specs.declared.modules.Modules.{Modules}
-use Rattle.outside_sight.specs.ModulesIn.{AreModules}
+use Rattle.module_outside.specs.declared.modules.Modules.{Modules}
+use Rattle.module_outside.specs.ModulesIn.{AreModules}
 use Rattle.use_rules.proofs.uses.use_refusal.Goals as goal
 
 pub returns : goal.returns

@@ -4,7 +4,7 @@ use Rattle.tla_token.specs.declared.rule.Rule.TheVariants.{Reserved}
 use Rattle.tla_token.specs.Words.{is_own}
 use Rattle.tla_tree.specs.Tree.{Word}
 use Rattle.pcal_tree.specs.Offences.{offence_if}
-use Rattle.outside_sight.specs.ModulesIn.{is_standard_in}
+use Rattle.module_outside.specs.ModulesIn.{is_standard_in}
 use Rattle.declared_rules.specs.Parts.{declares}
 use Rattle.declared_rules.specs.Finding.{reserved_in}
 use Rattle.declared_rules.proofs.JoinLaws.{joins_as, adds_one}

@@ -1,9 +1,9 @@
 -- Proves that what is outside is looked at.
 use Rattle.std.proofs.Common.{List, map, ap}
 use Rattle.std.specs.List.{flat_map}
-use Rattle.outside_units.specs.declared.passed.Passed.{Passed}
+use Rattle.module_outside.specs.declared.passed.Passed.{Passed}
 use Rattle.module_outside.specs.declared.definition.ReadDefinition.{ReadDefinition}
-use Rattle.outside_units.specs.Passing.{passed_seen}
+use Rattle.module_outside.specs.Passing.{passed_seen}
 use Rattle.tla_tree.specs.Tree.{Name}
 use Rattle.declared_rules.specs.Finding.{parts_offences}
 use Rattle.declared_rules.specs.Titles.{constant_parts, read_parts, unit_offences}

@@ -1,7 +1,7 @@
 -- Proves that what units offend is found.
 use Rattle.std.proofs.Common.{◌∙◌}
-use Rattle.outside_units.specs.declared.passed.Passed.{Passed}
-use Rattle.outside_units.specs.Passing.{passed_seen}
+use Rattle.module_outside.specs.declared.passed.Passed.{Passed}
+use Rattle.module_outside.specs.Passing.{passed_seen}
 use Rattle.declared_rules.specs.Titles.{unit_offences}
 use Rattle.declared_rules.proofs.JoinLaws.{joins_as}
 use Rattle.declared_rules.proofs.TitleLaws.{joins_more, joins_all, of_mapped}

@@ -2,8 +2,8 @@
 use Rattle.std.proofs.Common.{◌≡◌, List, length, take}
 use Rattle.std.specs.List.{flat_map}
 use Rattle.tla_tree.specs.Tree.{Tree}
-use Rattle.outside_units.specs.declared.passed.Passed.{Passed}
-use Rattle.outside_units.specs.Passing.{passed_seen}
+use Rattle.module_outside.specs.declared.passed.Passed.{Passed}
+use Rattle.module_outside.specs.Passing.{passed_seen}
 use Rattle.declared_rules.specs.Finding.{Joins}
 use Rattle.declared_rules.specs.Titles.{unit_offences}
 use Rattle.declared_rules.proofs.found.Found.units.Given as goal

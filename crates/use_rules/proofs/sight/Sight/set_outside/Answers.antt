@@ -3,8 +3,8 @@ use Rattle.std.proofs.lemmas.Result.{on_ok_weaker}
 use Rattle.std.proofs.Common.{List, ◌++◌, map, reverse, refl, subst}
 use Rattle.std.specs.List.{flat_map}
 use Rattle.tla_tree.specs.Tree.{Name, words}
-use Rattle.outside_units.specs.declared.passed.Passed.{Passed}
-use Rattle.outside_units.specs.Passing.{passed_seen}
+use Rattle.module_outside.specs.declared.passed.Passed.{Passed}
+use Rattle.module_outside.specs.Passing.{passed_seen}
 use Rattle.module_outside.specs.declared.definition.ReadDefinition.{ReadDefinition}
 use Rattle.module_outside.specs.OutsideAt.{definition_seen}
 use Rattle.pcal_tree.specs.NameUses as names

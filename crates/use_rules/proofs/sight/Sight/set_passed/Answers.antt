@@ -1,7 +1,7 @@
 -- Proves that the names of units that were not read are hidden.
 use Rattle.std.proofs.Common.{List, ◌++◌, map, take, refl, ap, subst}
 use Rattle.tla_tree.specs.Tree.{Word}
-use Rattle.outside_units.specs.declared.passed.Passed.{Passed}
+use Rattle.module_outside.specs.declared.passed.Passed.{Passed}
 use Rattle.pcal_tree.specs.NameUses as names
 use Rattle.use_rules.specs.Seeing.{Sees}
 use Rattle.use_rules.proofs.SeenLaws.{seen_of, sees_is, things_more, things_all, all_passed}

@@ -1,6 +1,6 @@
 -- What is kept: the names of the first units are hidden, as many as were looked at.
 use Rattle.std.proofs.Common.{take}
-use Rattle.outside_units.specs.declared.passed.Passed.{Passed}
+use Rattle.module_outside.specs.declared.passed.Passed.{Passed}
 use Rattle.pcal_tree.specs.NameUses as names
 use Rattle.use_rules.specs.Seeing.{Sees}
 use Rattle.use_rules.proofs.SeenLaws.{seen_of}

@@ -1,0 +1,61 @@
+-- Proves what is asked of the functions that go through an expression.
+use Rattle.std.proofs.Common.{ℕ, List, length, take, slice_index_or, sym, ap, ◌∙◌, subst, refl, arith}
+use Rattle.std.proofs.lemmas.List.{get_or_default}
+use Rattle.tla_tree.specs.Tree.{Form, seen_names}
+use Rattle.tla_tree.specs.Pool.{Entry, AllBelow, trees_at}
+use Rattle.tla_tree.specs.Shapes.{Shaped}
+use Rattle.tla_tree.proofs.PoolNumbers.{AllBelow-at}
+use Rattle.tla_pool.specs.FormOf.{form_of}
+use Rattle.pcal_tree.specs.OffencesRebind.{form_rebinds, parts_rebind}
+use Rattle.declared_rules.specs.Telling.{Adds, AddsParts}
+use Rattle.declared_rules.proofs.ExprLaws.{parts_start, parts_more, parts_cut, parts_done, node_adds}
+use Rattle.declared_rules.proofs.bind_walk.Walk.+exprs.Goals as goal
+
+pub expr-parts-requires : goal.expr-parts-requires
+expr-parts-requires t c =
+    let n = c.node-node.result.now in
+    let parts = c.deref.ensures.value ∙ ap (λ (n : Entry). n.parts) c.node.view_is in (
+      omega (arith, c.decreases),
+      (
+        subst (λ (ids : List ℕ). AllBelow c.args.e ids) (sym parts) c.node-node.ensures.older,
+        (
+          omega (arith, c.requires),
+          subst (λ (k : ℕ). Shaped (form_of c.node.inside.form) k) (ap (λ (is : List ℕ). length is) (sym parts)) (subst (λ (m : Form). Shaped m (length n.parts)) (sym (ap (λ (n : Entry). n.form) c.node.view_is)) c.node-node.ensures.shaped),
+        ),
+      ),
+    )
+
+pub expr-returns : goal.expr-returns
+expr-returns t c = λ K.
+    let n = c.node-node.result.now in
+    let g = c.args.sight.now in
+    let f = ap (λ (n : Entry). n.form) c.node.view_is in
+    let parts = c.deref.ensures.value ∙ ap (λ (n : Entry). n.parts) c.node.view_is in
+    node_adds g K c.args.self.now c.form.new.self c.parts.new.self _ n c.args.pool.now c.args.e c.node-node.ensures.tree
+    (subst (λ (m : Form). Adds g K c.args.self.now c.form.new.self (λ ms r. form_rebinds ms K r m)) f (c.in_ok-form.ensures K))
+    (subst (λ (m : Form). AddsParts g K c.form.new.self c.parts.new.self (λ ms r. parts_rebind ms K (seen_names m) (trees_at c.args.pool.now n.parts) r)) f
+    (subst (λ (ids : List ℕ). AddsParts g K c.form.new.self c.parts.new.self (λ ms r. parts_rebind ms K (seen_names (form_of c.node.inside.form)) (trees_at c.args.pool.now ids) r)) parts (c.in_ok-parts.ensures K)))
+    refl refl (c.truncate.ensures ∙ ap (λ (k : ℕ). take k c.parts.new.self.bound) c.len-around.ensures)
+
+pub parts-loop-i-init : goal.parts-loop-i-init
+parts-loop-i-init t c = λ K. parts_start c.args.sight.now K c.args.self.now (form_of c.args.form.now) c.args.pool.now c.args.parts.now
+
+pub parts-expr-requires : goal.parts-expr-requires
+parts-expr-requires t c =
+    let below = AllBelow-at c.args.past c.args.parts.now c.loop-i.i 0 c.requires.there c.loop-i-test.true in
+    (omega (arith, below, c.decreases), omega (arith, below, c.requires.inside))
+
+pub parts-loop-i-preserved : goal.parts-loop-i-preserved
+parts-loop-i-preserved t c = λ K.
+    let e = slice_index_or c.args.parts.now c.loop-i.i 0 in
+    parts_more c.args.sight.now K c.args.self.now c.loop-i.self c.expr.new.self _ (form_of c.args.form.now) c.args.pool.now c.args.parts.now c.loop-i.i e (get_or_default c.args.parts.now c.loop-i.i 0 e c.loop-i-test.true) c.loop-i-test.true
+    c.requires.shaped (c.in_ok-expr.ensures K) refl refl c.in_ok-add_next.ensures (c.loop-i.invariant K)
+
+pub parts-returns : goal.parts-returns
+parts-returns t c = λ K. parts_done c.args.sight.now K c.args.self.now c.loop-i.self (form_of c.args.form.now) c.args.pool.now c.args.parts.now c.loop-i.i c.loop-i-test.false (c.loop-i.invariant K)
+
+pub parts-returns-then-ends_in_literal : goal.parts-returns-then-ends_in_literal
+parts-returns-then-ends_in_literal t c = λ K.
+    let e = slice_index_or c.args.parts.now c.loop-i.i 0 in
+    parts_cut c.args.sight.now K c.args.self.now c.loop-i.self c.expr.new.self (form_of c.args.form.now) c.args.pool.now c.args.parts.now c.loop-i.i e (get_or_default c.args.parts.now c.loop-i.i 0 e c.loop-i-test.true) c.loop-i-test.true
+    c.requires.shaped (c.in_ok-expr.ensures K) (c.ends_in_literal.ensures c.if-ends_in_literal.true) (c.loop-i.invariant K)

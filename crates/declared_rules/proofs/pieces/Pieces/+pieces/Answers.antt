@@ -1,0 +1,54 @@
+-- Proves what is asked of the functions that go through a tree.
+use Rattle.std.proofs.Common.{ℕ, List, length, take, slice_index_or, sym, ap, ◌∙◌, subst, refl, arith}
+use Rattle.std.proofs.lemmas.List.{get_or_default}
+use Rattle.tla_tree.specs.Tree.{Form, seen_names}
+use Rattle.tla_tree.specs.Pool.{Entry, AllBelow, trees_at}
+use Rattle.tla_tree.specs.Shapes.{Shaped}
+use Rattle.tla_tree.proofs.PoolNumbers.{AllBelow-at}
+use Rattle.tla_pool.specs.FormOf.{form_of}
+use Rattle.pcal_tree.specs.OffencesRebind.{pieces_in}
+use Rattle.declared_rules.specs.Gathering.{form_pieces, Gathers, GathersParts}
+use Rattle.declared_rules.proofs.PieceLaws.{pieces_start, pieces_more, pieces_done, node_gathers}
+use Rattle.declared_rules.proofs.pieces.Pieces.+pieces.Goals as goal
+
+pub expr-parts-requires : goal.expr-parts-requires
+expr-parts-requires t c =
+    let n = c.node-node.result.now in
+    let parts = c.deref.ensures.value ∙ ap (λ (n : Entry). n.parts) c.node.view_is in (
+      omega (arith, c.decreases),
+      (
+        subst (λ (ids : List ℕ). AllBelow c.args.e ids) (sym parts) c.node-node.ensures.older,
+        (
+          omega (arith, c.requires),
+          subst (λ (k : ℕ). Shaped (form_of c.node.inside.form) k) (ap (λ (is : List ℕ). length is) (sym parts)) (subst (λ (m : Form). Shaped m (length n.parts)) (sym (ap (λ (n : Entry). n.form) c.node.view_is)) c.node-node.ensures.shaped),
+        ),
+      ),
+    )
+
+pub expr-returns : goal.expr-returns
+expr-returns t c =
+    let n = c.node-node.result.now in
+    let f = ap (λ (n : Entry). n.form) c.node.view_is in
+    let parts = c.deref.ensures.value ∙ ap (λ (n : Entry). n.parts) c.node.view_is in
+    node_gathers c.args.self.now c.form.new.self c.parts.new.self _ n c.args.pool.now c.args.e c.node-node.ensures.tree
+    (subst (λ (m : Form). Gathers c.args.self.now c.form.new.self (form_pieces m)) f c.in_ok-form.ensures)
+    (subst (λ (m : Form). GathersParts c.form.new.self c.parts.new.self (pieces_in (seen_names m) (trees_at c.args.pool.now n.parts))) f
+    (subst (λ (ids : List ℕ). GathersParts c.form.new.self c.parts.new.self (pieces_in (seen_names (form_of c.node.inside.form)) (trees_at c.args.pool.now ids))) parts c.in_ok-parts.ensures))
+    refl (c.truncate.ensures ∙ ap (λ (k : ℕ). take k c.parts.new.self.bound) c.len-around.ensures)
+
+pub parts-loop-i-init : goal.parts-loop-i-init
+parts-loop-i-init t c = pieces_start c.args.self.now (form_of c.args.form.now) c.args.pool.now c.args.parts.now
+
+pub parts-expr-requires : goal.parts-expr-requires
+parts-expr-requires t c =
+    let below = AllBelow-at c.args.past c.args.parts.now c.loop-i.i 0 c.requires.there c.loop-i-test.true in
+    (omega (arith, below, c.decreases), omega (arith, below, c.requires.inside))
+
+pub parts-loop-i-preserved : goal.parts-loop-i-preserved
+parts-loop-i-preserved t c =
+    let e = slice_index_or c.args.parts.now c.loop-i.i 0 in
+    pieces_more c.args.self.now c.loop-i.self c.expr.new.self _ (form_of c.args.form.now) c.args.pool.now c.args.parts.now c.loop-i.i e (get_or_default c.args.parts.now c.loop-i.i 0 e c.loop-i-test.true) c.loop-i-test.true
+    c.requires.shaped c.in_ok-expr.ensures refl c.in_ok-add_next.ensures c.loop-i.invariant
+
+pub parts-returns : goal.parts-returns
+parts-returns t c = pieces_done c.args.self.now c.loop-i.self (form_of c.args.form.now) c.args.pool.now c.args.parts.now c.loop-i.i c.loop-i-test.false c.loop-i.invariant

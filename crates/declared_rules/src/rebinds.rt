@@ -1,0 +1,187 @@
+//! Names that are bound or declared where they are in scope already, in an algorithm.
+
+ghost use Rattle.std.specs.Prelude.{◌≡◌, ◌≤◌, ◌∷◌, [], length, codes, IfOk, OnOk};
+ghost use Rattle.tla_tree.specs.Tree.{words};
+ghost use Rattle.algorithm_limits.specs.DepthsIn.{Hides};
+ghost use Rattle.module_outside.specs.ModulesIn.{AreModules};
+ghost use Rattle.pcal_tree.specs.InMemory.{algorithm_at, past_algorithm};
+ghost use Rattle.pcal_tree.specs.Offences.{first};
+ghost use Rattle.pcal_tree.specs.OffencesRebind.{any_name, rebind_offences_of};
+ghost use Rattle.module_outside.specs.WholeAt.{outside_at};
+ghost use Rattle.declared_rules.specs.Telling.{Adds, IsNew};
+ghost use Rattle.declared_rules.specs.Macros.{macro_names};
+ghost use Rattle.declared_rules.specs.Whole.{AreNone, AreAlone, AreSights, Begins, insides};
+
+use crate::bind_walk::Walk;
+use crate::kept::{Calls, Keeps};
+use crate::names::add_declared;
+use crate::outside_words::bind_units;
+use crate::sight::Sight;
+use algorithm_limits::bound::Bound;
+use indexmap::IndexMap;
+use module_outside::modules::Modules;
+use module_outside::outside::Outside;
+use pcal_tree::algorithm::{Algorithm, Macro};
+use std::alloc::{AllocError, Global};
+use tla_pool::Pool;
+use tla_token::Refusal;
+use tla_tree::{Name, PlacedName};
+
+/// What is the same in the text itself, in bodies of single processes, and in macros.
+#[derive(Drop)]
+pub struct Sights {
+    pub near: Sight,
+    pub own: Sight,
+    pub far: Sight,
+}
+
+/// Where names are looked at, what is kept, and what was found.
+#[derive(Drop)]
+pub struct Whole {
+    pub sights: Sights,
+    pub calls: Calls,
+    pub walk: Walk,
+}
+
+// The standard modules among these.
+#[tactic(auto, using(module_outside::proofs::ModuleLaws::none_extended, module_outside::proofs::ModuleLaws::names_extended, module_outside::proofs::ModuleLaws::all_extended))]
+fn modules_among(extended: &[PlacedName]) -> Modules
+    ensures { AreModules result (words extended.now) }
+{
+    let mut modules = Modules {
+        naturals: false,
+        integers: false,
+        sequences: false,
+        finite_sets: false,
+        tlc: false,
+    };
+    for one in extended {
+        modules = modules.with(one.name.bytes());
+    }
+    modules
+}
+
+// The names for which text may be put in, in macros.
+fn add_params(names: &mut Bound, process: &Name, macros: &[Macro]) -> Result<(), AllocError>
+    ensures { OnOk result (Hides names.old names.new (process.now ∷ macro_names macros.now)) }
+{
+    names.add(process)?;
+    for i in 0..macros.len() {
+        let one = &macros[i];
+        names.add_all(&one.params)?;
+    }
+    Ok(())
+}
+
+impl Sights {
+    // Text may be put in for the name of a process's identifier and for parameters.
+    fn stand(&mut self, process: &Name, macros: &[Macro]) -> Result<(), AllocError>
+        ensures { OnOk result ((m : Modules) → AreAlone m self.old → process.now ≡ codes "self" → AreSights m macros.now self.new) }
+    {
+        self.own.stands.add(process)?;
+        add_params(&mut self.far.stands, process, macros)
+    }
+}
+
+impl Walk {
+    // All but the definitions, where these are in scope.
+    fn inside(
+        &mut self,
+        sights: &Sights,
+        calls: &mut Calls,
+        pool: &Pool,
+        algorithm: &Algorithm,
+    ) -> Result<(), AllocError>
+        requires { past_algorithm algorithm.now ≤ length pool.now }
+        ensures { OnOk result (Begins sights.now pool.now algorithm.now calls.old → Adds sights.now.near any_name self.old self.new (λ ms r. insides ms (algorithm_at pool.now algorithm.now) r)) }
+    {
+        self.starts(&sights.near, pool, &algorithm.globals)?;
+        self.macros(&sights.near, &sights.far, calls, pool, &algorithm.macros)?;
+        self.procedures(&sights.near, calls, pool, &algorithm.procedures)?;
+        self.main(&sights.near, &sights.own, calls, pool, &algorithm.main)
+    }
+}
+
+impl Whole {
+    // Nothing was found, and nothing is kept.
+    fn new(alloc: Global, modules: Modules, process: Name) -> Whole
+        ensures sights { AreAlone modules result.sights }
+        ensures process { result.calls.process ≡ process }
+        ensures macros { result.calls.macros.kept.entries ≡ [] }
+        ensures procedures { result.calls.procedures.kept.entries ≡ [] }
+        ensures walk { IsNew result.walk }
+    {
+        Whole {
+            sights: Sights {
+                near: Sight {
+                    modules,
+                    stands: Bound::new(alloc),
+                },
+                own: Sight {
+                    modules,
+                    stands: Bound::new(alloc),
+                },
+                far: Sight {
+                    modules,
+                    stands: Bound::new(alloc),
+                },
+            },
+            calls: Calls {
+                alloc,
+                process,
+                macros: Keeps {
+                    kept: IndexMap::new(alloc),
+                },
+                procedures: Keeps {
+                    kept: IndexMap::new(alloc),
+                },
+            },
+            walk: Walk::new(alloc),
+        }
+    }
+
+    // The first offence, where nothing was found and nothing is kept yet.
+    fn first_offence(
+        &mut self,
+        pool: &Pool,
+        algorithm: &Algorithm,
+        outside: &Outside,
+    ) -> Result<Option<Refusal>, AllocError>
+        requires { past_algorithm algorithm.now ≤ length pool.now }
+        ensures { IfOk result (λ f. (m : Modules) → AreModules m (words outside.now.extended.items) → AreAlone m self.old.sights → AreNone self.old.calls → IsNew self.old.walk → f ≡ first (rebind_offences_of (algorithm_at pool.now algorithm.now) (outside_at pool.now outside.now))) }
+    {
+        let alloc = self.calls.alloc;
+        self.sights.stand(&self.calls.process, &algorithm.macros)?;
+        self.calls
+            .procedures
+            .procedures(alloc, &self.sights.own, pool, &algorithm.procedures)?;
+        add_declared(&mut self.walk.bound, &algorithm.globals)?;
+        bind_units(&mut self.walk.bound, outside)?;
+        self.walk
+            .definitions(&self.sights.near, pool, &algorithm.definitions)?;
+        self.walk
+            .inside(&self.sights, &mut self.calls, pool, algorithm)?;
+        Ok(self.walk.first)
+    }
+}
+
+/// The first name of an algorithm that is bound or declared where it is in scope already, also where macro calls, identifiers of
+/// processes and initial values of procedures are put in.
+///
+/// # Errors
+///
+/// Only for want of memory.
+pub fn rebind_refusal(
+    alloc: Global,
+    pool: &Pool,
+    algorithm: &Algorithm,
+    outside: &Outside,
+) -> Result<Option<Refusal>, AllocError>
+    requires { past_algorithm algorithm.now ≤ length pool.now }
+    ensures { IfOk result (λ r. r ≡ first (rebind_offences_of (algorithm_at pool.now algorithm.now) (outside_at pool.now outside.now))) }
+{
+    let modules = modules_among(&outside.extended);
+    let process = Vec::from_slice(alloc, b"self")?;
+    let mut whole = Whole::new(alloc, modules, Name::new(process));
+    whole.first_offence(pool, algorithm, outside)
+}

@@ -1,7 +1,0 @@
--- Proves that without choices the whole step is left.
-use Rattle.std.proofs.Common.{refl}
-use Rattle.first_troubles.specs.Tries.{step_by}
-use Rattle.first_troubles.proofs.searching.trouble_of_step.Goals as goal
-
-pub trouble_behind-requires-clause-wanted : goal.trouble_behind-requires-clause-wanted
-trouble_behind-requires-clause-wanted c = (step_by c.args.party.now c.args.actor.now c.args.state.now, refl)

@@ -1,2 +1,0 @@
--- Words in which the contracts of this crate are said.
-pub mod Tries

@@ -1,0 +1,14 @@
+-- A unit is a word and names, or something else is behind them.
+use Rattle.std.proofs.Common.{◌≤◌, ℕ, length, ap, sym, subst, ◌∙◌, arith, Option, Vec, Global, IfSome}
+use Rattle.tla_tree.specs.Tree.{Name}
+use Rattle.module_outside.specs.Fronts.{names_and_rest}
+use Rattle.module_outside.proofs.NameLaws.{named_more}
+use Rattle.module_outside.proofs.names.named.Goals as goal
+
+pub returns-else-end-len : goal.returns-else-end-len
+returns-else-end-len c =
+    let within = subst (λ (o : Option (Vec Name Global × ℕ)). IfSome o (λ x. x.1 ≤ length c.args.unit.now.items.items)) c.in-Some.is c.in_ok-names.ensures.within in
+    let other = c.if-end-len.false in
+    let len = c.len.ensures in
+    named_more c.args.unit.now c.args.word.now (sym c.is_keyword_at.ensures ∙ c.if-not-is_keyword_at.false) c.in-Some.names.items c.in-Some.end
+    (ap (names_and_rest c.args.unit.now) (sym c.in-Some.is) ∙ c.in_ok-names.ensures.value) (omega (arith, within, other, len))

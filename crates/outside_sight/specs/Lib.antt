@@ -1,2 +1,0 @@
-pub mod ModulesIn
-pub mod SightIn

@@ -1,0 +1,12 @@
+-- What is kept: the macros that were passed are known.
+use Rattle.std.proofs.Common.{List, map, take, reverse}
+use Rattle.pcal_tree.specs.Algorithm.{Procedure}
+use Rattle.pcal_tree.specs.InMemory.{macro_at}
+use Rattle.read_rules.specs.KnownIn.{Knows}
+use Rattle.read_rules.specs.Pruned.{macros_pruned}
+use Rattle.read_rules.specs.WantedIn.{wants}
+use Rattle.read_rules.specs.StepsIn.{AreJumps}
+use Rattle.read_rules.proofs.macros.known_macros.Given as goal
+
+abbrev pub invariant-loop-one : goal.invariant-loop-one
+invariant-loop-one l = (ps : List Procedure) → AreJumps l.fn.jumps.items ps → Knows l.known (macros_pruned (wants l.wanted) ps (reverse (map (macro_at l.pool) (take l.one-index l.macros)))) ps

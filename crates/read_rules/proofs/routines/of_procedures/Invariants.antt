@@ -1,0 +1,16 @@
+-- What is kept: the first of the offences of the procedures that were passed.
+use Rattle.std.proofs.Common.{List, None}
+use Rattle.pcal_tree.specs.Algorithm.{Procedure}
+use Rattle.pcal_tree.specs.InMemory.{procedure_at}
+use Rattle.pcal_tree.specs.OffencesStale.{stale_in_procedure}
+use Rattle.pcal_tree.specs.Reads.{Reading}
+use Rattle.pcal_tree.specs.laws.MacroSpots.{MacroSeen}
+use Rattle.read_rules.proofs.FoundLaws.{Found}
+use Rattle.read_rules.specs.KnownIn.{Knows}
+use Rattle.read_rules.specs.ReadsIn.{AreReads}
+use Rattle.read_rules.specs.RefusalsIn.{looking}
+use Rattle.read_rules.proofs.routines.of_procedures.Given as goal
+
+abbrev pub invariant-loop-procedure : goal.invariant-loop-procedure
+invariant-loop-procedure l = (ms : List MacroSeen) (ps : List Procedure) (ds : List Reading) → Knows l.known ms ps → AreReads l.reads ds
+    → Found (λ p. stale_in_procedure (looking ms ps) ds (procedure_at l.pool p)) l.procedures l.procedure-index None l.found

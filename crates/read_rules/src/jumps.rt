@@ -1,0 +1,88 @@
+//! What calls of procedures use: the names of the initial values of their variables.
+
+ghost use Rattle.std.specs.Prelude.{◌≡◌, ◌≤◌, [], ◌++◌, length, map, IfOk, OnOk};
+ghost use Rattle.tla_tree.specs.Nesting.{greatest};
+ghost use Rattle.pcal_tree.specs.InMemory.{start_at, declarations_at, procedure_at, past_start, past_declarations, past_procedure};
+ghost use Rattle.pcal_tree.specs.OffencesStale.{used_by_variables};
+ghost use Rattle.module_outside.specs.SightIn.{Binds};
+ghost use Rattle.read_rules.specs.NumbersIn.{declared_in};
+ghost use Rattle.read_rules.specs.Using.{Adds};
+ghost use Rattle.read_rules.specs.JumpsIn.{used_by_start, used_by_starts};
+ghost use Rattle.read_rules.specs.StepsIn.{AreJumps};
+
+use crate::declared::add_declared;
+use crate::steps::Jump;
+use crate::used::Used;
+use algorithm_limits::bound::Bound;
+use pcal_tree::algorithm::{Declaration, Procedure, Start};
+use std::alloc::{AllocError, Global};
+use tla_pool::Pool;
+use tla_tree::PlacedName;
+
+// The names of an initial value.
+fn add_start(used: &mut Used, pool: &Pool, start: &Start) -> Result<(), AllocError>
+    requires { past_start start.now ≤ length pool.now }
+    ensures { OnOk result (Adds used.old used.new (used_by_start (start_at pool.now start.now))) }
+{
+    match start {
+        Start::Unset => {}
+        Start::Equals(e) => used.expr(pool, *e)?,
+        Start::Among(e) => used.expr(pool, *e)?,
+    }
+    Ok(())
+}
+
+// Those of declarations.
+fn add_starts(used: &mut Used, pool: &Pool, list: &[Declaration]) -> Result<(), AllocError>
+    requires { past_declarations list.now ≤ length pool.now }
+    ensures { OnOk result (Adds used.old used.new (used_by_starts (declarations_at pool.now list.now))) }
+{
+    for i in 0..list.len() {
+        let declaration = &list[i];
+        add_start(used, pool, &declaration.start)?;
+    }
+    Ok(())
+}
+
+// The names of a procedure are bound where its initial values stand.
+fn bound_in(alloc: Global, one: &Procedure) -> Result<Bound, AllocError>
+    ensures { IfOk result (λ r. Binds r (declared_in one.now.params.items ++ declared_in one.now.variables.items)) }
+{
+    let mut bound = Bound::new(alloc);
+    add_declared(&mut bound, &one.params)?;
+    add_declared(&mut bound, &one.variables)?;
+    Ok(bound)
+}
+
+// What a call of a procedure uses.
+fn jump(alloc: Global, pool: &Pool, one: &Procedure) -> Result<Jump, AllocError>
+    requires { past_procedure one.now ≤ length pool.now }
+    ensures name { IfOk result (λ r. r.name ≡ one.now.name.word) }
+    ensures uses { IfOk result (λ r. r.uses.items ≡ used_by_variables (procedure_at pool.now one.now)) }
+{
+    let mut used = Used {
+        only_self: false,
+        names: Vec::new(alloc),
+        bound: bound_in(alloc, one)?,
+    };
+    add_starts(&mut used, pool, &one.variables)?;
+    let name = one.name.name.copied()?;
+    let Used { names, .. } = used;
+    Ok(Jump { name, uses: names })
+}
+
+/// What calls of these procedures use.
+///
+/// # Errors
+///
+/// Only for want of memory.
+pub fn jumps(alloc: Global, pool: &Pool, procedures: &[Procedure]) -> Result<Vec<Jump>, AllocError>
+    requires { greatest (map past_procedure procedures.now) ≤ length pool.now }
+    ensures { IfOk result (λ r. AreJumps r.items (map (procedure_at pool.now) procedures.now)) }
+{
+    let mut list = Vec::new(alloc);
+    for one in procedures {
+        list.push(jump(alloc, pool, one)?)?;
+    }
+    Ok(list)
+}

@@ -1,9 +1,0 @@
--- What is kept: the names of those that were passed are bound.
-use Rattle.std.proofs.Common.{take}
-use Rattle.std.specs.List.{flat_map}
-use Rattle.outside_units.specs.declared.passed.Passed.{Passed}
-use Rattle.algorithm_limits.specs.DepthsIn.{Hides}
-use Rattle.rebind_rules.proofs.outside.bind_passed.Given as goal
-
-abbrev pub invariant-loop-unit : goal.invariant-loop-unit
-invariant-loop-unit l = Hides l.fn.bound l.bound (flat_map (λ (u : Passed). u.names.items) (take l.unit-index l.list))

@@ -1,7 +1,0 @@
--- Proves that what may offend is kept.
-use Rattle.std.proofs.Common.{refl}
-use Rattle.rebind_rules.proofs.LeafLaws.{gains_keep}
-use Rattle.rebind_rules.proofs.walk.Walk.keep.Goals as goal
-
-pub returns : goal.returns
-returns c = gains_keep c.args.self.now _ c.args.binding refl refl c.in_ok-insert.ensures.keys

@@ -1,6 +1,0 @@
--- Proves the law `a_run_within_limits_is_one_without`.
-use Rattle.run_laws.proofs.Followed.{followed_below}
-use Rattle.run_laws.proofs.laws.a_run_within_limits_is_one_without.Goals as goal
-
-pub returns : goal.returns
-returns c = followed_below

@@ -1,6 +1,0 @@
--- Proves the law `each_run_by_a_script_is_followed`.
-use Rattle.run_laws.proofs.ScriptsFollowed.{scripts_followed}
-use Rattle.run_laws.proofs.laws.each_run_by_a_script_is_followed.Goals as goal
-
-pub returns : goal.returns
-returns c = scripts_followed

@@ -1,7 +1,0 @@
--- Proves that a name is there besides.
-use Rattle.std.proofs.Common.{sym, ◌∙◌}
-use Rattle.stale_rules.proofs.SetLaws.{joins_had}
-use Rattle.stale_rules.proofs.names.Names.add.Goals as goal
-
-pub returns-then-has : goal.returns-then-has
-returns-then-has c = joins_had c.args.self.now c.args.name.now (sym c.has.ensures ∙ c.if-has.true)

@@ -1,9 +1,0 @@
--- Proves the law `starts_are_initial`.
-use Rattle.started_states.proofs.StartedStates.{starts_initial, within_limits, without_limits}
-use Rattle.started_states.proofs.laws.starts_are_initial.Goals as goal
-
-pub returns-clause-any : goal.returns-clause-any
-returns-clause-any c = starts_initial
-
-pub returns-clause-both : goal.returns-clause-both
-returns-clause-both c = (without_limits, within_limits)

@@ -1,2 +1,0 @@
--- What starts of accepted algorithms end in, as a statement.
-pub mod StartedStates

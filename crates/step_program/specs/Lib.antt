@@ -1,4 +1,0 @@
--- Words in which the contracts of this crate are said.
-pub mod Programs
-pub mod Sights
-pub mod InMemory

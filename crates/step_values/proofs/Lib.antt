@@ -1,5 +1,0 @@
--- Lemmas of this crate.
-pub mod ScopeLaws
-pub mod LeftLaws
-pub mod SettingLists
-pub mod StateLaws
