@@ -5,6 +5,8 @@ The crate is checked from nothing, by one process; the crates below are built fi
 For each function stand the seconds of processor time since the one before it, the dearest first.
 The first one that is proved has the loading of the crates below in it, and the first one that stands on a file of
 specs/ or of proofs/ the check of that file.
+Then stand the seconds between the modules that the check kept, which it makes of a function in several steps: by steps
+(`Lts` is about how long values last), and the dearest modules.
 """
 import os
 import re
@@ -55,9 +57,35 @@ def times(crate):
     return found, last.strip()
 
 
+def modules(crate):
+    """The modules that the check of a crate kept, each with the seconds since the one before it."""
+    kept = []
+    for at, _, names in os.walk(os.path.join(TOP, "crates", crate, "out", "incremental")):
+        for name in names:
+            if name.endswith(".oantt"):
+                when = os.stat(os.path.join(at, name)).st_mtime_ns / 1e9
+                kept.append((when, name[: -len(".oantt")].partition(f"-{crate}-")[2]))
+    kept.sort()
+    return [(now - before, name) for (before, _), (now, name) in zip(kept, kept[1:])]
+
+
+def told(rows, most):
+    """Prints seconds and names, the dearest first, so many of them."""
+    for seconds, name in sorted(rows, reverse=True)[:most]:
+        print(f"{seconds:7.1f}  {name}")
+
+
 if len(sys.argv) != 2:
     sys.exit(__doc__)
 found, last = times(sys.argv[1])
-for seconds, name in sorted(found, reverse=True):
-    print(f"{seconds:7.1f}  {name}")
+told(found, len(found))
 print(f"{sum(seconds for seconds, _ in found):7.1f}  together; {last}")
+kept = modules(sys.argv[1])
+steps = {}
+for seconds, name in kept:
+    step = re.sub(r"-.*$", "", name.rpartition(".")[2])
+    steps[step] = steps.get(step, 0) + seconds
+print("\nby steps:")
+told([(seconds, step) for step, seconds in steps.items()], 12)
+print("\nthe dearest modules:")
+told(kept, 30)

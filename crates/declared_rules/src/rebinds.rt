@@ -35,14 +35,6 @@ pub struct Sights {
     pub far: Sight,
 }
 
-/// Where names are looked at, what is kept, and what was found.
-#[derive(Drop)]
-pub struct Whole {
-    pub sights: Sights,
-    pub calls: Calls,
-    pub walk: Walk,
-}
-
 // The standard modules among these.
 #[tactic(auto, using(module_outside::proofs::ModuleLaws::none_extended, module_outside::proofs::ModuleLaws::names_extended, module_outside::proofs::ModuleLaws::all_extended))]
 fn modules_among(extended: &[PlacedName]) -> Modules
@@ -102,67 +94,102 @@ impl Walk {
     }
 }
 
-impl Whole {
-    // Nothing was found, and nothing is kept.
-    fn new(alloc: Global, modules: Modules, process: Name) -> Whole
-        ensures sights { AreAlone modules result.sights }
-        ensures process { result.calls.process ≡ process }
-        ensures macros { result.calls.macros.kept.entries ≡ [] }
-        ensures procedures { result.calls.procedures.kept.entries ≡ [] }
-        ensures walk { IsNew result.walk }
+impl Sights {
+    // No text is put in anywhere.
+    fn new(alloc: Global, modules: Modules) -> Sights
+        ensures { AreAlone modules result }
     {
-        Whole {
-            sights: Sights {
-                near: Sight {
-                    modules,
-                    stands: Bound::new(alloc),
-                },
-                own: Sight {
-                    modules,
-                    stands: Bound::new(alloc),
-                },
-                far: Sight {
-                    modules,
-                    stands: Bound::new(alloc),
-                },
+        Sights {
+            near: Sight {
+                modules,
+                stands: Bound::new(alloc),
             },
-            calls: Calls {
-                alloc,
-                process,
-                macros: Keeps {
-                    kept: IndexMap::new(alloc),
-                },
-                procedures: Keeps {
-                    kept: IndexMap::new(alloc),
-                },
+            own: Sight {
+                modules,
+                stands: Bound::new(alloc),
             },
-            walk: Walk::new(alloc),
+            far: Sight {
+                modules,
+                stands: Bound::new(alloc),
+            },
         }
     }
+}
 
-    // The first offence, where nothing was found and nothing is kept yet.
-    fn first_offence(
-        &mut self,
-        pool: &Pool,
-        algorithm: &Algorithm,
-        outside: &Outside,
-    ) -> Result<Option<Refusal>, AllocError>
-        requires { past_algorithm algorithm.now ≤ length pool.now }
-        ensures { IfOk result (λ f. (m : Modules) → AreModules m (words outside.now.extended.items) → AreAlone m self.old.sights → AreNone self.old.calls → IsNew self.old.walk → f ≡ first (rebind_offences_of (algorithm_at pool.now algorithm.now) (outside_at pool.now outside.now))) }
+impl Calls {
+    // Nothing is kept.
+    fn new(alloc: Global, process: Name) -> Calls
+        ensures process { result.process ≡ process }
+        ensures macros { result.macros.kept.entries ≡ [] }
+        ensures procedures { result.procedures.kept.entries ≡ [] }
     {
-        let alloc = self.calls.alloc;
-        self.sights.stand(&self.calls.process, &algorithm.macros)?;
-        self.calls
-            .procedures
-            .procedures(alloc, &self.sights.own, pool, &algorithm.procedures)?;
-        add_declared(&mut self.walk.bound, &algorithm.globals)?;
-        bind_units(&mut self.walk.bound, outside)?;
-        self.walk
-            .definitions(&self.sights.near, pool, &algorithm.definitions)?;
-        self.walk
-            .inside(&self.sights, &mut self.calls, pool, algorithm)?;
-        Ok(self.walk.first)
+        Calls {
+            alloc,
+            process,
+            macros: Keeps {
+                kept: IndexMap::new(alloc),
+            },
+            procedures: Keeps {
+                kept: IndexMap::new(alloc),
+            },
+        }
     }
+}
+
+// The first offence, where nothing was found and nothing is kept yet.
+fn first_offence(
+    sights: &mut Sights,
+    calls: &mut Calls,
+    walk: &mut Walk,
+    pool: &Pool,
+    algorithm: &Algorithm,
+    outside: &Outside,
+) -> Result<Option<Refusal>, AllocError>
+    requires { past_algorithm algorithm.now ≤ length pool.now }
+    ensures { IfOk result (λ f. (m : Modules) → AreModules m (words outside.now.extended.items) → AreAlone m sights.old → AreNone calls.old → IsNew walk.old → f ≡ first (rebind_offences_of (algorithm_at pool.now algorithm.now) (outside_at pool.now outside.now))) }
+{
+    let alloc = calls.alloc;
+    sights.stand(&calls.process, &algorithm.macros)?;
+    calls
+        .procedures
+        .procedures(alloc, &sights.own, pool, &algorithm.procedures)?;
+    add_declared(&mut walk.bound, &algorithm.globals)?;
+    bind_units(&mut walk.bound, outside)?;
+    walk.definitions(&sights.near, pool, &algorithm.definitions)?;
+    walk.inside(&*sights, calls, pool, algorithm)?;
+    Ok(walk.first)
+}
+
+// The same, where nothing is kept yet.
+fn with_calls(
+    alloc: Global,
+    sights: &mut Sights,
+    calls: &mut Calls,
+    pool: &Pool,
+    algorithm: &Algorithm,
+    outside: &Outside,
+) -> Result<Option<Refusal>, AllocError>
+    requires { past_algorithm algorithm.now ≤ length pool.now }
+    ensures { IfOk result (λ f. (m : Modules) → AreModules m (words outside.now.extended.items) → AreAlone m sights.old → AreNone calls.old → f ≡ first (rebind_offences_of (algorithm_at pool.now algorithm.now) (outside_at pool.now outside.now))) }
+{
+    let mut walk = Walk::new(alloc);
+    first_offence(sights, calls, &mut walk, pool, algorithm, outside)
+}
+
+// The same, where this is the name of a process's identifier.
+fn with_sights(
+    alloc: Global,
+    sights: &mut Sights,
+    process: Name,
+    pool: &Pool,
+    algorithm: &Algorithm,
+    outside: &Outside,
+) -> Result<Option<Refusal>, AllocError>
+    requires { past_algorithm algorithm.now ≤ length pool.now }
+    ensures { IfOk result (λ f. (m : Modules) → AreModules m (words outside.now.extended.items) → AreAlone m sights.old → process ≡ codes "self" → f ≡ first (rebind_offences_of (algorithm_at pool.now algorithm.now) (outside_at pool.now outside.now))) }
+{
+    let mut calls = Calls::new(alloc, process);
+    with_calls(alloc, sights, &mut calls, pool, algorithm, outside)
 }
 
 /// The first name of an algorithm that is bound or declared where it is in scope already, also where macro calls, identifiers of
@@ -182,6 +209,13 @@ pub fn rebind_refusal(
 {
     let modules = modules_among(&outside.extended);
     let process = Vec::from_slice(alloc, b"self")?;
-    let mut whole = Whole::new(alloc, modules, Name::new(process));
-    whole.first_offence(pool, algorithm, outside)
+    let mut sights = Sights::new(alloc, modules);
+    with_sights(
+        alloc,
+        &mut sights,
+        Name::new(process),
+        pool,
+        algorithm,
+        outside,
+    )
 }

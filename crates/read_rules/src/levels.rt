@@ -1,8 +1,11 @@
 //! The levels of definitions: which of the variables that each reads, itself or through others, is declared last.
 
-ghost use Rattle.std.specs.Prelude.{◌≡◌, ◌≤◌, ◌+◌, List, [], ◌∷◌, ◌++◌, length, reverse, IfOk, OnOk};
-ghost use Rattle.tla_tree.specs.Tree.{Word};
+ghost use Rattle.std.specs.Prelude.{◌≡◌, ◌<◌, ◌≤◌, ◌+◌, List, [], ◌∷◌, ◌++◌, length, reverse, IfOk, OnOk};
+ghost use Rattle.tla_tree.specs.Tree.{Word, words};
+ghost use Rattle.tla_tree.specs.Pool.{at};
 ghost use Rattle.pcal_tree.specs.InMemory.{definitions_at, past_definitions};
+ghost use Rattle.pcal_tree.specs.Reads.{used};
+ghost use Rattle.algorithm_limits.specs.Numbers.{with_number};
 ghost use Rattle.early_reads.specs.Levels.{Levels, furthest, levels};
 ghost use Rattle.read_rules.specs.NumbersIn.{declared_in, AreNumbers, AreLevels};
 
@@ -52,6 +55,23 @@ fn furthest(numbers: &Table, levels: &Table, names: &[PlacedName]) -> usize
     so_far
 }
 
+// The level of one more definition, which comes after those that have theirs.
+fn add_level(
+    alloc: Global,
+    pool: &Pool,
+    numbers: &Table,
+    levels: &mut Table,
+    definition: &Definition,
+) -> Result<(), AllocError>
+    requires { definition.now.body < length pool.now }
+    ensures { OnOk result ((gs : List Word) (ls : Levels) → AreNumbers numbers.now gs → AreLevels levels.old ls → levels.new ≡ with_number levels.old definition.now.name.word (furthest gs ls (used (at pool.now definition.now.body) (words definition.now.params.items)))) }
+{
+    let names = used_names(alloc, pool, &definition.params, definition.body)?;
+    let level = furthest(numbers, &*levels, &names);
+    levels.set(definition.name.name.copied()?, level)?;
+    Ok(())
+}
+
 /// The levels of definitions, by the numbers of globals.
 ///
 /// # Errors
@@ -68,9 +88,7 @@ pub fn levels(
 {
     let mut levels = Table::new(alloc);
     for definition in definitions {
-        let names = used_names(alloc, pool, &definition.params, definition.body)?;
-        let level = furthest(numbers, &levels, &names);
-        levels.set(definition.name.name.copied()?, level)?;
+        add_level(alloc, pool, numbers, &mut levels, definition)?;
     }
     Ok(levels)
 }

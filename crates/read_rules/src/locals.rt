@@ -167,6 +167,22 @@ fn with_main(
     }
 }
 
+// The same of an algorithm, by all its variables and the levels of its definitions, where nothing is declared yet.
+fn order_in(
+    alloc: Global,
+    pool: &Pool,
+    known: &mut Known,
+    algorithm: &Algorithm,
+) -> Result<Option<Refusal>, AllocError>
+    requires { past_algorithm algorithm.now ≤ length pool.now }
+    ensures { IfOk result (λ r. (ls : Levels) → Binds known.old.all (variables_of (algorithm_at pool.now algorithm.now)) → AreLevels known.old.levels ls → known.old.before ≡ [] → r ≡ first (order_by ls (algorithm_at pool.now algorithm.now))) }
+{
+    let globals = with_declarations(alloc, pool, known, None, &algorithm.globals)?;
+    known.levels = Table::new(alloc);
+    let procedures = with_procedures(alloc, pool, known, globals, &algorithm.procedures)?;
+    with_main(alloc, pool, known, procedures, &algorithm.main)
+}
+
 /// The first variable that is read before it is declared, in an initial value; by the levels of definitions.
 ///
 /// # Errors
@@ -187,8 +203,5 @@ pub fn order_refusal(
         before: Bound::new(alloc),
         levels,
     };
-    let globals = with_declarations(alloc, pool, &mut known, None, &algorithm.globals)?;
-    known.levels = Table::new(alloc);
-    let procedures = with_procedures(alloc, pool, &mut known, globals, &algorithm.procedures)?;
-    with_main(alloc, pool, &mut known, procedures, &algorithm.main)
+    order_in(alloc, pool, &mut known, algorithm)
 }

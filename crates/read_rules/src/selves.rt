@@ -240,11 +240,27 @@ fn with_alone(
     ensures { IfOk result (λ r. r ≡ joined so_far (first (selves (used_outside (algorithm_at pool.now algorithm.now) (tree.alone (statements_at pool.now body.now)))))) }
 {
     let mut called = Table::new(alloc);
-    add_procedures(&mut called, &algorithm.procedures)?;
-    add_calls(&mut called, body)?;
+    with_calls(alloc, pool, &mut called, so_far, algorithm, body)
+}
+
+// The same, where no macro is marked as called yet.
+fn with_calls(
+    alloc: Global,
+    pool: &Pool,
+    called: &mut Table,
+    so_far: Option<Refusal>,
+    algorithm: &Algorithm,
+    body: &[Stmt],
+) -> Result<Option<Refusal>, AllocError>
+    requires whole { past_algorithm algorithm.now ≤ length pool.now }
+    requires body { past_statements body.now ≤ length pool.now }
+    ensures { IfOk result (λ r. called.old ≡ [] → r ≡ joined so_far (first (selves (used_outside (algorithm_at pool.now algorithm.now) (tree.alone (statements_at pool.now body.now)))))) }
+{
+    add_procedures(called, &algorithm.procedures)?;
+    add_calls(called, body)?;
     let procedures = with_procedures(alloc, pool, so_far, &algorithm.procedures)?;
     let found = with_body(alloc, pool, procedures, body)?;
-    with_macros(alloc, pool, &mut called, found, &algorithm.macros)
+    with_macros(alloc, pool, called, found, &algorithm.macros)
 }
 
 /// The first `self` of an algorithm where no process is: in first values of globals, in definitions, in identifiers of processes,

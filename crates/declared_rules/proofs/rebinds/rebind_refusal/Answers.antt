@@ -8,6 +8,6 @@ use Rattle.declared_rules.proofs.rebinds.rebind_refusal.Goals as goal
 pub returns : goal.returns
 returns c =
     let m = c.modules_among-modules.result in
-    IfOk-weaker c.first_offence.result _ _ (λ r h.
-    h m (subst (λ (ns : List Name). AreModules m (words ns)) c.deref.ensures.value c.modules_among-modules.ensures) c.new-whole.ensures.sights
-    (record { process = c.new-whole.ensures.process ∙ (c.new.ensures ∙ c.in_ok-process.ensures.items); macros = c.new-whole.ensures.macros; procedures = c.new-whole.ensures.procedures }) c.new-whole.ensures.walk) c.first_offence.ensures
+    IfOk-weaker c.with_sights.result _ _ (λ r h.
+    h m (subst (λ (ns : List Name). AreModules m (words ns)) c.deref.ensures.value c.modules_among-modules.ensures) c.new-sights.ensures
+    (c.new.ensures ∙ c.in_ok-process.ensures.items)) c.with_sights.ensures

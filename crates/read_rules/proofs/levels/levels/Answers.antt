@@ -5,7 +5,6 @@ use Rattle.tla_tree.specs.Tree.{words}
 use Rattle.tla_tree.specs.Pool.{at}
 use Rattle.tla_tree.proofs.PoolNumbers.{past_at}
 use Rattle.pcal_tree.specs.declared.algorithm.Definition.{Definition}
-use Rattle.pcal_tree.specs.Algorithm.{Name}
 use Rattle.pcal_tree.specs.Algorithm as tree
 use Rattle.pcal_tree.specs.InMemory.{definitions_at, past_definition}
 use Rattle.pcal_tree.specs.Reads.{used}
@@ -15,10 +14,10 @@ use Rattle.read_rules.specs.NumbersIn.{AreLevels}
 use Rattle.read_rules.proofs.NumberLaws.{levels_more, newest_first}
 use Rattle.read_rules.proofs.levels.levels.Goals as goal
 
-pub used_names-requires : goal.used_names-requires
-used_names-requires c =
+pub add_level-requires : goal.add_level-requires
+add_level-requires c =
     let less = past_at past_definition c.args.definitions.now c.loop-definition.definition-index c.definition-item.result c.definition-item.is c.loop-definition-test.true in
-    subst (λ (d : Definition). d.body < length c.args.pool.now) (sym c.definition.view_is) (omega (arith, less, c.requires))
+    omega (arith, less, c.requires)
 
 pub loop-definition-preserved : goal.loop-definition-preserved
 loop-definition-preserved c gs n =
@@ -28,11 +27,7 @@ loop-definition-preserved c gs n =
     let i = c.loop-definition.definition-index in
     let before = levels gs (reverse (definitions_at ts (take i ds))) in
     let h = c.loop-definition.invariant gs n in
-    let names : c.in_ok-names.names.items ≡ used (at ts d.body) (words d.params.items) =
-    c.in_ok-names.ensures ∙ ap (λ (ns : List Name). used (at ts c.definition.inside.0.1.1.0) (words ns)) c.deref.ensures.value ∙ ap (λ (e : Definition). used (at ts e.body) (words e.params.items)) c.definition.view_is in
-    let level : c.furthest-level.result ≡ furthest gs before (used (at ts d.body) (words d.params.items)) =
-    c.furthest-level.ensures gs before n h ∙ ap (furthest gs before) (c.deref-in-loop-definition.ensures.value ∙ names) in
-    let set = c.in_ok-set.ensures ∙ (λ k. with_number c.loop-definition.levels ((c.in_ok-copied.ensures ∙ ap (λ (e : Definition). e.name.word) c.definition.view_is) k) (level k)) in
+    let set = c.in_ok-add_level.ensures gs before n h in
     subst (λ (es : Numbers). AreLevels es (levels gs (reverse (definitions_at ts (take (i + 1) ds))))) (sym set)
     (subst (λ (es : List tree.Definition). AreLevels (with_number c.loop-definition.levels d.name.word (furthest gs before (used (at ts d.body) (words d.params.items)))) (levels gs es)) (sym (newest_first ts ds i d c.definition-item.is c.loop-definition-test.true))
     (levels_more c.loop-definition.levels before d.name.word (furthest gs before (used (at ts d.body) (words d.params.items))) h))

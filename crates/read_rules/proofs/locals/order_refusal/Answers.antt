@@ -1,48 +1,6 @@
--- Proves that the first offence is found in globals, procedures and processes.
-use Rattle.std.proofs.Common.{List, [], map, sym, ap, ◌∙◌, subst}
-use Rattle.std.specs.List.{flat_map}
+-- Proves that nothing is declared yet where the order is looked at.
 use Rattle.std.proofs.lemmas.Result.{IfOk-weaker}
-use Rattle.tla_tree.specs.Tree.{Word}
-use Rattle.pcal_tree.specs.declared.algorithm.Declaration.{Declaration}
-use Rattle.pcal_tree.specs.declared.algorithm.Procedure.{Procedure}
-use Rattle.pcal_tree.specs.Algorithm as tree
-use Rattle.pcal_tree.specs.InMemory.{declarations_at, procedure_at, algorithm_at}
-use Rattle.pcal_tree.specs.Offences.{first}
-use Rattle.pcal_tree.specs.OffencesReads.{processes_of}
-use Rattle.pcal_tree.specs.Variables.{declared}
-use Rattle.algorithm_limits.specs.Numbers.{Numbers, number_of}
-use Rattle.algorithm_limits.specs.DepthsIn.{Hides}
-use Rattle.algorithm_answer.specs.Joined.{joined}
-use Rattle.early_reads.specs.EarlyReads.{early_in, early_in_locals, variables_of}
-use Rattle.module_outside.specs.SightIn.{Binds}
-use Rattle.module_outside.proofs.SightLaws.{none_bound, binds_all}
-use Rattle.read_rules.specs.declared.order.Known.{Known}
-use Rattle.read_rules.specs.NumbersIn.{declared_in}
-use Rattle.read_rules.specs.Order.{Knows}
-use Rattle.read_rules.specs.Locals.{procedure_list, process_list}
-use Rattle.read_rules.proofs.NumberLaws.{declared_is}
-use Rattle.read_rules.proofs.LocalLaws.{order_joined}
 use Rattle.read_rules.proofs.locals.order_refusal.Goals as goal
 
 pub returns : goal.returns
-returns c =
-    let ts = c.args.pool.now in
-    let a : tree.Algorithm = algorithm_at ts c.args.algorithm.now in
-    let all = variables_of a in
-    let gs = declared a.globals in
-    let known : Known = record { all = c.with_declarations.new.known.all; before = c.with_declarations.new.known.before; levels = c.new-2.result } in
-    let before = c.with_declarations.new.known.before in
-    let hides = subst (λ (hs : List Word). Hides hs before (declared_in c.deref.result.now)) c.new.ensures c.in_ok-globals.ensures.hides in
-    let knows : Knows known all [] gs = record {
-      all = subst (λ (hs : List Word). Binds hs all) (sym c.in_ok-globals.ensures.all) (c.in_ok-all.ensures ts);
-      levels = λ x. ap (λ (es : Numbers). number_of es x) c.new-2.ensures;
-      before = subst (λ (ws : List Word). Binds before ws) (ap declared_in c.deref.ensures.value ∙ sym (declared_is ts c.args.algorithm.now.globals.items)) (binds_all before (declared_in c.deref.result.now) hides);
-    } in
-    IfOk-weaker c.with_main.result _ _ (λ r h ls l.
-    order_joined (early_in_locals all gs) c.in_ok-globals.globals c.in_ok-procedures.procedures r (early_in all ls [] 0 a.globals) (map procedure_list a.procedures) (map process_list (processes_of a.main))
-    (c.in_ok-globals.ensures.found all ls [] (record { all = c.in_ok-all.ensures ts; levels = l; before = subst (λ (hs : List Word). Binds hs []) (sym c.new.ensures) none_bound })
-    ∙ ap (λ (ds : List Declaration). first (early_in all ls [] 0 (declarations_at ts ds))) c.deref.ensures.value)
-    (c.in_ok-procedures.ensures.found all gs knows
-    ∙ ap (λ (ps : List Procedure). joined c.in_ok-globals.globals (first (flat_map (early_in_locals all gs) (map procedure_list (map (procedure_at ts) ps))))) c.deref-2.ensures.value)
-    (h all gs (subst (λ (k : Known). Knows k all [] gs) (sym c.in_ok-procedures.ensures.kept) knows)))
-    c.with_main.ensures
+returns c = IfOk-weaker c.order_in.result _ _ (λ r h ls l. h ls (c.in_ok-all.ensures c.args.pool.now) l c.new.ensures) c.order_in.ensures

@@ -21,20 +21,20 @@ use Rattle.declared_rules.specs.Units.{declared_names}
 use Rattle.declared_rules.specs.Whole.{AreSights}
 use Rattle.declared_rules.proofs.UnitLaws.{words_are}
 use Rattle.declared_rules.proofs.WholeLaws.{refusal_told}
-use Rattle.declared_rules.proofs.rebinds.Whole.first_offence.Goals as goal
+use Rattle.declared_rules.proofs.rebinds.first_offence.Goals as goal
 
 pub returns : goal.returns
 returns c = λ m e z n w.
     let a = c.args.algorithm.now in
     let ts = c.args.pool.now in
     let o = outside_at ts c.args.outside.now in
-    let old = c.args.self.now.walk in
+    let old = c.args.walk.now in
     let s = c.stand.new.self in
     let globals = declared (algorithm_at ts a).globals in
     let g = subst (λ (ds : List Macro). AreSights m ds s) c.deref.ensures.value (c.in_ok-stand.ensures m z n.process) in
     let kept =
     subst
-    (λ (ps : List Procedure). (P : List Word) → c.args.self.now.calls.procedures.kept.entries ≡ [] → ((x : Word) → is_among s.own.stands x ≡ self_alone x)
+    (λ (ps : List Procedure). (P : List Word) → c.args.calls.now.procedures.kept.entries ≡ [] → ((x : Word) → is_among s.own.stands x ≡ self_alone x)
     → Means s.own P c.procedures.new.self (λ ms z x us. call_rebinds ms (map (procedure_at ts) ps) x z)) c.deref-2.ensures.value c.in_ok-procedures.ensures
     in
     let mid : Walk = record { bound = c.bind_units.new.bound; first = old.first; free = old.free } in
