@@ -25,7 +25,8 @@ use Rattle.algorithm_limits.proofs.BoundLemmas.{hides_none, hides_then, hides_as
 use Rattle.declared_rules.specs.declared.sight.Sight.{Sight}
 use Rattle.declared_rules.specs.declared.bind_walk.Walk.{Walk}
 use Rattle.declared_rules.specs.Telling.{told, Adds, AddsNaming}
-use Rattle.declared_rules.specs.Bodies.{bind_name, bind_number, AddsBind, AddsBinds, AddsStmt}
+use Rattle.declared_rules.specs.Parts.{bind_name}
+use Rattle.declared_rules.specs.Bodies.{bind_number, AddsBind, AddsBinds, AddsStmt}
 use Rattle.declared_rules.proofs.ScopeLaws.{around_hides}
 use Rattle.declared_rules.proofs.TellLaws.{first_then, adds_none, adds_as, adds_then, adds_within}
 

@@ -26,4 +26,8 @@ pub mod UnitLaws
 pub mod ProcessLaws
 pub mod OutsideLaws
 pub mod WholeLaws
+pub mod MetWalks
+pub mod MetBodies
+pub mod MetSwept
+pub mod MetWords
 mod Rows

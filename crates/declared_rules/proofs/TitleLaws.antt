@@ -1,4 +1,4 @@
--- That names outside are seen, and titles are looked at.
+-- That titles are looked at, and what is outside.
 use Rattle.std.proofs.Common.{◌≡◌, ℕ, ◌+◌, ◌<◌, ◌≤◌, List, [], ◌∷◌, ◌++◌, length, map, take, get_or, refl, sym, ap, subst, ◌∙◌, append-nil}
 use Rattle.std.specs.List.{flat_map}
 use Rattle.std.proofs.lemmas.List.{take_more, take_all}
@@ -13,13 +13,12 @@ use Rattle.module_outside.specs.declared.outside.Outside.{Outside}
 use Rattle.module_outside.specs.OutsideAt.{definition_seen}
 use Rattle.module_outside.specs.WholeAt.{outside_at}
 use Rattle.algorithm_limits.specs.DepthsIn.{Hides}
-use Rattle.algorithm_limits.proofs.BoundLemmas.{hides_then, hides_as}
 use Rattle.module_outside.specs.declared.modules.Modules.{Modules}
 use Rattle.module_outside.specs.SightIn.{Binds}
 use Rattle.module_outside.proofs.SightLaws.{binds_all, none_bound}
 use Rattle.declared_rules.specs.declared.found.Found.{Found}
 use Rattle.declared_rules.specs.Finding.{reserved_in, parts_offences, seen_offences, Joins, AddsNames}
-use Rattle.declared_rules.specs.Titles.{constant_parts, read_parts, pure_title, unit_offences, outside_offences, read_words, passed_words, title_offences}
+use Rattle.declared_rules.specs.Titles.{constant_parts, read_parts, pure_title, unit_offences, outside_offences, title_offences}
 use Rattle.declared_rules.proofs.JoinLaws.{joins_then, joins_as}
 use Rattle.declared_rules.proofs.NameLaws.{with_seen, names_then}
 
@@ -30,13 +29,6 @@ more_of {B = B} f xs i x e less =
     ap (λ y. flat_map f (take i xs) ++ f y) e
     ∙ sym (ap (flat_map f) (take_more xs i x less) ∙ flat_map-append f (take i xs) (get_or xs i x ∷ []) ∙ ap (λ (l : List B). flat_map f (take i xs) ++ l) (append-nil (f (get_or xs i x))))
 
-module _ {A : Type 0} (f : A → List Word) (xs : List A) where
-  pub hides_more : (a b c : List Word) (i : ℕ) (x : A) → x ≡ get_or xs i x → i < length xs → Hides a b (flat_map f (take i xs)) → Hides b c (f x) → Hides a c (flat_map f (take (i + 1) xs))
-  hides_more a b c i x e less g h = hides_as a c _ _ (more_of f xs i x e less) (hides_then a b c (flat_map f (take i xs)) (f x) g h)
-
-  pub hides_all : (a b : List Word) (i : ℕ) → length xs ≤ i → Hides a b (flat_map f (take i xs)) → Hides a b (flat_map f xs)
-  hides_all a b i less g = hides_as a b _ _ (ap (flat_map f) (take_all i xs less)) g
-
 module _ (ts : List Tree) {A : Type 0} (f : A → List Refusal) (xs : List A) where
   pub joins_more : (j k l : Found) (i : ℕ) (x : A) → x ≡ get_or xs i x → i < length xs → Joins ts j k (flat_map f (take i xs)) → Joins ts k l (f x) → Joins ts j l (flat_map f (take (i + 1) xs))
   joins_more j k l i x e less g h = joins_as ts j l _ _ (more_of f xs i x e less) (joins_then ts j k l (flat_map f (take i xs)) (f x) g h)
@@ -44,27 +36,11 @@ module _ (ts : List Tree) {A : Type 0} (f : A → List Refusal) (xs : List A) wh
   pub joins_all : (j k : Found) (i : ℕ) → length xs ≤ i → Joins ts j k (flat_map f (take i xs)) → Joins ts j k (flat_map f xs)
   joins_all j k i less g = joins_as ts j k _ _ (ap (flat_map f) (take_all i xs less)) g
 
-pub each_word : {A : Type 0} (f : A → Word) (xs : List A) → flat_map (λ (x : A). f x ∷ []) xs ≡ map f xs
-each_word f [] = refl
-each_word f (x ∷ xs) = ap (λ (l : List Word). f x ∷ l) (each_word f xs)
-
-pub words_themselves : (ws : List Word) → map (λ (w : Word). w) ws ≡ ws
-words_themselves [] = refl
-words_themselves (w ∷ ws) = ap (λ (l : List Word). w ∷ l) (words_themselves ws)
-
 pub of_mapped : {A B : Type 0} (f : B → List Refusal) (g : A → B) (xs : List A) → flat_map (λ (x : A). f (g x)) xs ≡ flat_map f (map g xs)
 of_mapped f g [] = refl
 of_mapped f g (x ∷ xs) = ap (λ (l : List Refusal). f (g x) ++ l) (of_mapped f g xs)
 
 -- ---- what is outside in memory, and the pure one
-
-pub titles_read : (ts : List Tree) (ds : List ReadDefinition) → read_words ds ≡ map (λ (d : pure.ReadDefinition). d.definition.title) (map (definition_seen ts) ds)
-titles_read ts [] = refl
-titles_read ts (d ∷ ds) = ap (λ (l : List Word). d.title.word ∷ l) (titles_read ts ds)
-
-pub names_passed : (us : List Passed) → passed_words us ≡ flat_map (λ (u : pure.Opaque). u.names) (map passed_seen us)
-names_passed [] = refl
-names_passed (u ∷ us) = ap (λ (l : List Word). u.names.items ++ l) (names_passed us)
 
 constants_offend : (m : Modules) (ns : List Name) → parts_offences m (flat_map constant_parts ns) ≡ flat_map (reserved_in m) ns
 constants_offend m [] = refl

@@ -12,11 +12,8 @@ use Rattle.pcal_tree.specs.InMemory.{binds_at, stmt_at}
 use Rattle.pcal_tree.specs.OffencesRebind.{Standings, any_name, Calls, whole_rebinds, binds_rebind, body_rebinds}
 use Rattle.declared_rules.specs.declared.sight.Sight.{Sight}
 use Rattle.declared_rules.specs.declared.bind_walk.Walk.{Walk}
+use Rattle.declared_rules.specs.Parts.{bind_name}
 use Rattle.declared_rules.specs.Telling.{Adds, AddsNaming}
-
-abbrev pub bind_name : Bind → Name
-bind_name (bind.Among x e) = x
-bind_name (bind.Is x e) = x
 
 abbrev pub bind_number : Bind → ℕ
 bind_number (bind.Among x e) = e

@@ -12,3 +12,4 @@ pub mod Units
 pub mod Processes
 pub mod OutsideWords
 pub mod Whole
+pub mod Met

@@ -18,7 +18,6 @@ use Rattle.pcal_tree.specs.declared.algorithm.Main.TheVariants as main
 use Rattle.pcal_tree.specs.declared.algorithm.Algorithm.{Algorithm}
 use Rattle.pcal_tree.specs.Offences.{offence_if}
 use Rattle.module_outside.specs.declared.modules.Modules.{Modules}
-use Rattle.module_outside.specs.declared.passed.Passed.{Passed}
 use Rattle.module_outside.specs.declared.definition.ReadDefinition.{ReadDefinition}
 use Rattle.declared_rules.specs.Parts.{Part, declares, declaration_names}
 use Rattle.declared_rules.specs.Finding.{reserved_in, seen_offences}
@@ -43,12 +42,6 @@ pure_title d = record { word = d.definition.title; place = d.place }
 -- constants, definitions and units that are passed on
 abbrev pub outside_offences : Modules → pure.Outside → List Refusal
 outside_offences m o = flat_map (reserved_in m) o.constants ++ (flat_map (λ d. reserved_in m (pure_title d)) o.definitions ++ flat_map unit_offences o.opaque)
-
-abbrev pub read_words : List ReadDefinition → List Word
-read_words ds = map (λ (d : ReadDefinition). d.title.word) ds
-
-abbrev pub passed_words : List Passed → List Word
-passed_words us = flat_map (λ (u : Passed). u.names.items) us
 
 -- ---- titles
 

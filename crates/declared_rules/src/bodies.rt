@@ -10,7 +10,8 @@ ghost use Rattle.pcal_tree.specs.InMemory.{assignments_at, binds_at, simple_at, 
 ghost use Rattle.pcal_tree.specs.OffencesRebind.{any_name, rebound, rebound_all, Calls as PureCalls, start_rebinds, starts_rebind, jump_rebinds, assignments_rebind, each_rebinds, one_rebinds, body_rebinds, branches_rebind};
 ghost use Rattle.declared_rules.specs.Telling.{Adds};
 ghost use Rattle.declared_rules.specs.Keeping.{KnowsCalls};
-ghost use Rattle.declared_rules.specs.Bodies.{bind_name, bind_number, AddsBinds, AddsStmt};
+ghost use Rattle.declared_rules.specs.Parts.{bind_name};
+ghost use Rattle.declared_rules.specs.Bodies.{bind_number, AddsBinds, AddsStmt};
 
 use crate::bind_walk::Walk;
 use crate::kept::Calls;
@@ -21,8 +22,8 @@ use std::alloc::AllocError;
 use tla_pool::Pool;
 use tla_tree::{Name, NodeId, PlacedName};
 
-// The name that one of a `with` binds.
-fn named(bind: &Bind) -> &PlacedName
+/// The name that one of a `with` binds.
+pub fn named(bind: &Bind) -> &PlacedName
     ensures { result.now ≡ bind_name bind.now }
 {
     match bind {
@@ -31,8 +32,8 @@ fn named(bind: &Bind) -> &PlacedName
     }
 }
 
-// Its expression.
-fn expression(bind: &Bind) -> NodeId
+/// The expression of one of a `with`.
+pub fn expression(bind: &Bind) -> NodeId
     ensures { result ≡ bind_number bind.now }
 {
     match bind {

@@ -1,4 +1,4 @@
-//! Refusals for names declared twice or bound again, reserved names, and what needs a module.
+//! Refusals for names declared twice or bound again, reserved names, and what needs a module; and names that are taken.
 #![tactic(auto)]
 
 pub mod bind_walk;
@@ -8,6 +8,7 @@ pub mod exprs;
 pub mod found;
 pub mod kept;
 pub mod macros;
+pub mod met;
 pub mod names;
 pub mod outside;
 pub mod outside_words;

@@ -5,14 +5,13 @@ ghost use Rattle.std.specs.List.{flat_map};
 ghost use Rattle.tla_token.specs.Signs.{is_among as is_among_of};
 ghost use Rattle.tla_tree.specs.Tree.{Tree, words};
 ghost use Rattle.pcal_tree.specs.Outside.{unit_names};
-ghost use Rattle.algorithm_limits.specs.DepthsIn.{Hides};
 ghost use Rattle.module_outside.specs.Passing.{passed_seen};
 ghost use Rattle.module_outside.specs.WholeAt.{outside_at};
 ghost use Rattle.declared_rules.specs.Finding.{Joins, Adds, AddsNames};
-ghost use Rattle.declared_rules.specs.Titles.{unit_offences, passed_offences, constant_parts, read_parts, read_words, passed_words, defined_names, macro_names, procedure_names, process_names, main_names, kept_titles, other_titles, title_offences, outside_offences};
+ghost use Rattle.declared_rules.specs.Titles.{unit_offences, passed_offences, constant_parts, read_parts, defined_names, macro_names, procedure_names, process_names, main_names, kept_titles, other_titles, title_offences, outside_offences};
 
 use crate::found::Found;
-use algorithm_limits::bound::Bound;
+use crate::outside_words::bind_units;
 use module_outside::definition::ReadDefinition;
 use module_outside::outside::Outside;
 use module_outside::passed::Passed;
@@ -31,48 +30,6 @@ fn is_declaring(word: &[u8]) -> bool
     ensures { result ≡ is_among_of (codes "VARIABLE" ∷ codes "VARIABLES" ∷ []) word.now }
 {
     is_among(&DECLARING, word)
-}
-
-// ---- names that are seen
-
-// Names.
-fn see_names(seen: &mut Bound, names: &[Name]) -> Result<(), AllocError>
-    ensures { OnOk result (Hides seen.old seen.new names.now) }
-{
-    for name in names {
-        seen.add(name)?;
-    }
-    Ok(())
-}
-
-// Those of definitions.
-fn see_read(seen: &mut Bound, list: &[ReadDefinition]) -> Result<(), AllocError>
-    ensures { OnOk result (Hides seen.old seen.new (read_words list.now)) }
-{
-    for definition in list {
-        seen.add(&definition.title.name)?;
-    }
-    Ok(())
-}
-
-// Those of units that are passed on.
-fn see_passed(seen: &mut Bound, list: &[Passed]) -> Result<(), AllocError>
-    ensures { OnOk result (Hides seen.old seen.new (passed_words list.now)) }
-{
-    for unit in list {
-        see_names(seen, &unit.names)?;
-    }
-    Ok(())
-}
-
-// Those of all units.
-fn see_units(seen: &mut Bound, outside: &Outside) -> Result<(), AllocError>
-    ensures { OnOk result ((ts : List Tree) → Hides seen.old seen.new (unit_names (outside_at ts outside.now))) }
-{
-    seen.add_all(&outside.constants)?;
-    see_read(seen, &outside.definitions)?;
-    see_passed(seen, &outside.opaque)?;
-    Ok(())
 }
 
 impl Found {
@@ -229,7 +186,7 @@ impl Found {
         self.kept(algorithm)?;
         self.others(algorithm)?;
         self.seen.truncate(0);
-        see_units(&mut self.seen, outside)?;
+        bind_units(&mut self.seen, outside)?;
         self.kept(algorithm)?;
         Ok(())
     }

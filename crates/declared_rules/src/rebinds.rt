@@ -19,13 +19,13 @@ use crate::outside_words::bind_units;
 use crate::sight::Sight;
 use algorithm_limits::bound::Bound;
 use indexmap::IndexMap;
-use module_outside::modules::Modules;
+use module_outside::modules::{Modules, modules_among};
 use module_outside::outside::Outside;
 use pcal_tree::algorithm::{Algorithm, Macro};
 use std::alloc::{AllocError, Global};
 use tla_pool::Pool;
 use tla_token::Refusal;
-use tla_tree::{Name, PlacedName};
+use tla_tree::Name;
 
 /// What is the same in the text itself, in bodies of single processes, and in macros.
 #[derive(Drop)]
@@ -33,24 +33,6 @@ pub struct Sights {
     pub near: Sight,
     pub own: Sight,
     pub far: Sight,
-}
-
-// The standard modules among these.
-#[tactic(auto, using(module_outside::proofs::ModuleLaws::none_extended, module_outside::proofs::ModuleLaws::names_extended, module_outside::proofs::ModuleLaws::all_extended))]
-fn modules_among(extended: &[PlacedName]) -> Modules
-    ensures { AreModules result (words extended.now) }
-{
-    let mut modules = Modules {
-        naturals: false,
-        integers: false,
-        sequences: false,
-        finite_sets: false,
-        tlc: false,
-    };
-    for one in extended {
-        modules = modules.with(one.name.bytes());
-    }
-    modules
 }
 
 // The names for which text may be put in, in macros.
@@ -176,19 +158,19 @@ fn with_calls(
     first_offence(sights, calls, &mut walk, pool, algorithm, outside)
 }
 
-// The same, where this is the name of a process's identifier.
+// The same, with the name of a process's identifier.
 fn with_sights(
     alloc: Global,
     sights: &mut Sights,
-    process: Name,
     pool: &Pool,
     algorithm: &Algorithm,
     outside: &Outside,
 ) -> Result<Option<Refusal>, AllocError>
     requires { past_algorithm algorithm.now ≤ length pool.now }
-    ensures { IfOk result (λ f. (m : Modules) → AreModules m (words outside.now.extended.items) → AreAlone m sights.old → process ≡ codes "self" → f ≡ first (rebind_offences_of (algorithm_at pool.now algorithm.now) (outside_at pool.now outside.now))) }
+    ensures { IfOk result (λ f. (m : Modules) → AreModules m (words outside.now.extended.items) → AreAlone m sights.old → f ≡ first (rebind_offences_of (algorithm_at pool.now algorithm.now) (outside_at pool.now outside.now))) }
 {
-    let mut calls = Calls::new(alloc, process);
+    let process = Vec::from_slice(alloc, b"self")?;
+    let mut calls = Calls::new(alloc, Name::new(process));
     with_calls(alloc, sights, &mut calls, pool, algorithm, outside)
 }
 
@@ -208,14 +190,6 @@ pub fn rebind_refusal(
     ensures { IfOk result (λ r. r ≡ first (rebind_offences_of (algorithm_at pool.now algorithm.now) (outside_at pool.now outside.now))) }
 {
     let modules = modules_among(&outside.extended);
-    let process = Vec::from_slice(alloc, b"self")?;
     let mut sights = Sights::new(alloc, modules);
-    with_sights(
-        alloc,
-        &mut sights,
-        Name::new(process),
-        pool,
-        algorithm,
-        outside,
-    )
+    with_sights(alloc, &mut sights, pool, algorithm, outside)
 }

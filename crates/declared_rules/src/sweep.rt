@@ -12,19 +12,13 @@ ghost use Rattle.declared_rules.specs.Parts.{expr_parts};
 
 use crate::found::Found;
 use algorithm_limits::bound::Bound;
+use module_outside::depth::is_member;
 use module_outside::modules::Modules;
 use std::alloc::{AllocError, Global};
 use tla_pool::Pool;
 use tla_pool::form::{Form, Strict};
 use tla_token::{Place, Rule};
 use tla_tree::NodeId;
-
-// Whether it is `\in` or `\notin`.
-fn is_member(form: &Form) -> bool
-    ensures { result ≡ is_member_of (form_of form.now) }
-{
-    matches!(form, Form::Member(_))
-}
 
 // Whether it is the set of all strings.
 fn is_strings(form: &Form) -> bool

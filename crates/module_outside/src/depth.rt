@@ -71,15 +71,15 @@ fn form_reads(
     }
 }
 
-// Whether it is `\in` or `\notin`.
-fn is_member(form: &Form) -> bool
+/// Whether it is `\in` or `\notin`.
+pub fn is_member(form: &Form) -> bool
     ensures { result ≡ is_member_of (form_of form.now) }
 {
     matches!(form, Form::Member(_))
 }
 
-// Whether the part of this number is the last one of `\in` or `\notin`.
-fn is_last_of_member(form: &Form, part: usize, parts: usize) -> bool
+/// Whether the part of this number is the last one of `\in` or `\notin`.
+pub fn is_last_of_member(form: &Form, part: usize, parts: usize) -> bool
     requires { part < parts }
     ensures { result ≡ (is_member_of (form_of form.now) && nat_eq (part + 1) parts) }
 {

@@ -29,7 +29,6 @@ pub struct Found {
 }
 
 // With the definition that a unit before the translation is, if it is read, or with what is kept of it.
-#[tactic(auto, using(crate::proofs::FoundLaws::goes_declared, crate::proofs::FoundLaws::sees_declared, crate::proofs::FoundLaws::goes_defined, crate::proofs::FoundLaws::sees_defined, crate::proofs::FoundLaws::goes_passed, crate::proofs::FoundLaws::sees_passed, crate::proofs::FoundLaws::held_push, crate::proofs::FoundLaws::held_kept))]
 fn find(
     alloc: Global,
     pool: &mut Pool,
@@ -59,7 +58,6 @@ fn find(
 }
 
 // With what is kept of a unit behind the translation, if it declares nothing.
-#[tactic(auto, using(crate::proofs::FoundLaws::passes_declared, crate::proofs::FoundLaws::passes_on))]
 fn pass(alloc: Global, unit: &Tokens, opaque: &mut Vec<Passed>) -> Result<(), AllocError>
     requires some { 0 < length unit.now.items.items }
     ensures { IfOk result (λ u. (v : pure.Sight) → PassesOn opaque.old.items opaque.new.items (unit_in false v (ahead unit.now 0))) }

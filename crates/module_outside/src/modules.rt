@@ -1,11 +1,12 @@
 //! Which of the standard modules are extended.
 
 ghost use Rattle.std.specs.Prelude.{◌≡◌};
-ghost use Rattle.module_outside.specs.ModulesIn.{has_op, with_module, is_standard_in};
+ghost use Rattle.tla_tree.specs.Tree.{words};
+ghost use Rattle.module_outside.specs.ModulesIn.{AreModules, has_op, with_module, is_standard_in};
 
 use crate::standard::is;
 use tla_token::own::is_standard;
-use tla_tree::Op;
+use tla_tree::{Op, PlacedName};
 
 /// The standard modules that are extended.
 #[derive(Clone, Copy)]
@@ -59,4 +60,22 @@ impl Modules {
     {
         is_standard(self.sequences, self.tlc, name)
     }
+}
+
+/// The standard modules among these names.
+#[tactic(auto, using(crate::proofs::ModuleLaws::none_extended, crate::proofs::ModuleLaws::names_extended, crate::proofs::ModuleLaws::all_extended))]
+pub fn modules_among(names: &[PlacedName]) -> Modules
+    ensures { AreModules result (words names.now) }
+{
+    let mut modules = Modules {
+        naturals: false,
+        integers: false,
+        sequences: false,
+        finite_sets: false,
+        tlc: false,
+    };
+    for one in names {
+        modules = modules.with(one.name.bytes());
+    }
+    modules
 }

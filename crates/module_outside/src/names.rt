@@ -1,6 +1,6 @@
 //! Names with commas between them, and parameters.
 
-ghost use Rattle.std.specs.Prelude.{◌≡◌, ◌<◌, ◌≤◌, ◌&&◌, length, IfOk, IfSome, Some, None, List};
+ghost use Rattle.std.specs.Prelude.{◌≡◌, ◌<◌, ◌≤◌, ◌&&◌, length, IfOk, IfSome, IsTrue, Some, None, List};
 ghost use Rattle.tla_tree.specs.Lexical as tk;
 ghost use Rattle.expr_nodes.specs.Ahead.{ahead};
 ghost use Rattle.outside_reading.specs.PlainUnits.{names_in, named_in, modules_in, constants_in, parameters_in, head_in};
@@ -17,7 +17,6 @@ use tla_tree::PlacedName;
 /// # Errors
 ///
 /// Only for want of memory.
-#[tactic(auto, using(crate::proofs::NameLaws::names_start))]
 pub fn names_at(
     alloc: Global,
     tokens: &Tokens,
@@ -106,7 +105,8 @@ pub fn constants(alloc: Global, unit: &Tokens) -> Result<Option<Vec<PlacedName>>
 
 // Whether brackets from a token on, before another, are closed.
 fn is_closed(tokens: &Tokens, from: usize, end: usize) -> bool
-    ensures { result ≡ (front_right (ahead tokens.now from) && front_placed tk.close_bracket (ahead tokens.now end)) }
+    ensures value { result ≡ (front_right (ahead tokens.now from) && front_placed tk.close_bracket (ahead tokens.now end)) }
+    ensures there { IsTrue result → end < length tokens.now.items.items }
 {
     is_right_at(tokens, from) && is_placed_at(tokens, end, Mark::CloseBracket)
 }

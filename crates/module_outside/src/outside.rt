@@ -1,20 +1,23 @@
 //! What a module has outside its algorithm and the translation.
 
-ghost use Rattle.std.specs.Prelude.{◌≡◌, length, List, IfOk};
+ghost use Rattle.std.specs.Prelude.{◌≡◌, ◌++◌, [], length, List, IfOk};
 ghost use Rattle.tla_token.specs.TokensSeen.{tokens_seen};
+ghost use Rattle.tla_tree.specs.Tree.{words};
 ghost use Rattle.tla_tree.specs.Pool.{Keeps};
 ghost use Rattle.module_tree.specs.Walk.{Located};
 ghost use Rattle.module_tree.specs.FileParts.{before_spot, after_spot};
 ghost use Rattle.module_tree.specs.FileUnits.{cut, tokens_in};
+ghost use Rattle.module_tree.specs.Outside as pure;
 ghost use Rattle.module_tree.specs.laws.Outsides.{HasOutside};
 ghost use Rattle.expr_nodes.specs.Ahead.{ahead};
-ghost use Rattle.outside_reading.specs.PlainUnits.{outside_in};
-ghost use Rattle.module_outside.specs.FoundAt.{AreHeld};
+ghost use Rattle.outside_reading.specs.PlainUnits.{all_modules, all_constants, outside_in};
+ghost use Rattle.module_outside.specs.FoundAt.{AreHeld, IsAll};
+ghost use Rattle.module_outside.specs.SightIn.{Sees};
 ghost use Rattle.module_outside.specs.WholeAt.{outside_at};
 
 use crate::declared::{Declared, declare_all};
 use crate::definition::ReadDefinition;
-use crate::found::{found_before, pass_all};
+use crate::found::{Found, found_before, pass_all};
 use crate::passed::Passed;
 use crate::sight::Sight;
 use std::alloc::{AllocError, Global};
@@ -29,6 +32,53 @@ pub struct Outside {
     pub constants: Vec<PlacedName>,
     pub definitions: Vec<ReadDefinition>,
     pub opaque: Vec<Passed>,
+}
+
+// What the units before the translation and after it declare.
+fn declared_in(alloc: Global, before: &Tokens, after: &Tokens) -> Result<Declared, AllocError>
+    ensures extended { IfOk result (λ d. d.extended.items ≡ all_modules (cut (ahead before.now 0)).units ++ all_modules (cut (ahead after.now 0)).units) }
+    ensures constants { IfOk result (λ d. d.constants.items ≡ all_constants (cut (ahead before.now 0)).units ++ all_constants (cut (ahead after.now 0)).units) }
+{
+    let mut declared = Declared {
+        extended: Vec::new(alloc),
+        constants: Vec::new(alloc),
+    };
+    declare_all(alloc, before, &mut declared)?;
+    declare_all(alloc, after, &mut declared)?;
+    Ok(declared)
+}
+
+// What is found in them, where this is in sight.
+fn found_by(
+    alloc: Global,
+    pool: &mut Pool,
+    sight: &mut Sight,
+    before: &Tokens,
+    after: &Tokens,
+) -> Result<Found, AllocError>
+    ensures all { IfOk result (λ f. (v : pure.Sight) → Sees sight.old v → IsAll pool.new f v (cut (ahead before.now 0)).units (cut (ahead after.now 0)).units) }
+    ensures held { IfOk result (λ f. AreHeld (length pool.new) f.definitions.items) }
+    ensures kept { Keeps pool.old pool.new }
+{
+    let mut found = found_before(alloc, pool, sight, before)?;
+    pass_all(alloc, after, &mut found.opaque)?;
+    Ok(found)
+}
+
+// What is found in them, where these modules are extended and these constants declared.
+fn found_in(
+    alloc: Global,
+    pool: &mut Pool,
+    declared: &Declared,
+    before: &Tokens,
+    after: &Tokens,
+) -> Result<Found, AllocError>
+    ensures all { IfOk result (λ f. IsAll pool.new f (record { modules = words declared.now.extended.items; constants = words declared.now.constants.items; earlier = [] }) (cut (ahead before.now 0)).units (cut (ahead after.now 0)).units) }
+    ensures held { IfOk result (λ f. AreHeld (length pool.new) f.definitions.items) }
+    ensures kept { Keeps pool.old pool.new }
+{
+    let mut sight = Sight::new(alloc, &declared.extended, &declared.constants)?;
+    found_by(alloc, pool, &mut sight, before, after)
 }
 
 /// What a module has outside, by its tokens before the place of a translation and after it.
@@ -47,15 +97,8 @@ pub fn read_outside(
     ensures held { IfOk result (λ o. AreHeld (length pool.new) o.definitions.items) }
     ensures kept { Keeps pool.old pool.new }
 {
-    let mut declared = Declared {
-        extended: Vec::new(alloc),
-        constants: Vec::new(alloc),
-    };
-    declare_all(alloc, before, &mut declared)?;
-    declare_all(alloc, after, &mut declared)?;
-    let mut sight = Sight::new(alloc, &declared.extended, &declared.constants)?;
-    let mut found = found_before(alloc, pool, &mut sight, before)?;
-    pass_all(alloc, after, &mut found.opaque)?;
+    let declared = declared_in(alloc, before, after)?;
+    let found = found_in(alloc, pool, &declared, before, after)?;
     Ok(Outside {
         extended: declared.extended,
         constants: declared.constants,

@@ -5,11 +5,10 @@ ghost use Rattle.tla_tree.specs.Tree.{words};
 ghost use Rattle.tla_value.specs.Definitions as pure;
 ghost use Rattle.tla_value.specs.DefinitionNesting.{depths, definition_nests};
 ghost use Rattle.module_tree.specs.Outside as pure_sight;
-ghost use Rattle.module_outside.specs.ModulesIn.{AreModules};
 ghost use Rattle.module_outside.specs.SightIn.{Sees, used_depth};
 ghost use Rattle.tla_pool.specs.FormOf.{form_of};
 
-use crate::modules::Modules;
+use crate::modules::{Modules, modules_among};
 use algorithm_limits::bound::Bound;
 use algorithm_limits::table::Table;
 use std::alloc::{AllocError, Global};
@@ -27,24 +26,6 @@ pub struct Sight {
     pub arities: Table,
     /// How deep a use of each definition nests.
     pub depths: Table,
-}
-
-// The modules among these names.
-#[tactic(auto, using(crate::proofs::ModuleLaws::none_extended, crate::proofs::ModuleLaws::names_extended, crate::proofs::ModuleLaws::all_extended))]
-fn modules_among(names: &[PlacedName]) -> Modules
-    ensures { AreModules result (words names.now) }
-{
-    let mut modules = Modules {
-        naturals: false,
-        integers: false,
-        sequences: false,
-        finite_sets: false,
-        tlc: false,
-    };
-    for one in names {
-        modules = modules.with(one.name.bytes());
-    }
-    modules
 }
 
 impl Sight {

@@ -12,7 +12,7 @@ ghost use Rattle.module_outside.specs.WholeAt.{outside_at};
 ghost use Rattle.written_names.specs.Units.{naming_of};
 
 use crate::refusal::name_refusal;
-use crate::taken::taken_in_all;
+use declared_rules::met::taken_in_all;
 use module_outside::outside::Outside;
 use pcal_tree::algorithm::Algorithm;
 use std::alloc::{AllocError, Global};

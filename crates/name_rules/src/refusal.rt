@@ -6,6 +6,7 @@ ghost use Rattle.pcal_tree.specs.Offences.{first};
 ghost use Rattle.pcal_tree.specs.OffencesOfNames.{name_offences};
 ghost use Rattle.module_outside.specs.WholeAt.{outside_at};
 
+use crate::uses::use_refusal;
 use algorithm_limits::order::least;
 use declared_rules::rebind_refusal;
 use declared_rules::refusal::declared_refusal;
@@ -16,7 +17,6 @@ use read_rules::{read_refusal, self_refusal};
 use std::alloc::{AllocError, Global};
 use tla_pool::Pool;
 use tla_token::Refusal;
-use use_rules::use_refusal;
 
 /// The least of the rules on names that an algorithm in a module breaks, at its first place, if it breaks one.
 ///

@@ -18,7 +18,7 @@ use Rattle.pcal_tree.specs.Reads.{used, used_by_all, used_by_assignments, used_b
 use Rattle.pcal_tree.proofs.InMemoryEach.{label_at, simple_in_list_at, if_at, either_at, with_at, while_at}
 use Rattle.algorithm_limits.specs.DepthsIn.{Hides}
 use Rattle.algorithm_limits.proofs.BoundLemmas.{hides_none, hides_then, hides_as, first_kept}
-use Rattle.early_reads.specs.BodyNames.{names_in_one, names_in, names_in_some}
+use Rattle.read_rules.specs.BodyNames.{names_in_one, names_in, names_in_some}
 use Rattle.module_outside.specs.SightIn.{Binds}
 use Rattle.module_outside.proofs.SightLaws.{binds_more}
 use Rattle.read_rules.specs.declared.used.Used.{Used}

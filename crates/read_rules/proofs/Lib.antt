@@ -1,4 +1,9 @@
 -- That what is read too early is found.
+pub mod NumbersOfVariables
+pub mod LevelsTell
+pub mod EarlyTold
+pub mod NamesOfBodies
+pub mod CallsAsSets
 pub mod UsedLaws
 pub mod NumberLaws
 pub mod FoundLaws
@@ -25,3 +30,4 @@ pub mod RefusalLaws
 pub mod PruneLaws
 pub mod WantedLaws
 pub mod NoReadings
+mod Rows

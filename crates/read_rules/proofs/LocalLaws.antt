@@ -23,7 +23,7 @@ use Rattle.algorithm_limits.specs.DepthsIn.{Hides}
 use Rattle.algorithm_limits.proofs.BoundLemmas.{hides_then, hides_as}
 use Rattle.algorithm_answer.specs.Joined.{joined}
 use Rattle.algorithm_answer.proofs.Joins.{joined_assoc, first_append}
-use Rattle.early_reads.specs.EarlyReads.{early_in_start, early_in, early_in_locals, variables_of}
+use Rattle.read_rules.specs.EarlyReads.{early_in_start, early_in, early_in_locals, variables_of}
 use Rattle.read_rules.specs.declared.order.Known.{Known}
 use Rattle.read_rules.specs.NumbersIn.{declared_in}
 use Rattle.read_rules.specs.Order.{Knows, behind}

@@ -10,7 +10,7 @@ use Rattle.pcal_tree.specs.InMemory.{definition_at, definitions_at, declarations
 use Rattle.pcal_tree.specs.Variables.{declared}
 use Rattle.algorithm_limits.specs.Numbers.{Numbers, number_of, with_number}
 use Rattle.algorithm_limits.proofs.Tables.{number_of_with}
-use Rattle.early_reads.specs.Levels.{one_further, number_among, Levels}
+use Rattle.read_rules.specs.Levels.{one_further, number_among, Levels}
 use Rattle.read_rules.specs.NumbersIn.{declared_in, AreNumbers, AreLevels}
 
 -- ---- the numbers of variables

@@ -13,8 +13,8 @@ use Rattle.algorithm_limits.specs.DepthsIn.{Hides}
 use Rattle.algorithm_limits.proofs.BoundLemmas.{hides_none, hides_then, hides_as}
 use Rattle.algorithm_answer.specs.Joined.{joined}
 use Rattle.algorithm_answer.proofs.Joins.{joined_assoc, joined_none, first_append}
-use Rattle.early_reads.specs.Levels.{Levels}
-use Rattle.early_reads.specs.EarlyReads.{early_in_start, early_in}
+use Rattle.read_rules.specs.Levels.{Levels}
+use Rattle.read_rules.specs.EarlyReads.{early_in_start, early_in}
 use Rattle.module_outside.specs.SightIn.{Binds}
 use Rattle.module_outside.proofs.SightLaws.{binds_more}
 use Rattle.read_rules.specs.declared.order.Known.{Known}

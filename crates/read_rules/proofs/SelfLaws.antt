@@ -22,7 +22,7 @@ use Rattle.algorithm_limits.specs.Numbers.{Numbers, number_of, with_number}
 use Rattle.algorithm_limits.proofs.Tables.{number_of_with}
 use Rattle.algorithm_answer.specs.Joined.{joined}
 use Rattle.algorithm_answer.proofs.Joins.{joined_assoc, joined_none, first_append}
-use Rattle.early_reads.proofs.CallsAsSets.{among_without}
+use Rattle.read_rules.proofs.CallsAsSets.{among_without}
 use Rattle.read_rules.specs.Calls.{AreCalled, AddsCalls}
 use Rattle.read_rules.specs.Using.{if_self}
 use Rattle.read_rules.specs.Selves.{calls_of_procedure}

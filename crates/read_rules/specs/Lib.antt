@@ -1,3 +1,6 @@
+pub mod Levels
+pub mod EarlyReads
+pub mod BodyNames
 pub mod Using
 pub mod NumbersIn
 pub mod Own

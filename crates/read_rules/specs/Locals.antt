@@ -10,8 +10,8 @@ use Rattle.pcal_tree.specs.declared.algorithm.Algorithm.{Algorithm}
 use Rattle.pcal_tree.specs.Algorithm as tree
 use Rattle.tla_token.specs.declared.rule.Refusal.{Refusal}
 use Rattle.pcal_tree.specs.Variables.{declared}
-use Rattle.early_reads.specs.Levels.{Levels}
-use Rattle.early_reads.specs.EarlyReads.{local_lists, variables_of, early_in, early_in_locals}
+use Rattle.read_rules.specs.Levels.{Levels}
+use Rattle.read_rules.specs.EarlyReads.{local_lists, variables_of, early_in, early_in_locals}
 use Rattle.read_rules.specs.NumbersIn.{declared_in}
 
 abbrev pub procedure_words : Procedure → List Word

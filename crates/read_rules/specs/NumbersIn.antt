@@ -3,7 +3,7 @@ use Rattle.std.specs.Prelude.{◌≡◌, List, map}
 use Rattle.tla_tree.specs.Tree.{Word}
 use Rattle.pcal_tree.specs.declared.algorithm.Declaration.{Declaration}
 use Rattle.algorithm_limits.specs.Numbers.{Numbers, number_of}
-use Rattle.early_reads.specs.Levels.{number_among, Levels, level_of}
+use Rattle.read_rules.specs.Levels.{number_among, Levels, level_of}
 
 -- the names of variables that are declared in memory
 abbrev pub declared_in : List Declaration → List Word

@@ -1,7 +1,7 @@
 -- What is known where an initial value stands: all variables, those that are declared before, and the levels of definitions.
 use Rattle.std.specs.Prelude.{List, [], ◌∷◌}
 use Rattle.tla_tree.specs.Tree.{Word}
-use Rattle.early_reads.specs.Levels.{Levels}
+use Rattle.read_rules.specs.Levels.{Levels}
 use Rattle.module_outside.specs.SightIn.{Binds}
 use Rattle.read_rules.specs.declared.order.Known.{Known}
 use Rattle.read_rules.specs.NumbersIn.{AreLevels}

@@ -10,7 +10,7 @@ use Rattle.pcal_tree.specs.BoundNames.{names_of_binds}
 use Rattle.pcal_tree.specs.InMemory.{binds_at, stmt_at}
 use Rattle.pcal_tree.specs.Reads.{used, used_by_binds}
 use Rattle.algorithm_limits.specs.DepthsIn.{Hides}
-use Rattle.early_reads.specs.BodyNames.{names_in}
+use Rattle.read_rules.specs.BodyNames.{names_in}
 use Rattle.module_outside.specs.SightIn.{Binds}
 use Rattle.read_rules.specs.declared.used.Used.{Used}
 use Rattle.read_rules.specs.Using.{kept, Adds}

@@ -5,7 +5,7 @@ ghost use Rattle.tla_tree.specs.Nesting.{greatest};
 ghost use Rattle.tla_tree.specs.Pool.{trees_at};
 ghost use Rattle.pcal_tree.specs.InMemory.{assignments_at, simple_at, statements_at, branches_at, past_numbers, past_assignment, past_bind, past_simple, past_stmt, past_statements, past_branches};
 ghost use Rattle.pcal_tree.specs.Reads.{used_by_all, used_by_assignments};
-ghost use Rattle.early_reads.specs.BodyNames.{names_in_one, names_in, names_in_some};
+ghost use Rattle.read_rules.specs.BodyNames.{names_in_one, names_in, names_in_some};
 ghost use Rattle.read_rules.specs.Using.{Adds};
 ghost use Rattle.read_rules.specs.UsingBodies.{AddsBind, AddsBinds, AddsStmt};
 

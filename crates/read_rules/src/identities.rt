@@ -8,8 +8,8 @@ ghost use Rattle.pcal_tree.specs.InMemory.{process_at, past_process, main_at, pa
 ghost use Rattle.pcal_tree.specs.Offences.{first};
 ghost use Rattle.pcal_tree.specs.OffencesReads.{processes_of};
 ghost use Rattle.algorithm_answer.specs.Joined.{joined};
-ghost use Rattle.early_reads.specs.Levels.{Levels, reach_of};
-ghost use Rattle.early_reads.specs.EarlyReads.{offending_name, offending_process};
+ghost use Rattle.read_rules.specs.Levels.{Levels, reach_of};
+ghost use Rattle.read_rules.specs.EarlyReads.{offending_name, offending_process};
 ghost use Rattle.read_rules.specs.NumbersIn.{AreNumbers, AreLevels};
 
 use crate::used::free_names;

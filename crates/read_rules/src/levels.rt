@@ -6,7 +6,7 @@ ghost use Rattle.tla_tree.specs.Pool.{at};
 ghost use Rattle.pcal_tree.specs.InMemory.{definitions_at, past_definitions};
 ghost use Rattle.pcal_tree.specs.Reads.{used};
 ghost use Rattle.algorithm_limits.specs.Numbers.{with_number};
-ghost use Rattle.early_reads.specs.Levels.{Levels, furthest, levels};
+ghost use Rattle.read_rules.specs.Levels.{Levels, furthest, levels};
 ghost use Rattle.read_rules.specs.NumbersIn.{declared_in, AreNumbers, AreLevels};
 
 use crate::used::used_names;

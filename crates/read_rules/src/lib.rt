@@ -9,6 +9,7 @@ pub mod definitions;
 pub mod identities;
 pub mod jumps;
 pub mod known;
+pub mod laws;
 pub mod levels;
 pub mod locals;
 pub mod macros;

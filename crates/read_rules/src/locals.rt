@@ -9,12 +9,12 @@ ghost use Rattle.pcal_tree.specs.Offences.{first};
 ghost use Rattle.pcal_tree.specs.OffencesReads.{processes_of};
 ghost use Rattle.algorithm_limits.specs.DepthsIn.{Hides};
 ghost use Rattle.algorithm_answer.specs.Joined.{joined};
-ghost use Rattle.early_reads.specs.EarlyReads.{early_in_locals, variables_of};
+ghost use Rattle.read_rules.specs.EarlyReads.{early_in_locals, variables_of};
 ghost use Rattle.module_outside.specs.SightIn.{Binds};
 ghost use Rattle.read_rules.specs.Order.{Knows};
 ghost use Rattle.read_rules.specs.Locals.{procedure_words, process_words, main_words, procedure_list, process_list, order_by};
 ghost use Rattle.read_rules.specs.NumbersIn.{AreLevels};
-ghost use Rattle.early_reads.specs.Levels.{Levels};
+ghost use Rattle.read_rules.specs.Levels.{Levels};
 
 use crate::declared::add_declared;
 use crate::order::{Known, with_declarations};

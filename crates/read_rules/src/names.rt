@@ -125,7 +125,6 @@ impl Names {
     /// # Errors
     ///
     /// Only for want of memory.
-    #[tactic(auto, using(crate::proofs::SetLaws::joins_none, crate::proofs::SetLaws::names_more, crate::proofs::SetLaws::names_all))]
     pub fn add_all(&mut self, other: &Names) -> Result<(), AllocError>
         ensures { OnOk result (Joins self.old self.new other.now) }
     {

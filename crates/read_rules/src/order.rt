@@ -9,8 +9,8 @@ ghost use Rattle.pcal_tree.specs.InMemory.{start_at, declarations_at, past_start
 ghost use Rattle.pcal_tree.specs.Offences.{first};
 ghost use Rattle.algorithm_limits.specs.DepthsIn.{Hides};
 ghost use Rattle.algorithm_answer.specs.Joined.{joined};
-ghost use Rattle.early_reads.specs.Levels.{Levels};
-ghost use Rattle.early_reads.specs.EarlyReads.{is_early, early_in_tree, early_in_start, early_in};
+ghost use Rattle.read_rules.specs.Levels.{Levels};
+ghost use Rattle.read_rules.specs.EarlyReads.{is_early, early_in_tree, early_in_start, early_in};
 ghost use Rattle.module_outside.specs.SightIn.{Binds};
 ghost use Rattle.read_rules.specs.NumbersIn.{declared_in, AreLevels};
 ghost use Rattle.read_rules.specs.Order.{Knows};

@@ -5,7 +5,7 @@ ghost use Rattle.pcal_tree.specs.InMemory.{algorithm_at, past_algorithm};
 ghost use Rattle.pcal_tree.specs.Offences.{first};
 ghost use Rattle.pcal_tree.specs.OffencesReads.{process_offences, own_offences, order_offences};
 ghost use Rattle.pcal_tree.specs.Variables.{declared};
-ghost use Rattle.early_reads.specs.Levels.{levels_of};
+ghost use Rattle.read_rules.specs.Levels.{levels_of};
 ghost use Rattle.read_rules.specs.NumbersIn.{AreNumbers, AreLevels};
 
 use crate::identities::identity_refusal;

@@ -5,8 +5,4 @@ pub mod LookedUp
 pub mod Steps
 pub mod UnitWalks
 pub mod UnitLists
-pub mod KeptWalks
-pub mod KeptBodies
-pub mod KeptSwept
-pub mod KeptWords
 mod Rows

@@ -58,11 +58,10 @@ module _ {A : Type 0} (ask : A → Asked) (xs : List A) where
 
 -- ---- the whole algorithm
 
-pub naming_given : (ts : List Tree) (a : code.Algorithm) (j k l : Known) (extended taken : List Word) (n : ℕ) (us vs ws : List UnitNames)
-    → Knows j extended taken → n ≡ length a.macros.items → us ≡ replicate n no_names → AddsUnits j k us vs (map asked_procedure (map (procedure_at ts) a.procedures.items))
-    → AddsUnits k l vs ws (asked_main (main_at ts a.main)) → naming_of ws ≡ naming_by (give extended taken (wanted (algorithm_at ts a)))
-naming_given ts a j k l extended taken n us vs ws known count none g h =
-    let all = adds_then j k l us vs ws _ _ g h in
+pub naming_given : (ts : List Tree) (a : code.Algorithm) (j k : Known) (extended taken : List Word) (n : ℕ) (us vs : List UnitNames)
+    → Knows j extended taken → n ≡ length a.macros.items → us ≡ replicate n no_names → AddsUnits j k us vs (asked (algorithm_at ts a))
+    → naming_of vs ≡ naming_by (give extended taken (wanted (algorithm_at ts a)))
+naming_given ts a j k extended taken n us vs known count none all =
     ap naming_of (all.behind ∙ ap (λ (x : List UnitNames). x ++ all.more) (none ∙ ap (λ m. replicate m no_names) (count ∙ sym (length-map a.macros.items (macro_at ts)))))
     ∙ naming_is extended taken (first_procedure (algorithm_at ts a)) (asked (algorithm_at ts a)) all.more (all.gives.names extended taken known)
     ∙ ap (λ ws. naming_by (give extended taken ws)) (sym (wanted_is (algorithm_at ts a)))

@@ -1,20 +1,18 @@
 //! The written names of an algorithm: its routines get theirs one after another, in the order of the text.
 
-ghost use Rattle.std.specs.Prelude.{◌≡◌, ◌≤◌, ◌++◌, ℕ, length, List, map, replicate, IfOk, OnOk};
+ghost use Rattle.std.specs.Prelude.{◌≡◌, List, map, replicate, IfOk, OnOk};
 ghost use Rattle.tla_tree.specs.Tree.{Tree, Word};
-ghost use Rattle.pcal_tree.specs.InMemory.{procedure_at, process_at, main_at, algorithm_at, past_algorithm};
-ghost use Rattle.pcal_tree.specs.Names.{kept, give as give_of, wanted, naming_by};
-ghost use Rattle.written_names.specs.Giving.{SameNames};
-ghost use Rattle.written_names.specs.Units.{no_names, naming_of, asked_procedure, asked_process, asked_main, AddsUnits};
+ghost use Rattle.pcal_tree.specs.InMemory.{procedure_at, process_at, main_at, algorithm_at};
+ghost use Rattle.pcal_tree.specs.Names.{give as give_of, wanted, naming_by};
+ghost use Rattle.written_names.specs.Giving.{SameNames, Knows};
+ghost use Rattle.written_names.specs.Units.{no_names, naming_of, asked, asked_procedure, asked_process, asked_main, AddsUnits};
 
 use crate::giver::Giver;
-use crate::kept::taken_names;
 use crate::naming::{Naming, Renamed, UnitNames};
 use crate::units::{alone_names, procedure_names, process_names};
 use algorithm_limits::bound::Bound;
 use pcal_tree::algorithm::{Algorithm, Main, Procedure, Process};
 use std::alloc::{AllocError, Global};
-use tla_pool::Pool;
 use tla_tree::Name;
 
 // So many units without names: macros have none.
@@ -83,6 +81,29 @@ fn add_main(
     Ok(())
 }
 
+// Adds the names of an algorithm's routines.
+fn add_units(
+    alloc: Global,
+    giver: &mut Giver,
+    units: &mut Vec<UnitNames>,
+    algorithm: &Algorithm,
+) -> Result<(), AllocError>
+    ensures { OnOk result ((ts : List Tree) → AddsUnits giver.old giver.new units.old.items units.new.items (asked (algorithm_at ts algorithm.now))) }
+{
+    add_procedures(alloc, giver, units, &algorithm.procedures)?;
+    add_main(alloc, giver, units, &algorithm.main)?;
+    Ok(())
+}
+
+// The written names of an algorithm, by what is known of names.
+fn named_by(alloc: Global, giver: &mut Giver, algorithm: &Algorithm) -> Result<Naming, AllocError>
+    ensures { IfOk result (λ r. (ts : List Tree) (extended taken : List Word) → Knows giver.old extended taken → naming_of r ≡ naming_by (give_of extended taken (wanted (algorithm_at ts algorithm.now)))) }
+{
+    let mut units = nameless(alloc, algorithm.macros.len())?;
+    add_units(alloc, giver, &mut units, algorithm)?;
+    Ok(Naming::new(units))
+}
+
 /// The written names of an algorithm in a module that extends these, where these names are taken.
 ///
 /// # Errors
@@ -97,29 +118,5 @@ pub fn name_units(
     ensures { IfOk result (λ r. (ts : List Tree) (taken : List Word) → SameNames names taken → naming_of r ≡ naming_by (give_of extended.now taken (wanted (algorithm_at ts algorithm.now)))) }
 {
     let mut giver = Giver::new(alloc, extended, names);
-    let mut units = nameless(alloc, algorithm.macros.len())?;
-    add_procedures(alloc, &mut giver, &mut units, &algorithm.procedures)?;
-    add_main(alloc, &mut giver, &mut units, &algorithm.main)?;
-    Ok(Naming::new(units))
-}
-
-/// The written names of an algorithm whose expressions are of a pool, in a module that extends these and where these names are
-/// taken outside.
-///
-/// # Errors
-///
-/// Only for want of memory.
-pub fn give(
-    alloc: Global,
-    pool: &Pool,
-    algorithm: &Algorithm,
-    extended: &[Name],
-    outside: &[Name],
-) -> Result<Naming, AllocError>
-    requires { past_algorithm algorithm.now ≤ length pool.now }
-    ensures { IfOk result (λ r. naming_of r ≡ naming_by (give_of extended.now (outside.now ++ kept (algorithm_at pool.now algorithm.now)) (wanted (algorithm_at pool.now algorithm.now)))) }
-{
-    let names = taken_names(alloc, pool, algorithm, outside)?;
-    let naming = name_units(alloc, algorithm, extended, names)?;
-    Ok(naming)
+    named_by(alloc, &mut giver, algorithm)
 }

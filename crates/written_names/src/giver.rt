@@ -1,6 +1,6 @@
 //! Giving names, to each word the first that is free.
 
-ghost use Rattle.std.specs.Prelude.{◌≡◌, ◌∷◌, ◌||◌, List, IfOk, OnOk};
+ghost use Rattle.std.specs.Prelude.{◌≡◌, ◌∷◌, ◌||◌, List, true, IfOk, OnOk};
 ghost use Rattle.tla_tree.specs.Tree.{Word};
 ghost use Rattle.pcal_tree.specs.Names.{is_taken as is_taken_of, first_free};
 ghost use Rattle.written_names.specs.Giving.{SameNames, AreTried, IsFound, Knows};
@@ -66,6 +66,15 @@ impl Giver {
         Err(AllocError)
     }
 
+    // A name is taken, and with it all of its word with numbers up to this.
+    fn take(&mut self, name: &Name, found: &Name, number: usize) -> Result<(), AllocError>
+        ensures { OnOk result ((extended taken : List Word) → Knows self.old extended taken → is_taken_of extended self.old.names name.now ≡ true → IsFound self.old.names name.now found.now number → Knows self.new extended (first_free extended taken name.now ∷ taken)) }
+    {
+        self.names.add(found)?;
+        self.tried.set(name.copied()?, number)?;
+        Ok(())
+    }
+
     /// The name that a word gets; from now on it is taken.
     ///
     /// # Errors
@@ -76,13 +85,11 @@ impl Giver {
         ensures known { OnOk result ((extended taken : List Word) → Knows self.old extended taken → Knows self.new extended (first_free extended taken name.now ∷ taken)) }
     {
         if !self.is_taken(name) {
-            let own = name.copied()?;
             self.names.add(name)?;
-            return Ok(own);
+            return name.copied();
         }
         let (found, number) = self.first_numbered(alloc, name)?;
-        self.names.add(&found)?;
-        self.tried.set(name.copied()?, number)?;
+        self.take(name, &found, number)?;
         Ok(found)
     }
 }

@@ -3,7 +3,6 @@
 
 pub mod give;
 pub mod giver;
-pub mod kept;
 pub mod naming;
 pub mod units;
 pub mod words;

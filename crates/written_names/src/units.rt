@@ -98,6 +98,23 @@ fn name_statements(
     Ok(())
 }
 
+// The names of a routine's variables and labels, where none has one.
+fn name_parts(
+    alloc: Global,
+    giver: &mut Giver,
+    names: &mut UnitNames,
+    params: &[Declaration],
+    variables: &[Declaration],
+    body: &[Stmt],
+) -> Result<(), AllocError>
+    ensures { OnOk result (names.old.variables ≡ [] → names.old.labels ≡ [] → (names.new.title ≡ names.old.title) × ((ts : List Tree) → NamesWithin giver.old giver.new (words (declared_names params.now ++ declared_names variables.now)) (words (label_names (statements_at ts body.now))) names.new)) }
+{
+    name_declared(alloc, giver, &mut names.variables, params)?;
+    name_declared(alloc, giver, &mut names.variables, variables)?;
+    name_statements(alloc, giver, &mut names.labels, body)?;
+    Ok(())
+}
+
 // The names of a routine that has its own.
 fn names_within(
     alloc: Global,
@@ -109,16 +126,13 @@ fn names_within(
 ) -> Result<UnitNames, AllocError>
     ensures { IfOk result (λ u. (u.title ≡ title) × ((ts : List Tree) → NamesWithin giver.old giver.new (words (declared_names params.now ++ declared_names variables.now)) (words (label_names (statements_at ts body.now))) u)) }
 {
-    let mut names = Renamed::new(alloc);
-    name_declared(alloc, giver, &mut names, params)?;
-    name_declared(alloc, giver, &mut names, variables)?;
-    let mut labels = Renamed::new(alloc);
-    name_statements(alloc, giver, &mut labels, body)?;
-    Ok(UnitNames {
+    let mut names = UnitNames {
         title,
-        variables: names,
-        labels,
-    })
+        variables: Renamed::new(alloc),
+        labels: Renamed::new(alloc),
+    };
+    name_parts(alloc, giver, &mut names, params, variables, body)?;
+    Ok(names)
 }
 
 /// The names of a procedure.

@@ -1,5 +1,5 @@
 -- Proves that the first offence is found.
-use Rattle.std.proofs.Common.{List, ◌∙◌, subst}
+use Rattle.std.proofs.Common.{List, subst}
 use Rattle.std.proofs.lemmas.Result.{IfOk-weaker}
 use Rattle.tla_tree.specs.Tree.{Name, words}
 use Rattle.module_outside.specs.ModulesIn.{AreModules}
@@ -9,5 +9,4 @@ pub returns : goal.returns
 returns c =
     let m = c.modules_among-modules.result in
     IfOk-weaker c.with_sights.result _ _ (λ r h.
-    h m (subst (λ (ns : List Name). AreModules m (words ns)) c.deref.ensures.value c.modules_among-modules.ensures) c.new-sights.ensures
-    (c.new.ensures ∙ c.in_ok-process.ensures.items)) c.with_sights.ensures
+    h m (subst (λ (ns : List Name). AreModules m (words ns)) c.deref.ensures.value c.modules_among-modules.ensures) c.new-sights.ensures) c.with_sights.ensures

@@ -10,6 +10,6 @@ use Rattle.declared_rules.proofs.refusal.declared_refusal.Goals as goal
 pub returns : goal.returns
 returns c =
     subst (λ (z : Option Refusal). IfOk c.first_found.result (λ r. r ≡ z))
-    (same_refusal_found c.in_ok-modules.modules c.args.pool.now c.args.algorithm.now (outside_at c.args.pool.now c.args.outside.now)
-    (subst (λ (ns : List Name). AreModules c.in_ok-modules.modules (words ns)) c.deref.ensures.value c.in_ok-modules.ensures))
+    (same_refusal_found c.modules_among-modules.result c.args.pool.now c.args.algorithm.now (outside_at c.args.pool.now c.args.outside.now)
+    (subst (λ (ns : List Name). AreModules c.modules_among-modules.result (words ns)) c.deref.ensures.value c.modules_among-modules.ensures))
     c.first_found.ensures

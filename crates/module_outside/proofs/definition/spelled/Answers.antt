@@ -1,9 +1,9 @@
 -- A definition is a name, a head and a body.
-use Rattle.std.proofs.Common.{ap, sym, ◌∙◌}
+use Rattle.std.proofs.Common.{ap, sym, ◌∙◌, arith}
 use Rattle.std.proofs.lemmas.Result.{IfOk-weaker}
 use Rattle.module_outside.specs.Fronts.{names_and_rest}
 use Rattle.module_outside.specs.OutsideAt.{definition_found}
-use Rattle.module_outside.proofs.DefinitionLaws.{headed, headless}
+use Rattle.module_outside.proofs.DefinitionLaws.{headed, headless, alone}
 use Rattle.module_outside.proofs.definition.spelled.Goals as goal
 
 pub returns-in-Some-2-clause-value : goal.returns-in-Some-2-clause-value
@@ -15,3 +15,7 @@ returns-in-Some-2-clause-value c =
 pub returns-in-None-clause-value : goal.returns-in-None-clause-value
 returns-in-None-clause-value c =
     headless c.args.unit.now c.in-Some.name c.in_ok-name.field-0 c.in-Some.is c.in_ok-name.ensures (ap (names_and_rest c.args.unit.now) (sym c.in-None.is) ∙ c.in_ok-params.ensures.value)
+
+pub returns-then-len-lt2-clause-value : goal.returns-then-len-lt2-clause-value
+returns-then-len-lt2-clause-value c =
+    alone c.args.unit.now c.in-Some.name c.in_ok-name.field-0 c.in-Some.is c.in_ok-name.ensures (let h = c.if-len-lt2.true in let k = c.len.ensures in omega (arith, h, k))

@@ -1,10 +1,10 @@
 -- A unit is read, or passed on, or it declares something.
-use Rattle.std.proofs.Common.{Option, ap, sym, subst, ◌∙◌, refl}
+use Rattle.std.proofs.Common.{◌<◌, length, Option, IfSome, ap, sym, subst, ◌∙◌, refl}
 use Rattle.expr_nodes.specs.Ahead.{ahead}
 use Rattle.module_outside.specs.OutsideAt.{definition_found, with_found}
 use Rattle.module_outside.specs.declared.definition.ReadDefinition.{ReadDefinition}
 use Rattle.module_outside.specs.SightIn.{Sees}
-use Rattle.module_outside.proofs.FoundLaws.{goes_declared, sees_declared, goes_defined, goes_passed, sees_passed}
+use Rattle.module_outside.proofs.FoundLaws.{goes_declared, sees_declared, goes_defined, goes_passed, sees_passed, held_push, held_kept}
 use Rattle.module_outside.proofs.found.find.Goals as goal
 
 pub returns-then-branch-clause-value : goal.returns-then-branch-clause-value
@@ -28,3 +28,11 @@ returns-in_ok-push-in-None-clause-sees c v s =
     let none = ap (definition_found c.definition.new.pool) (sym c.in-None.is) ∙ c.in_ok-one.ensures.value v s in
     sees_passed c.definition.new.sight v (ahead c.args.unit.now 0) (sym c.in_ok-is_declared.ensures ∙ c.if-branch.false) none
     (subst (λ (o : Option ReadDefinition). Sees c.definition.new.sight (with_found v (definition_found c.definition.new.pool o))) c.in-None.is (c.in_ok-one.ensures.sees v s))
+
+pub returns-in_ok-push-in-Some-clause-held : goal.returns-in_ok-push-in-Some-clause-held
+returns-in_ok-push-in-Some-clause-held c =
+    held_push c.args.pool.now c.definition.new.pool c.args.found.now.definitions.items c.push.new.self.items c.in-Some.one c.definition.ensures.kept c.requires.held
+    (subst (λ (o : Option ReadDefinition). IfSome o (λ d. d.body < length c.definition.new.pool)) c.in-Some.is c.in_ok-one.ensures.within) c.in_ok-push-in-Some.ensures.items
+
+pub returns-in_ok-push-in-None-clause-held : goal.returns-in_ok-push-in-None-clause-held
+returns-in_ok-push-in-None-clause-held c = held_kept c.args.pool.now c.definition.new.pool c.args.found.now.definitions.items c.definition.ensures.kept c.requires.held

@@ -1,11 +1,11 @@
 -- Units are found one after the other, as the pool grows.
-use Rattle.std.proofs.Common.{◌<◌, List, length, refl, sym, ◌∙◌, subst, arith}
+use Rattle.std.proofs.Common.{◌<◌, ◌≤◌, List, length, refl, sym, ◌∙◌, subst, arith}
 use Rattle.tla_tree.proofs.PoolNumbers.{Keeps-then}
 use Rattle.module_tree.specs.FileUnits.{cut}
 use Rattle.expr_nodes.specs.Ahead.{ahead}
 use Rattle.module_outside.specs.declared.definition.ReadDefinition.{ReadDefinition}
 use Rattle.module_outside.specs.FoundAt.{AreHeld}
-use Rattle.module_outside.proofs.FoundSteps.{sought_first, sought_more}
+use Rattle.module_outside.proofs.FoundSteps.{sought_first, sought_more, sought_end}
 use Rattle.module_outside.proofs.found.found_before.Goals as goal
 
 pub loop-at-init : goal.loop-at-init
@@ -31,3 +31,8 @@ loop-at-preserved c =
       held = c.in_ok-find.ensures.held;
       kept = Keeps-then c.args.pool.now c.loop-at.pool c.find.new.pool c.loop-at.invariant.kept c.find.ensures.kept;
     }
+
+pub returns-clause-value : goal.returns-clause-value
+returns-clause-value c v s =
+    let over : length c.args.tokens.now.items.items ≤ c.loop-at.at = (let h = c.loop-at-test.false in let k = c.len.ensures in omega (arith, h, k)) in
+    sought_end c.args.tokens.now c.loop-at.at v (cut (ahead c.args.tokens.now 0)).units c.loop-at.sight c.loop-at.pool c.loop-at.found over (c.loop-at.invariant.sought v s)

@@ -1,8 +1,10 @@
 -- Names are read as far as there are commas.
-use Rattle.std.proofs.Common.{◌+◌, arith}
+use Rattle.std.proofs.Common.{◌+◌, List, ap, ◌∙◌, arith}
 use Rattle.outside_reading.specs.PlainUnits.{names_in}
 use Rattle.expr_nodes.specs.Ahead.{ahead}
-use Rattle.module_outside.proofs.NameLaws.{names_none, names_last, names_stopped, names_further, names_over}
+use Rattle.tla_tree.specs.Tree.{Name}
+use Rattle.module_outside.specs.Fronts.{names_before}
+use Rattle.module_outside.proofs.NameLaws.{names_start, names_none, names_last, names_stopped, names_further, names_over}
 use Rattle.module_outside.proofs.names.names_at.Goals as goal
 
 pub returns-in-None-clause-value : goal.returns-in-None-clause-value
@@ -28,3 +30,12 @@ loop-at-preserved c = record {
 
 pub returns-clause-value : goal.returns-clause-value
 returns-clause-value c = names_over c.args.tokens.now c.loop-at.at c.loop-at.names.items (names_in (ahead c.args.tokens.now c.args.from)) (let h = c.loop-at-test.false in let k = c.len.ensures in omega (arith, h, k)) c.loop-at.invariant.value
+
+pub loop-at-init : goal.loop-at-init
+loop-at-init c = record {
+  inside = c.requires.there;
+  value = ap (λ (ns : List Name). names_before ns (names_in (ahead c.args.tokens.now c.args.from))) c.new-names.ensures.items ∙ names_start (names_in (ahead c.args.tokens.now c.args.from));
+}
+
+pub returns-then-not-is_mark_at-clause-within : goal.returns-then-not-is_mark_at-clause-within
+returns-then-not-is_mark_at-clause-within c = (let h = c.loop-at-test.true in let k = c.len.ensures in omega (arith, h, k))

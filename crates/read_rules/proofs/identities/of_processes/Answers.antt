@@ -6,7 +6,7 @@ use Rattle.pcal_tree.specs.Algorithm.{Name}
 use Rattle.pcal_tree.specs.InMemory.{process_at, past_process}
 use Rattle.pcal_tree.specs.Offences.{first}
 use Rattle.algorithm_answer.specs.Joined.{joined}
-use Rattle.early_reads.specs.EarlyReads.{offending_name, offending_process}
+use Rattle.read_rules.specs.EarlyReads.{offending_name, offending_process}
 use Rattle.read_rules.proofs.FoundLaws.{found_more, found_all, flat_mapped}
 use Rattle.read_rules.proofs.identities.of_processes.Goals as goal
 

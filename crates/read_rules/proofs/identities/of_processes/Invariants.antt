@@ -2,8 +2,8 @@
 use Rattle.std.proofs.Common.{List, None}
 use Rattle.tla_tree.specs.Tree.{Word}
 use Rattle.pcal_tree.specs.InMemory.{process_at}
-use Rattle.early_reads.specs.Levels.{Levels}
-use Rattle.early_reads.specs.EarlyReads.{offending_process}
+use Rattle.read_rules.specs.Levels.{Levels}
+use Rattle.read_rules.specs.EarlyReads.{offending_process}
 use Rattle.read_rules.specs.NumbersIn.{AreNumbers, AreLevels}
 use Rattle.read_rules.proofs.FoundLaws.{Found}
 use Rattle.read_rules.proofs.identities.of_processes.Given as goal

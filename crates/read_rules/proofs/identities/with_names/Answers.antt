@@ -5,7 +5,7 @@ use Rattle.tla_token.specs.declared.place.Place.{Place}
 use Rattle.pcal_tree.specs.Algorithm.{Name}
 use Rattle.pcal_tree.specs.Offences.{offence_if, first}
 use Rattle.algorithm_answer.specs.Joined.{joined}
-use Rattle.early_reads.specs.EarlyReads.{offending_name}
+use Rattle.read_rules.specs.EarlyReads.{offending_name}
 use Rattle.read_rules.proofs.FoundLaws.{found_none, found_more, found_all}
 use Rattle.read_rules.proofs.identities.with_names.Goals as goal
 

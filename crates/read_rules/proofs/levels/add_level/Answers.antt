@@ -6,7 +6,7 @@ use Rattle.pcal_tree.specs.declared.algorithm.Definition.{Definition}
 use Rattle.pcal_tree.specs.Algorithm.{Name}
 use Rattle.pcal_tree.specs.Reads.{used}
 use Rattle.algorithm_limits.specs.Numbers.{with_number}
-use Rattle.early_reads.specs.Levels.{furthest}
+use Rattle.read_rules.specs.Levels.{furthest}
 use Rattle.read_rules.proofs.levels.add_level.Goals as goal
 
 pub returns : goal.returns

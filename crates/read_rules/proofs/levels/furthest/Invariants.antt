@@ -1,7 +1,7 @@
 -- What is kept: what is left of the names still gives the whole.
 use Rattle.std.proofs.Common.{◌≡◌, max, List, drop}
 use Rattle.tla_tree.specs.Tree.{Word}
-use Rattle.early_reads.specs.Levels.{Levels, furthest}
+use Rattle.read_rules.specs.Levels.{Levels, furthest}
 use Rattle.read_rules.specs.NumbersIn.{AreNumbers, AreLevels}
 use Rattle.read_rules.proofs.levels.furthest.Given as goal
 

@@ -9,7 +9,7 @@ use Rattle.pcal_tree.specs.Algorithm as tree
 use Rattle.pcal_tree.specs.InMemory.{definitions_at, past_definition}
 use Rattle.pcal_tree.specs.Reads.{used}
 use Rattle.algorithm_limits.specs.Numbers.{Numbers, with_number}
-use Rattle.early_reads.specs.Levels.{furthest, levels}
+use Rattle.read_rules.specs.Levels.{furthest, levels}
 use Rattle.read_rules.specs.NumbersIn.{AreLevels}
 use Rattle.read_rules.proofs.NumberLaws.{levels_more, newest_first}
 use Rattle.read_rules.proofs.levels.levels.Goals as goal

@@ -2,7 +2,7 @@
 use Rattle.std.proofs.Common.{List, take, reverse}
 use Rattle.tla_tree.specs.Tree.{Word}
 use Rattle.pcal_tree.specs.InMemory.{definitions_at}
-use Rattle.early_reads.specs.Levels.{levels}
+use Rattle.read_rules.specs.Levels.{levels}
 use Rattle.read_rules.specs.NumbersIn.{AreNumbers, AreLevels}
 use Rattle.read_rules.proofs.levels.levels.Given as goal
 

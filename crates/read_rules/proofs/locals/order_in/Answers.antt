@@ -13,7 +13,7 @@ use Rattle.pcal_tree.specs.Variables.{declared}
 use Rattle.algorithm_limits.specs.Numbers.{Numbers, number_of}
 use Rattle.algorithm_limits.specs.DepthsIn.{Hides}
 use Rattle.algorithm_answer.specs.Joined.{joined}
-use Rattle.early_reads.specs.EarlyReads.{early_in, early_in_locals, variables_of}
+use Rattle.read_rules.specs.EarlyReads.{early_in, early_in_locals, variables_of}
 use Rattle.module_outside.specs.SightIn.{Binds}
 use Rattle.module_outside.proofs.SightLaws.{none_bound, binds_all}
 use Rattle.read_rules.specs.declared.order.Known.{Known}

@@ -5,7 +5,7 @@ use Rattle.pcal_tree.specs.InMemory.{declarations_at}
 use Rattle.pcal_tree.specs.Offences.{first}
 use Rattle.algorithm_limits.proofs.BoundLemmas.{hides_as}
 use Rattle.algorithm_answer.specs.Joined.{joined}
-use Rattle.early_reads.specs.EarlyReads.{early_in}
+use Rattle.read_rules.specs.EarlyReads.{early_in}
 use Rattle.read_rules.specs.NumbersIn.{declared_in}
 use Rattle.read_rules.specs.Order.{behind}
 use Rattle.read_rules.proofs.OrderLaws.{knows_behind}

@@ -2,8 +2,8 @@
 use Rattle.std.proofs.Common.{◌≡◌, List, drop}
 use Rattle.std.specs.List.{list_any}
 use Rattle.tla_tree.specs.Tree.{Word}
-use Rattle.early_reads.specs.Levels.{Levels}
-use Rattle.early_reads.specs.EarlyReads.{is_early}
+use Rattle.read_rules.specs.Levels.{Levels}
+use Rattle.read_rules.specs.EarlyReads.{is_early}
 use Rattle.read_rules.specs.Order.{Knows}
 use Rattle.read_rules.proofs.order.are_early.Given as goal
 

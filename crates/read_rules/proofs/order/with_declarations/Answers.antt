@@ -5,7 +5,7 @@ use Rattle.pcal_tree.specs.declared.algorithm.Declaration.{Declaration}
 use Rattle.pcal_tree.specs.InMemory.{start_at, past_start, past_declaration}
 use Rattle.pcal_tree.specs.Offences.{first}
 use Rattle.algorithm_answer.specs.Joined.{joined}
-use Rattle.early_reads.specs.EarlyReads.{early_in_start}
+use Rattle.read_rules.specs.EarlyReads.{early_in_start}
 use Rattle.algorithm_limits.specs.DepthsIn.{Hides}
 use Rattle.read_rules.proofs.OrderLaws.{early_start, early_more, early_all, early_hides}
 use Rattle.read_rules.proofs.order.with_declarations.Goals as goal

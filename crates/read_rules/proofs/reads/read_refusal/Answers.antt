@@ -6,7 +6,7 @@ use Rattle.pcal_tree.specs.declared.algorithm.Definition.{Definition}
 use Rattle.pcal_tree.specs.Algorithm as tree
 use Rattle.pcal_tree.specs.InMemory.{definitions_at, algorithm_at}
 use Rattle.pcal_tree.specs.Variables.{declared}
-use Rattle.early_reads.specs.Levels.{levels}
+use Rattle.read_rules.specs.Levels.{levels}
 use Rattle.read_rules.specs.NumbersIn.{declared_in, AreNumbers, AreLevels}
 use Rattle.read_rules.proofs.NumberLaws.{declared_is}
 use Rattle.read_rules.proofs.reads.read_refusal.Goals as goal

@@ -7,8 +7,8 @@ use Rattle.pcal_tree.specs.OffencesReads.{process_offences, own_offences, order_
 use Rattle.pcal_tree.specs.Variables.{declared}
 use Rattle.algorithm_answer.specs.Joined.{joined}
 use Rattle.algorithm_answer.proofs.Joins.{first_append}
-use Rattle.early_reads.specs.Levels.{levels_of}
-use Rattle.early_reads.proofs.EarlyTold.{processes_told, order_told}
+use Rattle.read_rules.specs.Levels.{levels_of}
+use Rattle.read_rules.proofs.EarlyTold.{processes_told, order_told}
 use Rattle.read_rules.proofs.reads.refusal_by.Goals as goal
 
 pub returns : goal.returns

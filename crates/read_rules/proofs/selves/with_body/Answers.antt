@@ -8,8 +8,8 @@ use Rattle.pcal_tree.specs.InMemory.{statements_at}
 use Rattle.pcal_tree.specs.Offences.{first}
 use Rattle.pcal_tree.specs.OffencesSelf.{selves}
 use Rattle.algorithm_answer.specs.Joined.{joined}
-use Rattle.early_reads.specs.BodyNames.{names_in}
-use Rattle.early_reads.proofs.NamesOfBodies.{body_names}
+use Rattle.read_rules.specs.BodyNames.{names_in}
+use Rattle.read_rules.proofs.NamesOfBodies.{body_names}
 use Rattle.module_outside.specs.SightIn.{Binds}
 use Rattle.module_outside.proofs.SightLaws.{none_bound}
 use Rattle.read_rules.specs.Using.{if_self}

@@ -10,7 +10,8 @@ use Rattle.pcal_tree.proofs.InMemoryEach.{past_either}
 use Rattle.pcal_tree.proofs.StatementHeights.{height, heights, branch_heights, either_height}
 use Rattle.declared_rules.specs.declared.bind_walk.Walk.{Walk}
 use Rattle.declared_rules.specs.Telling.{Adds}
-use Rattle.declared_rules.specs.Bodies.{bind_name, AddsBinds, AddsStmt}
+use Rattle.declared_rules.specs.Parts.{bind_name}
+use Rattle.declared_rules.specs.Bodies.{AddsBinds, AddsStmt}
 use Rattle.declared_rules.proofs.TellLaws.{adds_as, list_then, list_done}
 use Rattle.declared_rules.proofs.BindBodyLaws.{label_adds, simple_adds, if_adds, either_adds, with_adds, while_adds, body_then, body_done, each_branch}
 use Rattle.declared_rules.proofs.bind_walk.Walk.+bodies.Goals as goal

@@ -4,7 +4,7 @@ use Rattle.tla_tree.specs.Tree.{Name}
 use Rattle.pcal_tree.specs.declared.algorithm.Bind.{Bind}
 use Rattle.pcal_tree.specs.OffencesRebind.{any_name, rebound}
 use Rattle.declared_rules.specs.Telling.{Adds}
-use Rattle.declared_rules.specs.Bodies.{bind_name}
+use Rattle.declared_rules.specs.Parts.{bind_name}
 use Rattle.declared_rules.proofs.TellLaws.{adds_as, list_then, list_done, flat_mapped}
 use Rattle.declared_rules.proofs.bind_walk.Walk.bind_names.Goals as goal
 

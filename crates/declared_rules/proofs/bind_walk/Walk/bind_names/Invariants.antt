@@ -4,7 +4,7 @@ use Rattle.std.specs.List.{flat_map}
 use Rattle.pcal_tree.specs.OffencesRebind.{any_name, rebound}
 use Rattle.declared_rules.specs.declared.bind_walk.Walk.{Walk}
 use Rattle.declared_rules.specs.Telling.{Adds}
-use Rattle.declared_rules.specs.Bodies.{bind_name}
+use Rattle.declared_rules.specs.Parts.{bind_name}
 use Rattle.declared_rules.proofs.bind_walk.Walk.bind_names.Given as goal
 
 abbrev pub invariant-loop-bind : goal.invariant-loop-bind

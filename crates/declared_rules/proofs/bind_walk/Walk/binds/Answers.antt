@@ -7,7 +7,8 @@ use Rattle.pcal_tree.specs.InMemory.{past_bind}
 use Rattle.pcal_tree.specs.OffencesRebind.{any_name, tree_rebinds}
 use Rattle.algorithm_limits.specs.DepthsIn.{Hides}
 use Rattle.declared_rules.specs.declared.bind_walk.Walk.{Walk}
-use Rattle.declared_rules.specs.Bodies.{bind_name, bind_number}
+use Rattle.declared_rules.specs.Parts.{bind_name}
+use Rattle.declared_rules.specs.Bodies.{bind_number}
 use Rattle.declared_rules.specs.Telling.{Adds}
 use Rattle.declared_rules.proofs.BindBodyLaws.{past_number, bind_adds, binds_step, binds_done}
 use Rattle.declared_rules.proofs.bind_walk.Walk.binds.Goals as goal

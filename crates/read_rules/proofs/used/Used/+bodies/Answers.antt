@@ -6,7 +6,7 @@ use Rattle.pcal_tree.specs.declared.algorithm.Stmt.{Stmt}
 use Rattle.pcal_tree.specs.InMemory.{statements_at, branches_at, past_stmt, past_statements, past_branches}
 use Rattle.pcal_tree.proofs.InMemoryEach.{past_either}
 use Rattle.pcal_tree.proofs.StatementHeights.{height, heights, branch_heights, either_height}
-use Rattle.early_reads.specs.BodyNames.{names_in, names_in_some}
+use Rattle.read_rules.specs.BodyNames.{names_in, names_in_some}
 use Rattle.read_rules.specs.declared.used.Used.{Used}
 use Rattle.read_rules.specs.Using.{Adds}
 use Rattle.read_rules.specs.UsingBodies.{AddsBinds, AddsStmt}

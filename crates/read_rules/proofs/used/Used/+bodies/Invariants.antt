@@ -2,7 +2,7 @@
 use Rattle.std.proofs.Common.{◌+◌, ◌*◌, drop}
 use Rattle.pcal_tree.specs.InMemory.{statements_at, branches_at}
 use Rattle.pcal_tree.proofs.StatementHeights.{height, heights, branch_heights}
-use Rattle.early_reads.specs.BodyNames.{names_in, names_in_some}
+use Rattle.read_rules.specs.BodyNames.{names_in, names_in_some}
 use Rattle.read_rules.specs.declared.used.Used.{Used}
 use Rattle.read_rules.specs.Using.{Adds}
 use Rattle.read_rules.proofs.used.Used.+bodies.Given as goal

@@ -4,7 +4,7 @@ use Rattle.tla_tree.specs.Pool.{trees_at}
 use Rattle.pcal_tree.specs.declared.algorithm.Simple.{Simple}
 use Rattle.pcal_tree.specs.InMemory.{simple_at}
 use Rattle.pcal_tree.specs.Reads.{used_by_all}
-use Rattle.early_reads.specs.BodyNames.{names_in_one}
+use Rattle.read_rules.specs.BodyNames.{names_in_one}
 use Rattle.read_rules.specs.Using.{Adds}
 use Rattle.read_rules.proofs.used.Used.simple.Goals as goal
 

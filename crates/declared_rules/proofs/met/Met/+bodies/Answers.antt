@@ -1,0 +1,85 @@
+-- Proves that the names of statements are added, in the order of the text.
+use Rattle.std.proofs.Common.{List, Vec, Global, sym, ap, subst, ◌∙◌, arith}
+use Rattle.std.specs.List.{flat_map}
+use Rattle.tla_tree.proofs.PoolNumbers.{past_at}
+use Rattle.pcal_tree.specs.declared.algorithm.Bind.{Bind}
+use Rattle.pcal_tree.specs.declared.algorithm.Stmt.{Stmt}
+use Rattle.pcal_tree.specs.InMemory.{branches_at, past_stmt, past_statements, past_branches}
+use Rattle.pcal_tree.specs.BoundNames.{lists_in_branches}
+use Rattle.pcal_tree.proofs.InMemoryEach.{past_either}
+use Rattle.pcal_tree.proofs.StatementHeights.{height, heights, branch_heights, either_height}
+use Rattle.declared_rules.specs.Met.{bound_words, AddsStmt, bind_words, body_words}
+use Rattle.declared_rules.proofs.MetWalks.{adds_as}
+use Rattle.declared_rules.proofs.MetBodies.{simple_adds, if_adds, either_adds, with_adds, while_adds, body_then, body_done, branches_then, branches_over}
+use Rattle.declared_rules.proofs.met.Met.+bodies.Goals as goal
+
+pub body-stmt-requires : goal.body-stmt-requires
+body-stmt-requires t c =
+    let less = past_at height c.args.stmts.now c.loop-stmt.stmt-index c.stmt-item.result c.stmt-item.is c.loop-stmt-test.true in
+    let past = past_at past_stmt c.args.stmts.now c.loop-stmt.stmt-index c.stmt-item.result c.stmt-item.is c.loop-stmt-test.true in
+    (omega (arith, less, c.decreases), omega (arith, past, c.requires, c.loop-stmt.invariant.many))
+
+pub body-loop-stmt-preserved : goal.body-loop-stmt-preserved
+body-loop-stmt-preserved t c = record {
+  many = c.in_ok-stmt.ensures.many ∙ c.loop-stmt.invariant.many;
+  rest = λ ts k g.
+      c.loop-stmt.invariant.rest ts k
+      (body_then ts c.loop-stmt.self c.stmt.new.self k c.args.stmts.now c.loop-stmt.stmt-index c.stmt-item.result c.stmt-item.is c.loop-stmt-test.true (c.in_ok-stmt.ensures.adds ts) g);
+}
+
+pub body-returns-clause-adds : goal.body-returns-clause-adds
+body-returns-clause-adds t c = λ ts. c.loop-stmt.invariant.rest ts c.loop-stmt.self (body_done ts c.loop-stmt.self c.args.stmts.now c.loop-stmt.stmt-index c.loop-stmt-test.false)
+
+pub branches-body-requires : goal.branches-body-requires
+branches-body-requires t c =
+    let less = past_at (λ (b : Vec Stmt Global). heights b.items) c.args.list.now c.loop-i.i c.index-list-i.result c.index-list-i.is c.loop-i-test.true in
+    let past = past_at (λ (b : Vec Stmt Global). past_statements b.items) c.args.list.now c.loop-i.i c.index-list-i.result c.index-list-i.is c.loop-i-test.true in
+    (omega (arith, less, ap heights c.deref.ensures.value, c.decreases), omega (arith, past, ap past_statements c.deref.ensures.value, c.requires, c.loop-i.invariant.many))
+
+pub branches-loop-i-preserved : goal.branches-loop-i-preserved
+branches-loop-i-preserved t c = record {
+  many = c.in_ok-body.ensures.many ∙ c.loop-i.invariant.many;
+  rest = λ ts k g.
+      c.loop-i.invariant.rest ts k
+      (branches_then ts c.loop-i.self c.body.new.self k c.args.list.now c.loop-i.i c.index-list-i.result c.index-list-i.is c.loop-i-test.true
+      (adds_as ts c.loop-i.self c.body.new.self _ _ (ap (body_words ts) c.deref.ensures.value) (c.in_ok-body.ensures.adds ts)) g);
+}
+
+pub branches-returns-clause-adds : goal.branches-returns-clause-adds
+branches-returns-clause-adds t c = λ ts. c.loop-i.invariant.rest ts c.loop-i.self (branches_over ts c.loop-i.self c.args.list.now c.loop-i.i c.loop-i-test.false)
+
+pub stmt-branches-requires : goal.stmt-branches-requires
+stmt-branches-requires t c = (
+  omega (arith, either_height c.in-Either.field-0 c.in-Either.list, ap branch_heights c.deref-in-Either.ensures.value, ap height c.in-Either.is, c.decreases),
+  omega (arith, past_either c.in-Either.field-0 c.in-Either.list, ap past_branches c.deref-in-Either.ensures.value, ap past_stmt c.in-Either.is, c.requires),
+)
+
+pub stmt-returns-in-Simple-clause-adds : goal.stmt-returns-in-Simple-clause-adds
+stmt-returns-in-Simple-clause-adds t c = λ ts.
+    subst (λ (z : Stmt). AddsStmt ts z c.args.self.now c.simple.new.self) (sym c.in-Simple.is) (simple_adds ts c.args.self.now c.simple.new.self c.in-Simple.field-0 c.in-Simple.simple (c.simple.ensures.adds ts))
+
+pub stmt-returns-in_ok-body-in-If-2-clause-adds : goal.stmt-returns-in_ok-body-in-If-2-clause-adds
+stmt-returns-in_ok-body-in-If-2-clause-adds t c = λ ts.
+    subst (λ (z : Stmt). AddsStmt ts z c.args.self.now c.body-in-If.new.self) (sym c.in-If.is)
+    (if_adds ts c.args.self.now c.expr.new.self c.body.new.self c.body-in-If.new.self c.in-If.field-0 c.in-If.e c.in-If.then c.in-If.otherwise (c.expr.ensures.adds ts)
+    (adds_as ts c.expr.new.self c.body.new.self _ _ (ap (body_words ts) c.deref.ensures.value) (c.in_ok-body-in-If.ensures.adds ts))
+    (adds_as ts c.body.new.self c.body-in-If.new.self _ _ (ap (body_words ts) c.deref-in-If.ensures.value) (c.in_ok-body-in-If-2.ensures.adds ts)))
+
+pub stmt-returns-in_ok-branches-in-Either-clause-adds : goal.stmt-returns-in_ok-branches-in-Either-clause-adds
+stmt-returns-in_ok-branches-in-Either-clause-adds t c = λ ts.
+    subst (λ (z : Stmt). AddsStmt ts z c.args.self.now c.branches.new.self) (sym c.in-Either.is)
+    (either_adds ts c.args.self.now c.branches.new.self c.in-Either.field-0 c.in-Either.list
+    (adds_as ts c.args.self.now c.branches.new.self _ _ (ap (λ (ys : List (Vec Stmt Global)). bound_words (lists_in_branches (branches_at ts ys))) c.deref-in-Either.ensures.value) (c.in_ok-branches-in-Either.ensures.adds ts)))
+
+pub stmt-returns-in_ok-body-in-With-clause-adds : goal.stmt-returns-in_ok-body-in-With-clause-adds
+stmt-returns-in_ok-body-in-With-clause-adds t c = λ ts.
+    subst (λ (z : Stmt). AddsStmt ts z c.args.self.now c.body-in-With.new.self) (sym c.in-With.is)
+    (with_adds ts c.args.self.now c.binds.new.self c.body-in-With.new.self c.in-With.field-0 c.in-With.binds c.in-With.body
+    (adds_as ts c.args.self.now c.binds.new.self _ _ (ap (λ (bs : List Bind). flat_map (bind_words ts) bs) c.deref-in-With.ensures.value) (c.in_ok-binds-in-With.ensures.adds ts))
+    (adds_as ts c.binds.new.self c.body-in-With.new.self _ _ (ap (body_words ts) c.deref-in-With-2.ensures.value) (c.in_ok-body-in-With.ensures.adds ts)))
+
+pub stmt-returns-in_ok-body-in-While-clause-adds : goal.stmt-returns-in_ok-body-in-While-clause-adds
+stmt-returns-in_ok-body-in-While-clause-adds t c = λ ts.
+    subst (λ (z : Stmt). AddsStmt ts z c.args.self.now c.body-in-While.new.self) (sym c.in-While.is)
+    (while_adds ts c.args.self.now c.expr-in-While.new.self c.body-in-While.new.self c.in-While.field-0 c.in-While.e c.in-While.body (c.expr-in-While.ensures.adds ts)
+    (adds_as ts c.expr-in-While.new.self c.body-in-While.new.self _ _ (ap (body_words ts) c.deref-in-While.ensures.value) (c.in_ok-body-in-While.ensures.adds ts)))

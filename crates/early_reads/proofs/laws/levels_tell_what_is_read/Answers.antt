@@ -1,6 +1,0 @@
--- Levels tell it.
-use Rattle.early_reads.proofs.LevelsTell.{level_told}
-use Rattle.early_reads.proofs.laws.levels_tell_what_is_read.Goals as goal
-
-pub returns : goal.returns
-returns c = λ gs ds x i. level_told gs i ds x

@@ -1,6 +1,0 @@
--- The names are the same.
-use Rattle.early_reads.proofs.NamesOfBodies.{body_names}
-use Rattle.early_reads.proofs.laws.paths_do_not_matter_to_names.Goals as goal
-
-pub returns : goal.returns
-returns c = body_names

@@ -1,0 +1,104 @@
+-- Proves that statements are looked at, in the order of the text.
+use Rattle.std.proofs.Common.{ℕ, List, Vec, Global, take, refl, sym, ap, subst, ◌∙◌, arith}
+use Rattle.std.proofs.lemmas.Result.{on_ok_weaker}
+use Rattle.tla_tree.proofs.PoolNumbers.{past_at}
+use Rattle.pcal_tree.specs.declared.algorithm.Bind.{Bind}
+use Rattle.pcal_tree.specs.declared.algorithm.Stmt.{Stmt}
+use Rattle.pcal_tree.specs.InMemory.{binds_at, statements_at, branches_at, past_stmt, past_statements, past_branches}
+use Rattle.pcal_tree.specs.OffencesNames.{in_body, in_branches}
+use Rattle.pcal_tree.proofs.InMemoryEach.{past_either}
+use Rattle.pcal_tree.proofs.StatementHeights.{height, heights, branch_heights, either_height}
+use Rattle.name_rules.specs.declared.found.Found.{Found}
+use Rattle.name_rules.specs.Finding.{Tells}
+use Rattle.name_rules.specs.Walking.{TellsBinds, TellsStmt}
+use Rattle.name_rules.proofs.BodyLaws.{label_tells, simple_tells, if_tells, either_tells, with_tells, while_tells, body_then, body_done, branches_then, branches_over}
+use Rattle.name_rules.proofs.found.Found.+bodies.Goals as goal
+
+pub body-loop-stmt-init : goal.body-loop-stmt-init
+body-loop-stmt-init t c = λ C ps m k g. g
+
+pub body-stmt-requires : goal.body-stmt-requires
+body-stmt-requires t c =
+    let less = past_at height c.args.stmts.now c.loop-stmt.stmt-index c.stmt-item.result c.stmt-item.is c.loop-stmt-test.true in
+    let past = past_at past_stmt c.args.stmts.now c.loop-stmt.stmt-index c.stmt-item.result c.stmt-item.is c.loop-stmt-test.true in
+    (omega (arith, less, c.decreases), omega (arith, past, c.requires))
+
+pub body-loop-stmt-preserved : goal.body-loop-stmt-preserved
+body-loop-stmt-preserved t c = λ C ps m k g.
+    c.loop-stmt.invariant C ps m k (body_then C ps c.args.pool.now c.loop-stmt.self c.stmt.new.self k c.args.stmts.now c.loop-stmt.stmt-index c.stmt-item.result c.stmt-item.is c.loop-stmt-test.true (c.in_ok-stmt.ensures C ps m) g)
+
+pub body-returns : goal.body-returns
+body-returns t c = λ C ps m. c.loop-stmt.invariant C ps m c.loop-stmt.self (body_done C ps c.args.pool.now c.loop-stmt.self c.args.stmts.now c.loop-stmt.stmt-index c.loop-stmt-test.false)
+
+pub branches-loop-i-init : goal.branches-loop-i-init
+branches-loop-i-init t c = λ C ps m k g. g
+
+pub branches-body-requires : goal.branches-body-requires
+branches-body-requires t c =
+    let less = past_at (λ (b : Vec Stmt Global). heights b.items) c.args.list.now c.loop-i.i c.index-list-i.result c.index-list-i.is c.loop-i-test.true in
+    let past = past_at (λ (b : Vec Stmt Global). past_statements b.items) c.args.list.now c.loop-i.i c.index-list-i.result c.index-list-i.is c.loop-i-test.true in
+    (omega (arith, less, ap heights c.deref.ensures.value, c.decreases), omega (arith, past, ap past_statements c.deref.ensures.value, c.requires))
+
+pub branches-loop-i-preserved : goal.branches-loop-i-preserved
+branches-loop-i-preserved t c = λ C ps m k g.
+    c.loop-i.invariant C ps m k
+    (branches_then C ps c.args.pool.now c.loop-i.self c.body.new.self k c.args.list.now c.loop-i.i c.index-list-i.result c.index-list-i.is c.loop-i-test.true
+    (subst (λ (ys : List Stmt). Tells c.loop-i.self c.body.new.self (in_body C ps (statements_at c.args.pool.now ys))) c.deref.ensures.value (c.in_ok-body.ensures C ps m)) g)
+
+pub branches-returns : goal.branches-returns
+branches-returns t c = λ C ps m. c.loop-i.invariant C ps m c.loop-i.self (branches_over C ps c.args.pool.now c.loop-i.self c.args.list.now c.loop-i.i c.loop-i-test.false)
+
+pub stmt-branches-requires : goal.stmt-branches-requires
+stmt-branches-requires t c = (
+  omega (arith, either_height c.in-Either.field-0 c.in-Either.list, ap branch_heights c.deref-in-Either.ensures.value, ap height c.in-Either.is, c.decreases),
+  omega (arith, past_either c.in-Either.field-0 c.in-Either.list, ap past_branches c.deref-in-Either.ensures.value, ap past_stmt c.in-Either.is, c.requires),
+)
+
+pub stmt-returns-in-Label : goal.stmt-returns-in-Label
+stmt-returns-in-Label t c = λ C ps m.
+    subst (λ (z : Stmt). TellsStmt C ps c.args.pool.now z c.args.self.now c.args.self.now) (sym c.in-Label.is) (label_tells C ps c.args.pool.now c.args.self.now c.in-Label.field-0 c.in-Label.field-1)
+
+pub stmt-returns-in-Simple : goal.stmt-returns-in-Simple
+stmt-returns-in-Simple t c =
+    on_ok_weaker c.simple.result
+    (λ a C ps m.
+    subst (λ (z : Stmt). TellsStmt C ps c.args.pool.now z c.args.self.now c.simple.new.self) (sym c.in-Simple.is)
+    (simple_tells C ps c.args.pool.now c.args.self.now c.simple.new.self c.in-Simple.span c.in-Simple.simple (a C ps m))) c.simple.ensures
+
+pub stmt-returns-in_ok-body-in-If : goal.stmt-returns-in_ok-body-in-If
+stmt-returns-in_ok-body-in-If t c =
+    on_ok_weaker c.body-in-If.result
+    (λ a C ps m.
+    let ts = c.args.pool.now in
+    subst (λ (z : Stmt). TellsStmt C ps ts z c.args.self.now c.body-in-If.new.self) (sym c.in-If.is)
+    (if_tells C ps ts c.args.self.now c.expr.new.self c.body.new.self c.body-in-If.new.self c.in-If.field-0 c.in-If.e c.in-If.then c.in-If.otherwise c.in_ok-expr-in-If.ensures
+    (subst (λ (ys : List Stmt). Tells c.expr.new.self c.body.new.self (in_body C ps (statements_at ts ys))) c.deref.ensures.value (c.in_ok-body-in-If.ensures C ps m))
+    (subst (λ (ys : List Stmt). Tells c.body.new.self c.body-in-If.new.self (in_body C ps (statements_at ts ys))) c.deref-in-If.ensures.value (a C ps m)))) c.body-in-If.ensures
+
+pub stmt-returns-in-Either : goal.stmt-returns-in-Either
+stmt-returns-in-Either t c =
+    on_ok_weaker c.branches.result
+    (λ a C ps m.
+    let ts = c.args.pool.now in
+    subst (λ (z : Stmt). TellsStmt C ps ts z c.args.self.now c.branches.new.self) (sym c.in-Either.is)
+    (either_tells C ps ts c.args.self.now c.branches.new.self c.in-Either.field-0 c.in-Either.list
+    (subst (λ (ys : List (Vec Stmt Global)). Tells c.args.self.now c.branches.new.self (in_branches C ps (branches_at ts ys))) c.deref-in-Either.ensures.value (a C ps m)))) c.branches.ensures
+
+pub stmt-returns-in_ok-body-in-With : goal.stmt-returns-in_ok-body-in-With
+stmt-returns-in_ok-body-in-With t c = λ C ps m.
+    let ts = c.args.pool.now in
+    let last : Found = record { first = c.body-in-With.new.self.first; free = c.body-in-With.new.self.free; bound = c.truncate.new.self } in
+    subst (λ (z : Stmt). TellsStmt C ps ts z c.args.self.now last) (sym c.in-With.is)
+    (with_tells C ps ts c.args.self.now c.binds.new.self c.body-in-With.new.self last c.in-With.field-0 c.in-With.binds c.in-With.body
+    (subst (λ (bs : List Bind). TellsBinds (binds_at ts bs) c.args.self.now c.binds.new.self) c.deref-in-With.ensures.value c.in_ok-binds-in-With.ensures)
+    (subst (λ (ys : List Stmt). Tells c.binds.new.self c.body-in-With.new.self (in_body C ps (statements_at ts ys))) c.deref-in-With-2.ensures.value (c.in_ok-body-in-With.ensures C ps m))
+    refl refl (c.truncate.ensures ∙ ap (λ (k : ℕ). take k c.body-in-With.new.self.bound) c.len-around.ensures))
+
+pub stmt-returns-in_ok-expr-in-While : goal.stmt-returns-in_ok-expr-in-While
+stmt-returns-in_ok-expr-in-While t c =
+    on_ok_weaker c.body-in-While.result
+    (λ a C ps m.
+    let ts = c.args.pool.now in
+    subst (λ (z : Stmt). TellsStmt C ps ts z c.args.self.now c.body-in-While.new.self) (sym c.in-While.is)
+    (while_tells C ps ts c.args.self.now c.expr-in-While.new.self c.body-in-While.new.self c.in-While.field-0 c.in-While.e c.in-While.body c.in_ok-expr-in-While.ensures
+    (subst (λ (ys : List Stmt). Tells c.expr-in-While.new.self c.body-in-While.new.self (in_body C ps (statements_at ts ys))) c.deref-in-While.ensures.value (a C ps m)))) c.body-in-While.ensures

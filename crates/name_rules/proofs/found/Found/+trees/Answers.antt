@@ -1,0 +1,43 @@
+-- Proves what is asked of the functions that go through an expression.
+use Rattle.std.proofs.Common.{ℕ, List, length, take, slice_index_or, ap, ◌∙◌, subst, refl, arith}
+use Rattle.std.proofs.lemmas.List.{get_or_default}
+use Rattle.tla_tree.specs.Tree.{Form, seen_names}
+use Rattle.tla_tree.specs.Pool.{Entry, trees_at}
+use Rattle.tla_tree.proofs.PoolNumbers.{AllBelow-at}
+use Rattle.tla_value.specs.StandardModules.{is_member}
+use Rattle.tla_pool.specs.FormOf.{form_of}
+use Rattle.pcal_tree.specs.OffencesNames.{form_offences, in_parts}
+use Rattle.name_rules.specs.Finding.{Tells, TellsParts}
+use Rattle.name_rules.proofs.TreeLaws.{parts_more, parts_cut, node_met}
+use Rattle.name_rules.proofs.found.Found.+trees.Goals as goal
+
+pub expr-returns : goal.expr-returns
+expr-returns t c =
+    let n = c.node-node.result.now in
+    let f = ap (λ (n : Entry). n.form) c.node.view_is in
+    let parts = c.deref-parts.ensures.value ∙ ap (λ (n : Entry). n.parts) c.node.view_is in
+    node_met c.args.self.now c.form.new.self c.parts.new.self _ n c.args.pool.now c.args.e c.args.right c.node-node.ensures.tree
+    (subst (λ (k : ℕ). Tells c.args.self.now c.form.new.self (λ r. form_offences r c.args.right n.form k n.place)) (ap (λ (is : List ℕ). length is) parts)
+    (subst (λ (k : Entry). Tells c.args.self.now c.form.new.self (λ r. form_offences r c.args.right k.form (length c.deref-parts.result.now) k.place)) c.node.view_is c.in_ok-form.ensures))
+    (subst (λ (m : Form). TellsParts c.form.new.self c.parts.new.self (in_parts (seen_names m) (is_member m) (trees_at c.args.pool.now n.parts))) f
+    (subst (λ (ids : List ℕ). TellsParts c.form.new.self c.parts.new.self (in_parts (seen_names (form_of c.node.inside.form)) (is_member (form_of c.node.inside.form)) (trees_at c.args.pool.now ids))) parts c.in_ok-parts.ensures))
+    refl refl (c.truncate.ensures ∙ ap (λ (k : ℕ). take k c.parts.new.self.bound) c.len-around.ensures)
+
+pub parts-expr-requires : goal.parts-expr-requires
+parts-expr-requires t c =
+    let below = AllBelow-at c.args.past c.args.parts.now c.loop-i.i 0 c.requires.there c.loop-i-test.true in
+    (omega (arith, below, c.decreases), omega (arith, below, c.requires.inside))
+
+pub parts-loop-i-preserved : goal.parts-loop-i-preserved
+parts-loop-i-preserved t c =
+    let e = slice_index_or c.args.parts.now c.loop-i.i 0 in
+    parts_more c.args.self.now c.loop-i.self c.expr.new.self _ (form_of c.args.form.now) c.args.pool.now c.args.parts.now c.loop-i.i e c.is_last_of_member-right.result
+    (get_or_default c.args.parts.now c.loop-i.i 0 e c.loop-i-test.true) c.loop-i-test.true
+    c.requires.shaped c.is_last_of_member-right.ensures c.in_ok-expr.ensures refl refl c.in_ok-add_next.ensures c.loop-i.invariant
+
+pub parts-returns-then-ends_in_literal : goal.parts-returns-then-ends_in_literal
+parts-returns-then-ends_in_literal t c =
+    let e = slice_index_or c.args.parts.now c.loop-i.i 0 in
+    parts_cut c.args.self.now c.loop-i.self c.expr.new.self (form_of c.args.form.now) c.args.pool.now c.args.parts.now c.loop-i.i e c.is_last_of_member-right.result
+    (get_or_default c.args.parts.now c.loop-i.i 0 e c.loop-i-test.true) c.loop-i-test.true
+    c.requires.shaped c.is_last_of_member-right.ensures c.in_ok-expr.ensures (c.ends_in_literal.ensures c.if-ends_in_literal.true) c.loop-i.invariant

@@ -1,8 +1,0 @@
--- What is kept: what is left still gives the number.
-use Rattle.std.proofs.Common.{◌≡◌, drop}
-use Rattle.use_rules.specs.Calling.{parameter_number}
-use Rattle.use_rules.proofs.CallLaws.{shifted}
-use Rattle.use_rules.proofs.calls.parameter_number.Given as goal
-
-abbrev pub invariant-loop-i : goal.invariant-loop-i
-invariant-loop-i l = shifted l.i (parameter_number (drop l.i l.params) l.name) ≡ parameter_number l.params l.name

@@ -1,5 +1,0 @@
--- Why the calls that go through an argument end.
-use Rattle.use_rules.proofs.found.Found.+handed.Given as goal
-
-abbrev pub decreases-handed : goal.decreases-handed
-decreases-handed l = l.e

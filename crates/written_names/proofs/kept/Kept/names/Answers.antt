@@ -1,7 +1,0 @@
--- Proves that what is met is added.
-use Rattle.std.proofs.Common.{refl}
-use Rattle.written_names.proofs.KeptWalks.{adds_hidden}
-use Rattle.written_names.proofs.kept.Kept.names.Goals as goal
-
-pub returns-clause-adds : goal.returns-clause-adds
-returns-clause-adds c = λ ts. adds_hidden ts c.args.self.now _ _ c.in_ok-add_all.ensures refl
