@@ -30,4 +30,6 @@ pub mod MetWalks
 pub mod MetBodies
 pub mod MetSwept
 pub mod MetWords
+pub mod UseSame
+pub mod SeenLaws
 mod Rows

@@ -13,3 +13,5 @@ pub mod Processes
 pub mod OutsideWords
 pub mod Whole
 pub mod Met
+pub mod UsesTold
+pub mod UsesSeen

@@ -1,4 +1,5 @@
-//! Refusals for names declared twice or bound again, reserved names, and what needs a module; and names that are taken.
+//! Refusals for names declared twice or bound again, reserved names, and what needs a module; names that are taken, and what
+//! names may be used as.
 #![tactic(auto)]
 
 pub mod bind_walk;
@@ -21,6 +22,8 @@ pub mod refusal;
 pub mod sight;
 pub mod sweep;
 pub mod units;
+pub mod use_sight;
+pub mod using;
 pub mod walk;
 
 pub use rebinds::rebind_refusal;

@@ -155,7 +155,9 @@ fn with_calls(
     ensures { IfOk result (λ f. (m : Modules) → AreModules m (words outside.now.extended.items) → AreAlone m sights.old → AreNone calls.old → f ≡ first (rebind_offences_of (algorithm_at pool.now algorithm.now) (outside_at pool.now outside.now))) }
 {
     let mut walk = Walk::new(alloc);
-    first_offence(sights, calls, &mut walk, pool, algorithm, outside)
+    let found = first_offence(sights, calls, &mut walk, pool, algorithm, outside);
+    drop(walk);
+    found
 }
 
 // The same, with the name of a process's identifier.
@@ -171,7 +173,9 @@ fn with_sights(
 {
     let process = Vec::from_slice(alloc, b"self")?;
     let mut calls = Calls::new(alloc, Name::new(process));
-    with_calls(alloc, sights, &mut calls, pool, algorithm, outside)
+    let found = with_calls(alloc, sights, &mut calls, pool, algorithm, outside);
+    drop(calls);
+    found
 }
 
 /// The first name of an algorithm that is bound or declared where it is in scope already, also where macro calls, identifiers of
@@ -191,5 +195,7 @@ pub fn rebind_refusal(
 {
     let modules = modules_among(&outside.extended);
     let mut sights = Sights::new(alloc, modules);
-    with_sights(alloc, &mut sights, pool, algorithm, outside)
+    let found = with_sights(alloc, &mut sights, pool, algorithm, outside);
+    drop(sights);
+    found
 }

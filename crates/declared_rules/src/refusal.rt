@@ -47,7 +47,9 @@ fn first_found(
     ensures { IfOk result (λ r. r ≡ first (offences_found modules pool.now algorithm.now (outside_at pool.now outside.now))) }
 {
     let mut found = none_found(alloc, modules, pool.len())?;
-    found.all(pool, algorithm, outside)
+    let first = found.all(pool, algorithm, outside);
+    drop(found);
+    first
 }
 
 /// The first offence against the rules on names that are declared twice, on reserved names, on what needs a module, and on

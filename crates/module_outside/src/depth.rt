@@ -185,5 +185,7 @@ pub fn definition_depth(
     if !names_fresh(sight, &mut bound, params)? {
         return Ok(None);
     }
-    tree_depth(pool, sight, &mut bound, false, body)
+    let depth = tree_depth(pool, sight, &mut bound, false, body);
+    drop(bound);
+    depth
 }

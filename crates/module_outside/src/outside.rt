@@ -78,7 +78,9 @@ fn found_in(
     ensures kept { Keeps pool.old pool.new }
 {
     let mut sight = Sight::new(alloc, &declared.extended, &declared.constants)?;
-    found_by(alloc, pool, &mut sight, before, after)
+    let found = found_by(alloc, pool, &mut sight, before, after);
+    drop(sight);
+    found
 }
 
 /// What a module has outside, by its tokens before the place of a translation and after it.

@@ -23,7 +23,7 @@ use Rattle.algorithm_answer.specs.Joined.{joined}
 use Rattle.algorithm_answer.proofs.Joins.{joined_assoc, joined_none, first_append}
 use Rattle.algorithm_limits.specs.DepthsIn.{Hides}
 use Rattle.name_rules.specs.declared.found.Found.{Found}
-use Rattle.name_rules.specs.Telling.{told_by, Inside}
+use Rattle.declared_rules.specs.UsesTold.{told_by, Inside}
 use Rattle.name_rules.specs.Finding.{told, Tells}
 use Rattle.declared_rules.specs.Parts.{bind_name}
 use Rattle.declared_rules.specs.Bodies.{bind_number}

@@ -21,13 +21,13 @@ use Rattle.tla_pool.specs.declared.form.Form as form
 use Rattle.tla_pool.specs.declared.form.Form.TheVariants as forms
 use Rattle.tla_pool.specs.declared.form.Strict.TheVariants as stricts
 use Rattle.tla_pool.specs.FormOf.{form_of}
-use Rattle.name_rules.specs.declared.using.Kind.{Kind}
-use Rattle.name_rules.specs.declared.using.Kind.TheVariants as kind
+use Rattle.declared_rules.specs.declared.using.Kind.{Kind}
+use Rattle.declared_rules.specs.declared.using.Kind.TheVariants as kind
 use Rattle.name_rules.specs.declared.found.Found.{Found}
-use Rattle.name_rules.specs.declared.using.NameUse.{NameUse}
+use Rattle.declared_rules.specs.declared.using.NameUse.{NameUse}
 use Rattle.name_rules.specs.declared.macros.MacroUses.{MacroUses}
 use Rattle.name_rules.specs.declared.macros.Callees.{Callees}
-use Rattle.name_rules.specs.Telling.{use_as, place_in, looked}
+use Rattle.declared_rules.specs.UsesTold.{use_as, place_in, looked}
 use Rattle.name_rules.specs.Finding.{Tells}
 use Rattle.name_rules.specs.Calling.{is_subscripted, handed_from, use_through, use_through_first, later, parameter_number, kept_list, wrong_number, called_offences, kept_offences, procedure_offences, Means}
 use Rattle.name_rules.proofs.TellLaws.{tells_none, tells_as, tells_first, tells_then}

@@ -12,10 +12,10 @@ use Rattle.algorithm_answer.specs.Joined.{joined}
 use Rattle.algorithm_answer.proofs.Joins.{joined_assoc}
 use Rattle.algorithm_answer.proofs.Covers.{Covers, covers_itself, covers_each, covers_if, covers_in}
 use Rattle.pcal_tree.specs.laws.MacroUses.{offences_as}
-use Rattle.name_rules.specs.declared.using.Kind.{Kind}
-use Rattle.name_rules.specs.declared.using.Kind.TheVariants as kind
-use Rattle.name_rules.specs.declared.using.NameUse.{NameUse}
-use Rattle.name_rules.specs.Telling.{use_as, place_in, used, looked, told_by}
+use Rattle.declared_rules.specs.declared.using.Kind.{Kind}
+use Rattle.declared_rules.specs.declared.using.Kind.TheVariants as kind
+use Rattle.declared_rules.specs.declared.using.NameUse.{NameUse}
+use Rattle.declared_rules.specs.UsesTold.{use_as, place_in, used, looked, told_by}
 
 -- ---- one name, at two places
 

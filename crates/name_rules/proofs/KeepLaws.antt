@@ -23,7 +23,8 @@ use Rattle.algorithm_limits.proofs.Tables.{equal, equal_is, same_test, number_of
 use Rattle.name_rules.specs.declared.found.Found.{Found}
 use Rattle.name_rules.specs.declared.macros.MacroUses.{MacroUses}
 use Rattle.name_rules.specs.declared.macros.Callees.{Callees}
-use Rattle.name_rules.specs.Telling.{looked, told_by, Inside}
+use Rattle.declared_rules.specs.UsesTold.{looked, told_by, Inside}
+use Rattle.declared_rules.proofs.SeenLaws.{inserted}
 use Rattle.name_rules.specs.Finding.{told, Tells}
 use Rattle.name_rules.specs.Calling.{kept_list, wrong_number, called_offences, kept_offences, procedure_offences, Means}
 use Rattle.name_rules.specs.Keeping.{Keeps, AreProcedures, procedures_at, calls_at}
@@ -37,30 +38,6 @@ names_more copy ns i n e l h = (λ j. h j ++ e j ∷ []) ∙ sym (take_more ns i
 
 pub names_all : (copy ns : List Name) (i : ℕ) → length ns ≤ i → copy ≡ take i ns → copy ≡ ns
 names_all copy ns i l h = h ∙ take_all i ns l
-
--- ---- tables
-
-module _ {V : Type 0} where
-  pub inserted : (es : List (Word × V)) (x : Word) (v : V) (y : Word) → lookup (equal y) (insert_entry equal es x v) ≡ cond (bytes_eq x y) (Some v) (lookup (equal y) es)
-  inserted [] x v y = ap (λ (b : Bool). cond b (Some v) None) (same_test y x)
-  inserted (e ∷ es) x v y = by (equal x e.0) refl (inserted es x v y)
-    where
-      twice : (b : Bool) → cond b (Some v) (lookup (equal y) es) ≡ cond b (Some v) (cond b (Some e.1) (lookup (equal y) es))
-      twice true = refl
-      twice false = refl
-
-      apart : equal x e.0 ≡ false → (a b : Bool) → equal y e.0 ≡ a → bytes_eq x y ≡ b → cond a (Some e.1) (cond b (Some v) (lookup (equal y) es)) ≡ cond b (Some v) (cond a (Some e.1) (lookup (equal y) es))
-      apart h true true p q = absurd (true≢false (sym p ∙ ap (λ (z : Word). equal z e.0) (sym ((bytes_eq-Decides x y).0 q)) ∙ h))
-      apart h true false p q = refl
-      apart h false b p q = refl
-
-      by : (b : Bool) → equal x e.0 ≡ b → lookup (equal y) (insert_entry equal es x v) ≡ cond (bytes_eq x y) (Some v) (lookup (equal y) es)
-          → lookup (equal y) (if b then (e.0, v) ∷ es else e ∷ insert_entry equal es x v) ≡ cond (bytes_eq x y) (Some v) (cond (equal y e.0) (Some e.1) (lookup (equal y) es))
-      by true h rest =
-          let same = ap (equal y) (sym (equal_is x e.0 h)) ∙ same_test y x in
-          ap (λ (b : Bool). cond b (Some v) (lookup (equal y) es)) same ∙ twice (bytes_eq x y)
-          ∙ ap (λ (b : Bool). cond (bytes_eq x y) (Some v) (cond b (Some e.1) (lookup (equal y) es))) (sym same)
-      by false h rest = ap (λ (o : Option V). cond (equal y e.0) (Some e.1) o) rest ∙ apart h (equal y e.0) (bytes_eq x y) refl refl
 
 -- ---- a macro's body, looked at from any sight
 

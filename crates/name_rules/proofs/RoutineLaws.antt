@@ -23,17 +23,17 @@ use Rattle.algorithm_limits.specs.DepthsIn.{Hides}
 use Rattle.algorithm_limits.proofs.BoundLemmas.{hides_then, hides_as}
 use Rattle.module_outside.specs.SightIn.{Binds}
 use Rattle.module_outside.proofs.SightLaws.{binds_all}
-use Rattle.name_rules.specs.declared.using.NameUse.{NameUse}
-use Rattle.name_rules.specs.declared.using.Use.TheVariants as known
+use Rattle.declared_rules.specs.declared.using.NameUse.{NameUse}
+use Rattle.declared_rules.specs.declared.using.Use.TheVariants as known
 use Rattle.name_rules.specs.declared.found.Found.{Found}
-use Rattle.name_rules.specs.declared.sight.Sight.{Sight}
-use Rattle.name_rules.specs.Telling.{use_seen, use_as, place_in, looked, told_by, Inside}
+use Rattle.declared_rules.specs.declared.use_sight.Sight.{Sight}
+use Rattle.declared_rules.specs.UsesTold.{use_seen, use_as, place_in, looked, told_by, Inside}
 use Rattle.name_rules.specs.Finding.{told, Tells}
-use Rattle.name_rules.specs.Seeing.{Alike, use_in, within_use, Sees}
+use Rattle.declared_rules.specs.UsesSeen.{Alike, use_in, within_use, Sees}
 use Rattle.read_rules.specs.NumbersIn.{declared_in}
 use Rattle.name_rules.specs.Routines.{routine_offences}
 use Rattle.name_rules.proofs.TellLaws.{tells_none, tells_as, tells_then, inside_none, inside_all}
-use Rattle.name_rules.proofs.SeenLaws.{sees_is, alike_among, latest, latest_more, turned}
+use Rattle.declared_rules.proofs.SeenLaws.{sees_is, alike_among, latest, latest_more, turned}
 
 -- ---- first values: what is left still gives the whole
 

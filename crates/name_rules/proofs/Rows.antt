@@ -4,10 +4,10 @@ use Rattle.tla_token.specs.declared.place.Place.{Place}
 use Rattle.tla_token.specs.declared.rule.Rule.TheVariants.{Unknown, Arity}
 use Rattle.tla_tree.specs.Tree.{Word, Name}
 use Rattle.pcal_tree.specs.NameUses.{variable, knowing, plain}
-use Rattle.name_rules.specs.declared.using.Kind.{Kind}
-use Rattle.name_rules.specs.declared.using.Kind.TheVariants as kind
-use Rattle.name_rules.specs.declared.using.NameUse.{NameUse}
-use Rattle.name_rules.specs.Telling.{told_by}
+use Rattle.declared_rules.specs.declared.using.Kind.{Kind}
+use Rattle.declared_rules.specs.declared.using.Kind.TheVariants as kind
+use Rattle.declared_rules.specs.declared.using.NameUse.{NameUse}
+use Rattle.declared_rules.specs.UsesTold.{told_by}
 use Rattle.name_rules.specs.Calling.{parameter_number}
 
 abbrev here : Place

@@ -16,10 +16,10 @@ use Rattle.algorithm_answer.proofs.Joins.{joined_assoc, joined_none, first_appen
 use Rattle.algorithm_limits.specs.DepthsIn.{Hides}
 use Rattle.algorithm_limits.proofs.Tables.{equal, same_test}
 use Rattle.indexmap.specs.IndexSet.{insert_key}
-use Rattle.name_rules.specs.declared.using.Kind.{Kind}
-use Rattle.name_rules.specs.declared.using.NameUse.{NameUse}
+use Rattle.declared_rules.specs.declared.using.Kind.{Kind}
+use Rattle.declared_rules.specs.declared.using.NameUse.{NameUse}
 use Rattle.name_rules.specs.declared.found.Found.{Found}
-use Rattle.name_rules.specs.Telling.{use_as, used, looked, told_by, Inside}
+use Rattle.declared_rules.specs.UsesTold.{use_as, used, looked, told_by, Inside}
 use Rattle.name_rules.specs.Finding.{told, Tells}
 use Rattle.name_rules.proofs.JoinLaws.{kept_once}
 

@@ -19,7 +19,7 @@ use Rattle.algorithm_limits.proofs.LiteralLaws.{each_literal, first_literal, mor
 use Rattle.outside_reading.specs.TreeDepth.{first_names, more_names}
 use Rattle.module_outside.proofs.DepthLaws.{part_sees}
 use Rattle.name_rules.specs.declared.found.Found.{Found}
-use Rattle.name_rules.specs.Telling.{told_by, Inside}
+use Rattle.declared_rules.specs.UsesTold.{told_by, Inside}
 use Rattle.name_rules.specs.Finding.{told, Tells, TellsParts}
 use Rattle.name_rules.proofs.TellLaws.{tells_none, tells_as, tells_then, inside_more}
 

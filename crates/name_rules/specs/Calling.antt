@@ -16,7 +16,7 @@ use Rattle.pcal_tree.specs.OffencesNames.{count, Calls, call_offences, parameter
 use Rattle.algorithm_limits.specs.Numbers.{number_of}
 use Rattle.name_rules.specs.declared.macros.MacroUses.{MacroUses}
 use Rattle.name_rules.specs.declared.macros.Callees.{Callees}
-use Rattle.name_rules.specs.Telling.{looked}
+use Rattle.declared_rules.specs.UsesTold.{looked}
 
 -- ---- arguments
 

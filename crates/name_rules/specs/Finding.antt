@@ -5,7 +5,7 @@ use Rattle.pcal_tree.specs.Offences.{first}
 use Rattle.pcal_tree.specs.NameUses.{Sight}
 use Rattle.algorithm_answer.specs.Joined.{joined}
 use Rattle.name_rules.specs.declared.found.Found.{Found}
-use Rattle.name_rules.specs.Telling.{told_by, Inside}
+use Rattle.declared_rules.specs.UsesTold.{told_by, Inside}
 
 abbrev pub told : Found → Sight → Option Refusal
 told k s = told_by k.first k.free.keys s

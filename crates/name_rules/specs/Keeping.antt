@@ -14,7 +14,7 @@ use Rattle.pcal_tree.specs.OffencesNames.{Calls, call_offences, in_body, macro_o
 use Rattle.algorithm_limits.specs.Numbers.{Numbers, number_of}
 use Rattle.name_rules.specs.declared.macros.MacroUses.{MacroUses}
 use Rattle.name_rules.specs.declared.macros.Callees.{Callees}
-use Rattle.name_rules.specs.Telling.{told_by}
+use Rattle.declared_rules.specs.UsesTold.{told_by}
 use Rattle.name_rules.specs.Calling.{procedure_offences, Means}
 
 -- this is kept of a macro, whose calls offend this

@@ -12,7 +12,7 @@ use Rattle.pcal_tree.specs.NameUses.{Sight}
 use Rattle.pcal_tree.specs.OffencesNames.{Calls, in_binds, after_binds, in_body}
 use Rattle.algorithm_answer.specs.Joined.{joined}
 use Rattle.name_rules.specs.declared.found.Found.{Found}
-use Rattle.name_rules.specs.Telling.{Inside}
+use Rattle.declared_rules.specs.UsesTold.{Inside}
 use Rattle.name_rules.specs.Finding.{told, Tells}
 
 -- more names may be bound behind those that were

@@ -10,14 +10,14 @@ ghost use Rattle.pcal_tree.specs.InMemory.{past_numbers};
 ghost use Rattle.pcal_tree.specs.Paths.{root, root_form};
 ghost use Rattle.pcal_tree.specs.laws.MacroUses.{offences_as};
 ghost use Rattle.pcal_tree.specs.OffencesNames.{seeing_parameters, Calls, call_offences};
-ghost use Rattle.name_rules.specs.Telling.{use_as, looked};
+ghost use Rattle.declared_rules.specs.UsesTold.{use_as, looked};
 ghost use Rattle.name_rules.specs.Finding.{Tells};
 ghost use Rattle.name_rules.specs.Calling.{is_subscripted as is_subscripted_of, handed_from, use_through, use_through_first, parameter_number as parameter_number_of, Means};
 
 use crate::found::Found;
 use crate::macros::Callees;
-use crate::using::{Kind, NameUse, Use, offence_as};
 use algorithm_limits::order::or_offence;
+use declared_rules::using::{Kind, NameUse, Use, offence_as};
 use module_outside::standard::is;
 use std::alloc::AllocError;
 use tla_pool::Pool;

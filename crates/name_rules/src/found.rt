@@ -12,13 +12,13 @@ ghost use Rattle.pcal_tree.specs.Offences.{first};
 ghost use Rattle.pcal_tree.specs.NameUses.{Sight};
 ghost use Rattle.algorithm_answer.specs.Joined.{joined};
 ghost use Rattle.pcal_tree.specs.OffencesNames.{form_offences, root_offences, in_tree, in_parts, in_each, in_left};
-ghost use Rattle.name_rules.specs.Telling.{used};
+ghost use Rattle.declared_rules.specs.UsesTold.{used};
 ghost use Rattle.name_rules.specs.Finding.{told, IsNew, Tells, TellsParts};
 
-use crate::using::{Kind, NameUse, Use, offence_as};
 use algorithm_limits::bound::Bound;
 use algorithm_limits::literal::ends_in_literal;
 use algorithm_limits::order::least;
+use declared_rules::using::{Kind, NameUse, Use, offence_as};
 use indexmap::IndexSet;
 use module_outside::depth::is_last_of_member;
 use std::alloc::{AllocError, Global};

@@ -8,8 +8,6 @@ pub mod macros;
 pub mod names;
 pub mod refusal;
 pub mod routines;
-pub mod sight;
 pub mod uses;
-pub mod using;
 
 pub use names::name_all;

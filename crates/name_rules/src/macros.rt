@@ -1,6 +1,8 @@
 //! What is kept of macros and procedures: each body is gone through once.
 
-ghost use Rattle.std.specs.Prelude.{◌≡◌, ◌<◌, ◌≤◌, ◌^◌, [], List, length, map, OnOk};
+ghost use Rattle.std.specs.Prelude.{◌≡◌, ◌==◌, ◌<◌, ◌≤◌, ◌^◌, [], List, length, map, OnOk};
+ghost use Rattle.std.specs.Cmp.Lexicographic.{pointwise};
+ghost use Rattle.indexmap.specs.IndexMap.{insert_entry};
 ghost use Rattle.tla_tree.specs.Nesting.{greatest};
 ghost use Rattle.tla_tree.specs.Tree.{Tree};
 ghost use Rattle.pcal_tree.specs.Algorithm.{Procedure as PureProcedure};
@@ -96,6 +98,14 @@ impl Callees {
         }
     }
 
+    // Keeps this of a macro by its name, in place of what was kept by it.
+    fn keep(&mut self, name: Name, uses: MacroUses) -> Result<(), AllocError>
+        ensures { OnOk result ((self.new.macros.entries ≡ insert_entry (pointwise ◌==◌) self.old.macros.entries name uses) × (self.new.procedures ≡ self.old.procedures)) }
+    {
+        self.macros.insert(name, uses)?;
+        Ok(())
+    }
+
     // One more macro, which calls those before it.
     fn add_macro(&mut self, alloc: Global, pool: &Pool, one: &Macro) -> Result<(), AllocError>
         requires { past_macro one.now ≤ length pool.now }
@@ -103,9 +113,13 @@ impl Callees {
     {
         let name = one.name.name.copied()?;
         let mut uses = MacroUses::new(alloc);
-        uses.fill(pool, self, one)?;
-        self.macros.insert(name, uses)?;
-        Ok(())
+        match uses.fill(pool, self, one) {
+            Ok(()) => self.keep(name, uses),
+            Err(error) => {
+                drop(uses);
+                Err(error)
+            }
+        }
     }
 
     /// What is kept of these macros, of which each calls those before it, and of these procedures, where none was known.

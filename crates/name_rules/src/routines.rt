@@ -14,15 +14,15 @@ ghost use Rattle.pcal_tree.specs.Variables.{declared};
 ghost use Rattle.module_outside.specs.SightIn.{Binds};
 ghost use Rattle.name_rules.specs.Finding.{told, Tells};
 ghost use Rattle.name_rules.specs.Calling.{Means};
-ghost use Rattle.name_rules.specs.Seeing.{within_use, Sees};
+ghost use Rattle.declared_rules.specs.UsesSeen.{within_use, Sees};
 ghost use Rattle.name_rules.specs.Routines.{routine_offences};
 
 use crate::found::Found;
 use crate::macros::Callees;
-use crate::sight::{Sight, how_many};
-use crate::using::{Use, offence_as};
 use algorithm_limits::bound::Bound;
 use algorithm_limits::order::least;
+use declared_rules::use_sight::{Sight, how_many};
+use declared_rules::using::{Use, offence_as};
 use pcal_tree::algorithm::{Declaration, Definition, Main, Procedure, Process, Start, Stmt};
 use read_rules::declared::add_declared;
 use std::alloc::AllocError;

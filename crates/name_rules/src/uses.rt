@@ -11,8 +11,8 @@ ghost use Rattle.name_rules.specs.Whole.{AreNone};
 
 use crate::found::Found;
 use crate::macros::Callees;
-use crate::sight::Sight;
 use algorithm_limits::order::least;
+use declared_rules::use_sight::Sight;
 use module_outside::modules::{Modules, modules_among};
 use module_outside::outside::Outside;
 use pcal_tree::algorithm::Algorithm;
@@ -87,5 +87,7 @@ pub fn use_refusal(
 {
     let modules = modules_among(&outside.extended);
     let mut known = Known::new(alloc, modules);
-    known.first_offence(alloc, pool, algorithm, outside)
+    let first = known.first_offence(alloc, pool, algorithm, outside);
+    drop(known);
+    first
 }

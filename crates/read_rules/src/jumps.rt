@@ -67,7 +67,8 @@ fn jump(alloc: Global, pool: &Pool, one: &Procedure) -> Result<Jump, AllocError>
     };
     add_starts(&mut used, pool, &one.variables)?;
     let name = one.name.name.copied()?;
-    let Used { names, .. } = used;
+    let Used { names, bound, .. } = used;
+    drop(bound);
     Ok(Jump { name, uses: names })
 }
 

@@ -203,5 +203,7 @@ pub fn order_refusal(
         before: Bound::new(alloc),
         levels,
     };
-    order_in(alloc, pool, &mut known, algorithm)
+    let found = order_in(alloc, pool, &mut known, algorithm);
+    drop(known);
+    found
 }

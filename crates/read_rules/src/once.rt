@@ -177,6 +177,7 @@ impl Walk {
         let mut kept = Kept::new(alloc);
         kept.keep_groups(wanted, &self.seen)?;
         self.seen = kept.groups(alloc)?;
+        drop(kept);
         Ok(())
     }
 }

@@ -95,7 +95,9 @@ fn with_process(
     }
     let mut variables = Bound::new(alloc);
     add_declared(&mut variables, &process.variables)?;
-    with_declarations(alloc, pool, &variables, so_far, &process.variables)
+    let found = with_declarations(alloc, pool, &variables, so_far, &process.variables);
+    drop(variables);
+    found
 }
 
 // The first offence of these processes.

@@ -52,5 +52,7 @@ pub fn read_refusal(
 {
     let numbers = number_variables(alloc, &algorithm.globals)?;
     let levels = levels(alloc, pool, &numbers, &algorithm.definitions)?;
-    refusal_by(alloc, pool, &numbers, levels, algorithm)
+    let found = refusal_by(alloc, pool, &numbers, levels, algorithm);
+    drop(numbers);
+    found
 }

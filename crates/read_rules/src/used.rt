@@ -129,7 +129,8 @@ pub fn used_names(
         bound,
     };
     used.expr(pool, e)?;
-    let Used { names, .. } = used;
+    let Used { names, bound, .. } = used;
+    drop(bound);
     Ok(names)
 }
 
@@ -148,6 +149,7 @@ pub fn free_names(alloc: Global, pool: &Pool, e: NodeId) -> Result<Vec<PlacedNam
         bound: Bound::new(alloc),
     };
     used.expr(pool, e)?;
-    let Used { names, .. } = used;
+    let Used { names, bound, .. } = used;
+    drop(bound);
     Ok(names)
 }

@@ -3,4 +3,4 @@ use Rattle.std.proofs.lemmas.Result.{IfOk-weaker}
 use Rattle.declared_rules.proofs.rebinds.with_calls.Goals as goal
 
 pub returns : goal.returns
-returns c = IfOk-weaker c.first_offence.result _ _ (λ f h m e z n. h m e z n c.new-walk.ensures) c.first_offence.ensures
+returns c = IfOk-weaker c.first_offence-found.result _ _ (λ f h m e z n. h m e z n c.new-walk.ensures) c.first_offence-found.ensures

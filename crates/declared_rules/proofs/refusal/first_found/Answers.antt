@@ -9,6 +9,6 @@ use Rattle.declared_rules.proofs.refusal.first_found.Goals as goal
 
 pub returns : goal.returns
 returns c =
-    IfOk-weaker c.all.result _ _ (λ r h.
+    IfOk-weaker c.all-first.result _ _ (λ r h.
     subst (λ (m : Modules). r ≡ first (offences_found m c.args.pool.now c.args.algorithm.now (outside_at c.args.pool.now c.args.outside.now))) c.in_ok-found.ensures.0 (h c.len.result c.in_ok-found.ensures.1 c.in_ok-found.ensures.2))
-    c.all.ensures
+    c.all-first.ensures

@@ -11,10 +11,10 @@ use Rattle.module_outside.proofs.depth.definition_depth.Goals as goal
 
 pub returns-clause-depth : goal.returns-clause-depth
 returns-clause-depth c =
-    IfOk-weaker c.tree_depth.result _ _ (λ r h v s.
+    IfOk-weaker c.tree_depth-depth.result _ _ (λ r h v s.
     definition_is v (record { title = c.args.title.now; params = words c.args.params.now; body = at c.args.pool.now c.args.body; outside = true }) r
     (sym (s.constants c.args.title.now) ∙ sym c.has.ensures ∙ c.if-has.false)
     (sym (c.in_ok-names_fresh.ensures.value v [] s (subst (λ (hs : List Word). Binds hs []) (sym c.new-bound.ensures) none_bound)) ∙ c.if-not-branch.false)
     (h v (words c.args.params.now) s (binds_all c.names_fresh.new.bound (words c.args.params.now)
     (subst (λ (hs : List Word). Hides hs c.names_fresh.new.bound (words c.args.params.now)) c.new-bound.ensures (c.in_ok-names_fresh.ensures.hides c.if-not-branch.false)))))
-    c.tree_depth.ensures.depth
+    c.tree_depth-depth.ensures.depth

@@ -4,7 +4,7 @@ use Rattle.pcal_tree.specs.NameUses as names
 use Rattle.pcal_tree.specs.Offences.{first}
 use Rattle.pcal_tree.specs.laws.MacroUses.{offences_as}
 use Rattle.algorithm_answer.proofs.Joins.{joined_none}
-use Rattle.name_rules.specs.Telling.{use_seen, use_as}
+use Rattle.declared_rules.specs.UsesTold.{use_seen, use_as}
 use Rattle.name_rules.proofs.RoutineLaws.{told_step, told_all}
 use Rattle.name_rules.proofs.routines.tell.Goals as goal
 

@@ -3,8 +3,8 @@ use Rattle.std.proofs.Common.{◌≡◌, List, take}
 use Rattle.tla_tree.specs.Tree.{Word}
 use Rattle.pcal_tree.specs.NameUses as names
 use Rattle.module_outside.specs.SightIn.{Binds}
-use Rattle.name_rules.specs.Telling.{told_by}
-use Rattle.name_rules.specs.Seeing.{Sees}
+use Rattle.declared_rules.specs.UsesTold.{told_by}
+use Rattle.declared_rules.specs.UsesSeen.{Sees}
 use Rattle.name_rules.proofs.routines.tell.Given as goal
 
 abbrev pub invariant-loop-i : goal.invariant-loop-i

@@ -10,7 +10,7 @@ pub returns : goal.returns
 returns c =
     let m = c.modules_among-modules.result in
     let o = c.args.outside.now in
-    IfOk-weaker c.first_offence.result _ _ (λ r h.
+    IfOk-weaker c.first_offence-first.result _ _ (λ r h.
     h c.new-known.ensures.none
     (subst (λ (z : Modules). AreModules z (words o.extended.items)) (sym c.new-known.ensures.modules) (subst (λ (ns : List Name). AreModules m (words ns)) c.deref.ensures.value c.modules_among-modules.ensures)))
-    c.first_offence.ensures
+    c.first_offence-first.ensures

@@ -24,8 +24,8 @@ returns c =
     let new = c.add_declared.new.names in
     let hides = subst (λ (hs : List Word). Hides hs new (declared_in c.deref.result.now)) c.new-variables.ensures c.in_ok-add_declared.ensures in
     let binds = subst (λ (xs : List Word). Binds new xs) (ap declared_in c.deref.ensures.value ∙ sym (declared_is ts c.args.process.now.variables.items)) (binds_all new (declared_in c.deref.result.now) hides) in
-    IfOk-weaker c.with_declarations.result _ _ (λ r h.
+    IfOk-weaker c.with_declarations-found.result _ _ (λ r h.
     h p binds
     ∙ ap (λ (ds : List Declaration). joined c.args.so_far (first (flat_map (own_in_declaration p) (declarations_at ts ds)))) c.deref-2.ensures.value
     ∙ ap (λ (t : Bool). joined c.args.so_far (first (cond t own []))) (sym c.if-not-process.false))
-    c.with_declarations.ensures
+    c.with_declarations-found.ensures

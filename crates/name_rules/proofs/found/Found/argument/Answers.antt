@@ -4,7 +4,7 @@ use Rattle.std.proofs.lemmas.Result.{on_ok_weaker}
 use Rattle.tla_tree.specs.Pool.{at}
 use Rattle.pcal_tree.specs.NameUses.{variable}
 use Rattle.pcal_tree.specs.laws.MacroUses.{offences_as}
-use Rattle.name_rules.specs.Telling.{use_as}
+use Rattle.declared_rules.specs.UsesTold.{use_as}
 use Rattle.name_rules.proofs.TellLaws.{tells_as}
 use Rattle.name_rules.proofs.CallLaws.{applied_through, assigned_through, handed_through}
 use Rattle.name_rules.proofs.found.Found.argument.Goals as goal

@@ -5,7 +5,7 @@ use Rattle.tla_token.specs.declared.rule.Rule.TheVariants.{Unknown}
 use Rattle.tla_tree.specs.Pool.{trees_at}
 use Rattle.pcal_tree.specs.Algorithm.{Name}
 use Rattle.pcal_tree.specs.Offences.{offence, first}
-use Rattle.name_rules.specs.declared.using.NameUse.{NameUse}
+use Rattle.declared_rules.specs.declared.using.NameUse.{NameUse}
 use Rattle.name_rules.specs.Finding.{Tells}
 use Rattle.name_rules.specs.Calling.{kept_list, wrong_number}
 use Rattle.name_rules.proofs.CallLaws.{all_called, first_kept, kept_called, macro_called}

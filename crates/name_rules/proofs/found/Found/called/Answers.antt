@@ -2,7 +2,7 @@
 use Rattle.std.proofs.Common.{Some, None, sym, ◌∙◌, subst}
 use Rattle.std.proofs.lemmas.Result.{on_ok_weaker}
 use Rattle.tla_token.specs.declared.place.Place.{Place}
-use Rattle.name_rules.specs.Telling.{used}
+use Rattle.declared_rules.specs.UsesTold.{used}
 use Rattle.name_rules.specs.Finding.{Tells}
 use Rattle.name_rules.proofs.CallLaws.{called_as}
 use Rattle.name_rules.proofs.found.Found.called.Goals as goal

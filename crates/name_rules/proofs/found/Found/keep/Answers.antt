@@ -6,11 +6,11 @@ use Rattle.algorithm_limits.proofs.Tables.{equal}
 use Rattle.pcal_tree.specs.NameUses.{takes}
 use Rattle.pcal_tree.specs.laws.MacroUses.{offences_as}
 use Rattle.name_rules.specs.declared.found.Found.{Found}
-use Rattle.name_rules.specs.declared.using.NameUse.{NameUse}
-use Rattle.name_rules.specs.contracts.using.NameUsePartialEq.TheImpl.{eq-value as same}
-use Rattle.name_rules.specs.Telling.{use_as, used}
+use Rattle.declared_rules.specs.declared.using.NameUse.{NameUse}
+use Rattle.declared_rules.specs.contracts.using.NameUsePartialEq.TheImpl.{eq-value as same}
+use Rattle.declared_rules.specs.UsesTold.{use_as, used}
 use Rattle.name_rules.specs.Finding.{Tells}
-use Rattle.name_rules.proofs.UseSame.{uses_sound}
+use Rattle.declared_rules.proofs.UseSame.{uses_sound}
 use Rattle.name_rules.proofs.TellLaws.{tells_bound, tells_free, tells_again}
 use Rattle.name_rules.proofs.found.Found.keep.Goals as goal
 

@@ -6,7 +6,7 @@ use Rattle.pcal_tree.specs.declared.algorithm.Definition.{Definition}
 use Rattle.pcal_tree.specs.InMemory.{past_definition}
 use Rattle.pcal_tree.specs.NameUses as names
 use Rattle.name_rules.proofs.RoutineLaws.{defining_start, defining_step, defining_told, known_inside, inside_latest}
-use Rattle.name_rules.proofs.SeenLaws.{sees_is, latest_all}
+use Rattle.declared_rules.proofs.SeenLaws.{sees_is, latest_all}
 use Rattle.name_rules.proofs.found.Found.of_definitions.Goals as goal
 
 pub loop-i-init : goal.loop-i-init

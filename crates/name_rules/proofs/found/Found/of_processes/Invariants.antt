@@ -8,7 +8,7 @@ use Rattle.pcal_tree.specs.NameUses as names
 use Rattle.pcal_tree.specs.OffencesNames.{Calls, in_process}
 use Rattle.algorithm_answer.specs.Joined.{joined}
 use Rattle.name_rules.specs.Calling.{Means}
-use Rattle.name_rules.specs.Seeing.{Sees}
+use Rattle.declared_rules.specs.UsesSeen.{Sees}
 use Rattle.name_rules.proofs.found.Found.of_processes.Given as goal
 
 abbrev pub invariant-loop-one : goal.invariant-loop-one

@@ -8,7 +8,7 @@ use Rattle.tla_tree.specs.Pool.{at}
 use Rattle.pcal_tree.specs.InMemory.{past_number}
 use Rattle.pcal_tree.specs.NameUses.{Use, variable}
 use Rattle.pcal_tree.specs.laws.MacroUses.{offences_as}
-use Rattle.name_rules.specs.Telling.{use_as, place_in}
+use Rattle.declared_rules.specs.UsesTold.{use_as, place_in}
 use Rattle.name_rules.specs.Finding.{Tells}
 use Rattle.name_rules.specs.Calling.{use_through}
 use Rattle.name_rules.proofs.TellLaws.{tells_as}

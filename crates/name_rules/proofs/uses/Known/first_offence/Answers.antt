@@ -14,7 +14,7 @@ use Rattle.algorithm_answer.specs.Joined.{joined}
 use Rattle.module_outside.specs.WholeAt.{outside_at}
 use Rattle.name_rules.specs.Calling.{Means}
 use Rattle.name_rules.specs.Keeping.{procedures_at, calls_at}
-use Rattle.name_rules.specs.Seeing.{Sees}
+use Rattle.declared_rules.specs.UsesSeen.{Sees}
 use Rattle.name_rules.proofs.RoutineLaws.{in_order}
 use Rattle.name_rules.proofs.uses.Known.first_offence.Goals as goal
 

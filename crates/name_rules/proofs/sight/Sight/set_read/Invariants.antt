@@ -1,9 +1,0 @@
--- What is kept: the first definitions are known, as many as were looked at.
-use Rattle.std.proofs.Common.{take}
-use Rattle.pcal_tree.specs.NameUses as names
-use Rattle.name_rules.specs.Seeing.{Sees}
-use Rattle.name_rules.proofs.SeenLaws.{read_known, latest}
-use Rattle.name_rules.proofs.sight.Sight.set_read.Given as goal
-
-abbrev pub invariant-loop-definition : goal.invariant-loop-definition
-invariant-loop-definition l = (s : names.Sight) → Sees l.fn.self s → Sees l.self (latest read_known (take l.definition-index l.list) s)
