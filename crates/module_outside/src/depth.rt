@@ -1,6 +1,7 @@
 //! How deep a definition nests, if it is read.
 
-ghost use Rattle.std.specs.Prelude.{◌≡◌, ◌+◌, ◌<◌, ◌≤◌, ◌^◌, ◌&&◌, nat_eq, [], length, take, List, IfOk, OnOk, IfSome, true};
+ghost use Rattle.std.specs.Prelude.{◌≡◌, ◌+◌, ◌<◌, ◌≤◌, ◌^◌, ◌&&◌, nat_eq, [], length, take, List, IfOk, OnOk, IfSome, true, false};
+ghost use Rattle.tla_token.specs.Signs.{is_among};
 ghost use Rattle.tla_tree.specs.Tree.{Word, words};
 ghost use Rattle.tla_tree.specs.Shapes.{Shaped};
 ghost use Rattle.tla_tree.specs.Pool.{at, trees_at, AllBelow};
@@ -161,6 +162,24 @@ fn parts_depth(
     Ok(Some(deepest))
 }
 
+// How deep a definition nests of what is no constant, if it is read, where no name is bound.
+fn depth_within(
+    pool: &Pool,
+    sight: &Sight,
+    bound: &mut Bound,
+    params: &[PlacedName],
+    body: NodeId,
+) -> Result<Option<usize>, AllocError>
+    requires there { body < length pool.now }
+    ensures depth { IfOk result (λ r. (v : pure.Sight) (x : Word) → Sees sight.now v → is_among v.constants x ≡ false → bound.old ≡ [] → r ≡ reading.definition_depth v (depths [] v.earlier) (record { title = x; params = words params.now; body = at pool.now body; outside = true })) }
+    ensures small { IfOk result (λ r. IfSome r (λ n. n ≤ 500)) }
+{
+    if !names_fresh(sight, bound, params)? {
+        return Ok(None);
+    }
+    tree_depth(pool, sight, bound, false, body)
+}
+
 /// How deep a definition nests, if it is read.
 ///
 /// # Errors
@@ -182,10 +201,7 @@ pub fn definition_depth(
         return Ok(None);
     }
     let mut bound = Bound::new(alloc);
-    if !names_fresh(sight, &mut bound, params)? {
-        return Ok(None);
-    }
-    let depth = tree_depth(pool, sight, &mut bound, false, body);
+    let depth = depth_within(pool, sight, &mut bound, params, body);
     drop(bound);
     depth
 }

@@ -1,11 +1,9 @@
 //! What calls of procedures use: the names of the initial values of their variables.
 
-ghost use Rattle.std.specs.Prelude.{◌≡◌, ◌≤◌, [], ◌++◌, length, map, IfOk, OnOk};
+ghost use Rattle.std.specs.Prelude.{◌≡◌, ◌≤◌, [], ◌++◌, false, length, map, IfOk, OnOk};
 ghost use Rattle.tla_tree.specs.Nesting.{greatest};
 ghost use Rattle.pcal_tree.specs.InMemory.{start_at, declarations_at, procedure_at, past_start, past_declarations, past_procedure};
 ghost use Rattle.pcal_tree.specs.OffencesStale.{used_by_variables};
-ghost use Rattle.module_outside.specs.SightIn.{Binds};
-ghost use Rattle.read_rules.specs.NumbersIn.{declared_in};
 ghost use Rattle.read_rules.specs.Using.{Adds};
 ghost use Rattle.read_rules.specs.JumpsIn.{used_by_start, used_by_starts};
 ghost use Rattle.read_rules.specs.StepsIn.{AreJumps};
@@ -17,7 +15,6 @@ use algorithm_limits::bound::Bound;
 use pcal_tree::algorithm::{Declaration, Procedure, Start};
 use std::alloc::{AllocError, Global};
 use tla_pool::Pool;
-use tla_tree::PlacedName;
 
 // The names of an initial value.
 fn add_start(used: &mut Used, pool: &Pool, start: &Start) -> Result<(), AllocError>
@@ -44,14 +41,15 @@ fn add_starts(used: &mut Used, pool: &Pool, list: &[Declaration]) -> Result<(), 
     Ok(())
 }
 
-// The names of a procedure are bound where its initial values stand.
-fn bound_in(alloc: Global, one: &Procedure) -> Result<Bound, AllocError>
-    ensures { IfOk result (λ r. Binds r (declared_in one.now.params.items ++ declared_in one.now.variables.items)) }
+// The names of a procedure's initial values, where its parameters and variables are bound and no other name is.
+fn add_values(used: &mut Used, pool: &Pool, one: &Procedure) -> Result<(), AllocError>
+    requires { past_procedure one.now ≤ length pool.now }
+    ensures { OnOk result (used.old.only_self ≡ false → used.old.bound ≡ [] → used.new.names.items ≡ used.old.names.items ++ used_by_variables (procedure_at pool.now one.now)) }
 {
-    let mut bound = Bound::new(alloc);
-    add_declared(&mut bound, &one.params)?;
-    add_declared(&mut bound, &one.variables)?;
-    Ok(bound)
+    add_declared(&mut used.bound, &one.params)?;
+    add_declared(&mut used.bound, &one.variables)?;
+    add_starts(used, pool, &one.variables)?;
+    Ok(())
 }
 
 // What a call of a procedure uses.
@@ -60,16 +58,22 @@ fn jump(alloc: Global, pool: &Pool, one: &Procedure) -> Result<Jump, AllocError>
     ensures name { IfOk result (λ r. r.name ≡ one.now.name.word) }
     ensures uses { IfOk result (λ r. r.uses.items ≡ used_by_variables (procedure_at pool.now one.now)) }
 {
+    let name = one.name.name.copied()?;
     let mut used = Used {
         only_self: false,
         names: Vec::new(alloc),
-        bound: bound_in(alloc, one)?,
+        bound: Bound::new(alloc),
     };
-    add_starts(&mut used, pool, &one.variables)?;
-    let name = one.name.name.copied()?;
-    let Used { names, bound, .. } = used;
-    drop(bound);
-    Ok(Jump { name, uses: names })
+    match add_values(&mut used, pool, one) {
+        Ok(()) => Ok(Jump {
+            name,
+            uses: used.met(),
+        }),
+        Err(error) => {
+            drop(used);
+            Err(error)
+        }
+    }
 }
 
 /// What calls of these procedures use.

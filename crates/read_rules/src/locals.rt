@@ -12,7 +12,7 @@ ghost use Rattle.algorithm_answer.specs.Joined.{joined};
 ghost use Rattle.read_rules.specs.EarlyReads.{early_in_locals, variables_of};
 ghost use Rattle.module_outside.specs.SightIn.{Binds};
 ghost use Rattle.read_rules.specs.Order.{Knows};
-ghost use Rattle.read_rules.specs.Locals.{procedure_words, process_words, main_words, procedure_list, process_list, order_by};
+ghost use Rattle.read_rules.specs.Locals.{procedure_words, process_words, main_words, algorithm_words, procedure_list, process_list, order_by};
 ghost use Rattle.read_rules.specs.NumbersIn.{AreLevels};
 ghost use Rattle.read_rules.specs.Levels.{Levels};
 
@@ -58,6 +58,16 @@ fn add_main(names: &mut Bound, main: &Main) -> Result<(), AllocError>
     }
 }
 
+// Adds all variables of an algorithm, and the parameters of its procedures.
+fn add_variables(names: &mut Bound, algorithm: &Algorithm) -> Result<(), AllocError>
+    ensures { OnOk result (Hides names.old names.new (algorithm_words algorithm.now)) }
+{
+    add_declared(names, &algorithm.globals)?;
+    add_procedures(names, &algorithm.procedures)?;
+    add_main(names, &algorithm.main)?;
+    Ok(())
+}
+
 /// All variables of an algorithm, and the parameters of its procedures.
 ///
 /// # Errors
@@ -67,10 +77,13 @@ pub fn all_variables(alloc: Global, algorithm: &Algorithm) -> Result<Bound, Allo
     ensures { IfOk result (λ names. (ts : List Tree) → Binds names (variables_of (algorithm_at ts algorithm.now))) }
 {
     let mut names = Bound::new(alloc);
-    add_declared(&mut names, &algorithm.globals)?;
-    add_procedures(&mut names, &algorithm.procedures)?;
-    add_main(&mut names, &algorithm.main)?;
-    Ok(names)
+    match add_variables(&mut names, algorithm) {
+        Ok(()) => Ok(names),
+        Err(error) => {
+            drop(names);
+            Err(error)
+        }
+    }
 }
 
 // ---- offences

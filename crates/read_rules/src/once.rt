@@ -177,7 +177,6 @@ impl Walk {
         let mut kept = Kept::new(alloc);
         kept.keep_groups(wanted, &self.seen)?;
         self.seen = kept.groups(alloc)?;
-        drop(kept);
         Ok(())
     }
 }

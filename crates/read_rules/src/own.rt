@@ -1,6 +1,6 @@
 //! What is of one process alone, in the sets of a process set's variables.
 
-ghost use Rattle.std.specs.Prelude.{◌≡◌, ◌≤◌, length, map, IfOk};
+ghost use Rattle.std.specs.Prelude.{◌≡◌, ◌≤◌, [], length, map, IfOk};
 ghost use Rattle.std.specs.List.{flat_map};
 ghost use Rattle.tla_tree.specs.Nesting.{greatest};
 ghost use Rattle.pcal_tree.specs.Algorithm as tree;
@@ -80,6 +80,21 @@ fn with_declarations(
     Ok(found)
 }
 
+// The same of a process that is one of a set, where no name is of one process yet.
+fn with_variables(
+    alloc: Global,
+    pool: &Pool,
+    variables: &mut Bound,
+    so_far: Option<Refusal>,
+    process: &Process,
+) -> Result<Option<Refusal>, AllocError>
+    requires { past_process process.now ≤ length pool.now }
+    ensures { IfOk result (λ r. variables.old ≡ [] → r ≡ joined so_far (first (flat_map (own_in_declaration (process_at pool.now process.now)) (declarations_at pool.now process.now.variables.items)))) }
+{
+    add_declared(variables, &process.variables)?;
+    with_declarations(alloc, pool, &*variables, so_far, &process.variables)
+}
+
 // The same of a process.
 fn with_process(
     alloc: Global,
@@ -94,8 +109,7 @@ fn with_process(
         return Ok(so_far);
     }
     let mut variables = Bound::new(alloc);
-    add_declared(&mut variables, &process.variables)?;
-    let found = with_declarations(alloc, pool, &variables, so_far, &process.variables);
+    let found = with_variables(alloc, pool, &mut variables, so_far, process);
     drop(variables);
     found
 }

@@ -52,7 +52,5 @@ pub fn read_refusal(
 {
     let numbers = number_variables(alloc, &algorithm.globals)?;
     let levels = levels(alloc, pool, &numbers, &algorithm.definitions)?;
-    let found = refusal_by(alloc, pool, &numbers, levels, algorithm);
-    drop(numbers);
-    found
+    refusal_by(alloc, pool, &numbers, levels, algorithm)
 }

@@ -112,7 +112,6 @@ impl Known {
         let mut ends = Paths::none();
         self.fork(alloc, pool, ways, &start, &mut ends, then)?;
         self.fork(alloc, pool, ways, &start, &mut ends, otherwise)?;
-        drop(start);
         ways.end(ends);
         Ok(())
     }
@@ -174,8 +173,6 @@ impl Known {
         self.body(alloc, pool, &mut inner, body)?;
         let uses = test_uses(alloc, pool, e)?;
         ways.go_round(alloc, pool, &uses, &inner)?;
-        drop(uses);
-        drop(inner);
         Ok(())
     }
 

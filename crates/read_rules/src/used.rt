@@ -1,6 +1,6 @@
 //! The names that expressions use, and do not bind.
 
-ghost use Rattle.std.specs.Prelude.{◌≡◌, ◌<◌, ◌≤◌, ◌&&◌, not, bytes_eq, codes, List, [], length, IfOk, OnOk};
+ghost use Rattle.std.specs.Prelude.{◌≡◌, ◌<◌, ◌≤◌, ◌&&◌, ◌++◌, not, false, bytes_eq, codes, List, [], length, IfOk, OnOk};
 ghost use Rattle.tla_tree.specs.Tree.{Word, words, seen_names};
 ghost use Rattle.tla_tree.specs.Shapes.{Shaped};
 ghost use Rattle.tla_tree.specs.Pool.{at, trees_at, AllBelow};
@@ -105,6 +105,25 @@ impl Used {
         }
         Ok(())
     }
+
+    // The names of an expression, where these are bound and no other is.
+    fn under(&mut self, pool: &Pool, params: &[PlacedName], e: NodeId) -> Result<(), AllocError>
+        requires { e < length pool.now }
+        ensures { OnOk result (self.old.only_self ≡ false → self.old.bound ≡ [] → self.new.names.items ≡ self.old.names.items ++ used (at pool.now e) (words params.now)) }
+    {
+        self.bound.add_all(params)?;
+        self.expr(pool, e)?;
+        Ok(())
+    }
+
+    /// The names that were met.
+    pub fn met(self) -> Vec<PlacedName>
+        ensures { result.items ≡ self.names.items }
+    {
+        let Used { names, bound, .. } = self;
+        drop(bound);
+        names
+    }
 }
 
 /// The names that an expression uses where these are bound, in the order of the text.
@@ -121,17 +140,18 @@ pub fn used_names(
     requires { e < length pool.now }
     ensures { IfOk result (λ r. r.items ≡ used (at pool.now e) (words params.now)) }
 {
-    let mut bound = Bound::new(alloc);
-    bound.add_all(params)?;
     let mut used = Used {
         only_self: false,
         names: Vec::new(alloc),
-        bound,
+        bound: Bound::new(alloc),
     };
-    used.expr(pool, e)?;
-    let Used { names, bound, .. } = used;
-    drop(bound);
-    Ok(names)
+    match used.under(pool, params, e) {
+        Ok(()) => Ok(used.met()),
+        Err(error) => {
+            drop(used);
+            Err(error)
+        }
+    }
 }
 
 /// The names that an expression uses where none is bound, in the order of the text.
@@ -143,13 +163,5 @@ pub fn free_names(alloc: Global, pool: &Pool, e: NodeId) -> Result<Vec<PlacedNam
     requires { e < length pool.now }
     ensures { IfOk result (λ r. r.items ≡ used (at pool.now e) []) }
 {
-    let mut used = Used {
-        only_self: false,
-        names: Vec::new(alloc),
-        bound: Bound::new(alloc),
-    };
-    used.expr(pool, e)?;
-    let Used { names, bound, .. } = used;
-    drop(bound);
-    Ok(names)
+    used_names(alloc, pool, &[], e)
 }

@@ -1,20 +1,10 @@
--- A definition is measured where its parameters are bound.
-use Rattle.std.proofs.Common.{true, List, [], sym, subst, ◌∙◌}
+-- What is no constant is measured.
+use Rattle.std.proofs.Common.{sym, ◌∙◌}
 use Rattle.std.proofs.lemmas.Result.{IfOk-weaker}
-use Rattle.tla_tree.specs.Tree.{Word, words}
-use Rattle.tla_tree.specs.Pool.{at}
-use Rattle.algorithm_limits.specs.DepthsIn.{Hides}
-use Rattle.module_outside.specs.SightIn.{Binds}
-use Rattle.module_outside.proofs.SightLaws.{none_bound, binds_all}
-use Rattle.module_outside.proofs.DepthLaws.{definition_is}
 use Rattle.module_outside.proofs.depth.definition_depth.Goals as goal
 
 pub returns-clause-depth : goal.returns-clause-depth
 returns-clause-depth c =
-    IfOk-weaker c.tree_depth-depth.result _ _ (λ r h v s.
-    definition_is v (record { title = c.args.title.now; params = words c.args.params.now; body = at c.args.pool.now c.args.body; outside = true }) r
-    (sym (s.constants c.args.title.now) ∙ sym c.has.ensures ∙ c.if-has.false)
-    (sym (c.in_ok-names_fresh.ensures.value v [] s (subst (λ (hs : List Word). Binds hs []) (sym c.new-bound.ensures) none_bound)) ∙ c.if-not-branch.false)
-    (h v (words c.args.params.now) s (binds_all c.names_fresh.new.bound (words c.args.params.now)
-    (subst (λ (hs : List Word). Hides hs c.names_fresh.new.bound (words c.args.params.now)) c.new-bound.ensures (c.in_ok-names_fresh.ensures.hides c.if-not-branch.false)))))
-    c.tree_depth-depth.ensures.depth
+    IfOk-weaker c.depth_within-depth.result _ _ (λ r h v s.
+    h v c.args.title.now s (sym (s.constants c.args.title.now) ∙ sym c.has.ensures ∙ c.if-has.false) c.new-bound.ensures)
+    c.depth_within-depth.ensures.depth

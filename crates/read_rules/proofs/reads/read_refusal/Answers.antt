@@ -18,4 +18,4 @@ returns c =
     let gs = declared a.globals in
     let numbers = subst (λ (ws : List Word). AreNumbers c.in_ok-numbers.numbers ws) (ap declared_in c.deref.ensures.value ∙ sym (declared_is ts c.args.algorithm.now.globals.items)) c.in_ok-numbers.ensures in
     let told = subst (λ (ds : List Definition). AreLevels c.in_ok-levels.levels (levels gs (reverse (definitions_at ts ds)))) c.deref-2.ensures.value (c.in_ok-levels.ensures gs numbers) in
-    IfOk-weaker c.refusal_by-found.result _ _ (λ r h. h numbers told) c.refusal_by-found.ensures
+    IfOk-weaker c.refusal_by.result _ _ (λ r h. h numbers told) c.refusal_by.ensures

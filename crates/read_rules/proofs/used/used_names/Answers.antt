@@ -1,15 +1,11 @@
 -- Proves that the names are those that the expression uses.
-use Rattle.std.proofs.Common.{List, ◌++◌, ap, ◌∙◌, subst}
-use Rattle.tla_tree.specs.Tree.{Word, words}
+use Rattle.std.proofs.Common.{List, ◌++◌, refl, ap, ◌∙◌}
+use Rattle.tla_tree.specs.Tree.{words}
 use Rattle.tla_tree.specs.Pool.{at}
 use Rattle.pcal_tree.specs.Algorithm.{Name}
 use Rattle.pcal_tree.specs.Reads.{used}
-use Rattle.algorithm_limits.specs.DepthsIn.{Hides}
-use Rattle.module_outside.proofs.SightLaws.{binds_all}
 use Rattle.read_rules.proofs.used.used_names.Goals as goal
 
-pub returns : goal.returns
-returns c =
-    let ps = words c.args.params.now in
-    c.in_ok-expr.ensures.meets ps (binds_all c.add_all.new.self ps (subst (λ (hs : List Word). Hides hs c.add_all.new.self ps) c.new-bound.ensures c.in_ok-add_all.ensures))
-    ∙ ap (λ (ns : List Name). ns ++ used (at c.args.pool.now c.args.e) ps) c.new.ensures.items
+pub returns-in-Ok : goal.returns-in-Ok
+returns-in-Ok c =
+    c.met.ensures ∙ c.in-Ok.ensures refl c.new-2.ensures ∙ ap (λ (ns : List Name). ns ++ used (at c.args.pool.now c.args.e) (words c.args.params.now)) c.new.ensures.items
