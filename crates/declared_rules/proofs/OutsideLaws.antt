@@ -26,9 +26,9 @@ pub each_word : {A : Type 0} (f : A → Word) (xs : List A) → flat_map (λ (x 
 each_word f [] = refl
 each_word f (x ∷ xs) = ap (λ (l : List Word). f x ∷ l) (each_word f xs)
 
-pub words_themselves : (ws : List Word) → map (λ (w : Word). w) ws ≡ ws
-words_themselves [] = refl
-words_themselves (w ∷ ws) = ap (λ (l : List Word). w ∷ l) (words_themselves ws)
+pub one_word : (xs : List Word) → flat_map (λ (x : Word). x ∷ []) xs ≡ xs
+one_word [] = refl
+one_word (x ∷ xs) = ap (λ (ys : List Word). x ∷ ys) (one_word xs)
 
 pub titles_read : (ts : List Tree) (ds : List ReadDefinition) → read_words ds ≡ map (λ (d : pure.ReadDefinition). d.definition.title) (map (definition_seen ts) ds)
 titles_read ts [] = refl

@@ -26,8 +26,6 @@ use Rattle.module_outside.specs.declared.modules.Modules.{Modules}
 use Rattle.module_outside.specs.declared.standard.Giver.TheVariants as giver
 use Rattle.module_outside.specs.declared.standard.Standard.{Standard}
 use Rattle.module_outside.specs.ModulesIn.{AreModules, gives, given, standard_of}
-use Rattle.module_outside.specs.declared.passed.Passed.{Passed}
-use Rattle.module_outside.specs.Passing.{passed_seen}
 use Rattle.module_outside.specs.declared.definition.ReadDefinition.{ReadDefinition}
 use Rattle.module_outside.specs.OutsideAt.{definition_seen}
 use Rattle.declared_rules.specs.declared.using.Kind.{Kind}
@@ -125,17 +123,9 @@ module _ {X : Type 0} (f : X → List Word) (u : names.Use) where
   pub things_all : (v : Sight) (xs : List X) (i : ℕ) (s : names.Sight) → length xs ≤ i → Sees v (seen_of (take i xs) s) → Sees v (seen_of xs s)
   things_all v xs i s l h = sees_is v _ _ (ap (λ (ys : List X). seen_of ys s) (take_all i xs l)) h
 
-pub one_word : (xs : List Word) → flat_map (λ (x : Word). x ∷ []) xs ≡ xs
-one_word [] = refl
-one_word (x ∷ xs) = ap (λ (ys : List Word). x ∷ ys) (one_word xs)
-
 pub one_placed : (xs : List Name) → flat_map (λ (x : Name). x.word ∷ []) xs ≡ words xs
 one_placed [] = refl
 one_placed (x ∷ xs) = ap (λ (ys : List Word). x.word ∷ ys) (one_placed xs)
-
-pub all_passed : (us : List Passed) → flat_map (λ (u : Passed). u.names.items) us ≡ flat_map (λ u. u.names) (map passed_seen us)
-all_passed [] = refl
-all_passed (u ∷ us) = ap (λ (ys : List Word). u.names.items ++ ys) (all_passed us)
 
 pub all_declared : (ts : List Tree) (ds : List Declaration) → flat_map (λ (d : Declaration). d.name.word ∷ []) ds ≡ declared (declarations_at ts ds)
 all_declared ts [] = refl

@@ -65,7 +65,8 @@ impl Keeps {
     {
         match name.copied() {
             Ok(key) => {
-                self.kept.insert(key, kept)?;
+                let before = self.kept.insert(key, kept)?;
+                drop(before);
                 Ok(())
             }
             Err(error) => {

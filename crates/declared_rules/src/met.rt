@@ -405,8 +405,8 @@ fn none_met(alloc: Global, count: usize) -> Result<Met, AllocError>
     ensures { IfOk result (λ k. (k.names ≡ []) × (k.marks.items ≡ replicate count false)) }
 {
     Ok(Met {
-        names: Bound::new(alloc),
         marks: vec![in alloc; false; count]?,
+        names: Bound::new(alloc),
     })
 }
 
@@ -426,7 +426,15 @@ pub fn taken_in_all(
     ensures { IfOk result (λ names. SameNames names (taken_at_start (algorithm_at pool.now algorithm.now) (outside_at pool.now outside.now))) }
 {
     let mut met = none_met(alloc, pool.len())?;
-    met.all(pool, algorithm, outside)?;
-    let Met { names, .. } = met;
-    Ok(names)
+    match met.all(pool, algorithm, outside) {
+        Ok(()) => {
+            let Met { names, marks } = met;
+            drop(marks);
+            Ok(names)
+        }
+        Err(error) => {
+            drop(met);
+            Err(error)
+        }
+    }
 }

@@ -125,9 +125,17 @@ pub fn pieces_of(alloc: Global, pool: &Pool, e: NodeId) -> Result<Vec<Piece>, Al
         list: Vec::new(alloc),
         bound: Bound::new(alloc),
     };
-    found.expr(pool, e)?;
-    let Pieces { list, .. } = found;
-    Ok(list)
+    match found.expr(pool, e) {
+        Ok(()) => {
+            let Pieces { list, bound } = found;
+            drop(bound);
+            Ok(list)
+        }
+        Err(error) => {
+            drop(found);
+            Err(error)
+        }
+    }
 }
 
 /// What each of these trees brings.

@@ -37,14 +37,16 @@ impl Walk {
         ensures { OnOk result ((C : List Word → PureCalls) (ps : List PureProcedure) → IsNew found.old → Singles near.now own.now → KnowsCalls own.now calls.now C ps → Adds near.now any_name self.old self.new (λ ms r. body_rebinds ms ps (C ms) (statements_at pool.now process.now.body.items) (body_scope false (at pool.now process.now.identity) r))) }
     {
         found.body(own, calls, pool, &process.body)?;
-        let identities = [process.identity];
-        let args = each_brings(calls.alloc, pool, &identities)?;
         let place = Place { line: 1, col: 1 };
         let param = PlacedName {
             name: calls.process.copied()?,
             place,
         };
-        self.put(near, std::slice::from_ref(&param), found, &args)
+        let identities = [process.identity];
+        let args = each_brings(calls.alloc, pool, &identities)?;
+        let outcome = self.put(near, std::slice::from_ref(&param), found, &args);
+        drop(args);
+        outcome
     }
 
     // The body of a process.

@@ -102,7 +102,8 @@ impl Callees {
     fn keep(&mut self, name: Name, uses: MacroUses) -> Result<(), AllocError>
         ensures { OnOk result ((self.new.macros.entries ≡ insert_entry (pointwise ◌==◌) self.old.macros.entries name uses) × (self.new.procedures ≡ self.old.procedures)) }
     {
-        self.macros.insert(name, uses)?;
+        let before = self.macros.insert(name, uses)?;
+        drop(before);
         Ok(())
     }
 

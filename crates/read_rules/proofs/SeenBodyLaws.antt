@@ -24,7 +24,7 @@ use Rattle.read_rules.specs.declared.walk.Step.{Step}
 use Rattle.read_rules.specs.declared.walk.Walk.{Walk}
 use Rattle.read_rules.specs.declared.walk.Ways.{Ways}
 use Rattle.read_rules.specs.declared.ways.Paths.{Paths}
-use Rattle.read_rules.specs.BodiesIn.{one, GoesStmt, in_some, no_paths}
+use Rattle.read_rules.specs.BodiesIn.{one, GoesStmt, in_some, together, no_paths}
 use Rattle.read_rules.specs.Joins.{Joins}
 use Rattle.read_rules.specs.PlainPuts.{Going, after}
 use Rattle.read_rules.specs.SeenIn.{seen_of, at_of, IsWay, Walks, trail_stepped, stepping, IsLoop}
@@ -142,10 +142,6 @@ branch_branches f old one two new start before after m w j = (
   branch_forks f old.reached one.reached two.reached new.reached start.reached before.reached after.reached m.1 w.1 j.1,
 )
 
--- what is seen in two, and the ends of both
-abbrev pub together : (Trail → Called) → (Trail → Called) → Trail → Called
-together f g q = record { seen = (f q).seen ++ (g q).seen; end = unlabelled (joined (f q).end.trail (g q).end.trail) }
-
 forks_then : (a b c : Walk) (start i j k : Option Assigned) (f g : Trail → Called) → Forks a b start i j f → Forks b c start j k g → Forks a c start i k (together f g)
 forks_then a b c start i j k f g u v q l =
     let h = u q l in
@@ -255,14 +251,13 @@ label_goes S ps ts x m old new g = record {
 pub simple_goes : (S : CallSeen) (ps : List Procedure) (ts : List Tree) (at : Span) (x : declared_simple.Simple) (old new : Ways) → Goes old new (one S ps at.first (simple_at ts x)) → GoesStmt S ps ts (Simple at x) old new
 simple_goes S ps ts at x old new g = standing S ps ts (Simple at x) at (simple_at ts x) old new (simple_in_list_at ts at x) g
 
-pub if_goes : (S : CallSeen) (ps : List Procedure) (ts : List Tree) (p : Place) (e : ℕ) (a b : List Stmt) (old mid two three four new : Ways) (start first after : Paths)
+pub if_goes : (S : CallSeen) (ps : List Procedure) (ts : List Tree) (p : Place) (e : ℕ) (a b : List Stmt) (old mid two three new : Ways) (start last : Paths)
     → Goes old mid (stepping (uses (at ts e)) [] false) → start.unreached ≡ mid.unreached.path → start.reached ≡ mid.reached.path
     → two.unreached.seen.items ≡ mid.unreached.seen.items → two.reached.seen.items ≡ mid.reached.seen.items
-    → Branching two three start no_paths first (λ q. seen_in_body S ps (statements_at ts a) (unlabelled q)) → Branching three four start first after (λ q. seen_in_body S ps (statements_at ts b) (unlabelled q))
-    → Ends four new after → Goes old new (one S ps p (branch (at ts e) (statements_at ts a) (statements_at ts b)))
-if_goes S ps ts p e a b old mid two three four new start first after w l r s t f g m =
-    branches_goes (uses (at ts e)) (together (λ q. seen_in_body S ps (statements_at ts a) (unlabelled q)) (λ q. seen_in_body S ps (statements_at ts b) (unlabelled q))) old mid two four new start after w l r s t
-    (branches_then two three four start no_paths first after (λ q. seen_in_body S ps (statements_at ts a) (unlabelled q)) (λ q. seen_in_body S ps (statements_at ts b) (unlabelled q)) f g) m
+    → Branching two three start no_paths last (together (λ q. seen_in_body S ps (statements_at ts a) (unlabelled q)) (λ q. seen_in_body S ps (statements_at ts b) (unlabelled q)))
+    → Ends three new last → Goes old new (one S ps p (branch (at ts e) (statements_at ts a) (statements_at ts b)))
+if_goes S ps ts p e a b old mid two three new start last w l r s t f m =
+    branches_goes (uses (at ts e)) (together (λ q. seen_in_body S ps (statements_at ts a) (unlabelled q)) (λ q. seen_in_body S ps (statements_at ts b) (unlabelled q))) old mid two three new start last w l r s t f m
 
 -- branches don't look at the label before them
 some_inside : (S : CallSeen) (ps : List Procedure) (p : Place) (bs : Branches) (z : At) → in_some S ps bs z.trail ≡ one S ps p (either bs) z

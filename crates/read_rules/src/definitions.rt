@@ -157,6 +157,24 @@ impl Reads {
         self.numbers.set(name.copied()?, number)?;
         Ok(())
     }
+
+    // What definitions read, each newer than those before, where these are the variables.
+    fn add_definitions(
+        &mut self,
+        alloc: Global,
+        pool: &Pool,
+        globals: &Names,
+        definitions: &[Definition],
+    ) -> Result<(), AllocError>
+        requires { past_definitions definitions.now ≤ length pool.now }
+        ensures { OnOk result ((gs : List Word) → Same globals.now gs → AreReads self.old [] → AreReads self.new (readings gs (reverse (definitions_at pool.now definitions.now)))) }
+    {
+        for definition in definitions {
+            let variables = variables_of(alloc, pool, &*self, globals, definition)?;
+            self.add_definition(&definition.name.name, variables)?;
+        }
+        Ok(())
+    }
 }
 
 /// The variables that definitions read, where these are the variables.
@@ -177,11 +195,13 @@ pub fn all_reads(
         numbers: Table::new(alloc),
         lists: Vec::new(alloc),
     };
-    for definition in definitions {
-        let variables = variables_of(alloc, pool, &reads, globals, definition)?;
-        reads.add_definition(&definition.name.name, variables)?;
+    match reads.add_definitions(alloc, pool, globals, definitions) {
+        Ok(()) => Ok(reads),
+        Err(error) => {
+            drop(reads);
+            Err(error)
+        }
     }
-    Ok(reads)
 }
 
 /// The names of variables that are declared.

@@ -1,14 +1,15 @@
 //! What is seen in macros.
 
-ghost use Rattle.std.specs.Prelude.{◌≡◌, ◌≤◌, List, [], ◌∷◌, None, Some, length, map, reverse, IfOk};
+ghost use Rattle.std.specs.Prelude.{◌≡◌, ◌≤◌, List, [], ◌∷◌, None, Some, length, map, reverse, IfOk, OnOk};
 ghost use Rattle.tla_tree.specs.Nesting.{greatest};
 ghost use Rattle.pcal_tree.specs.Algorithm.{Procedure};
 ghost use Rattle.pcal_tree.specs.InMemory.{macro_at, past_macro, statements_at, past_statements};
-ghost use Rattle.pcal_tree.specs.laws.MacroSpots.{earlier, MacroSeen, starting};
+ghost use Rattle.pcal_tree.specs.laws.MacroSpots.{At, earlier, MacroSeen, starting};
 ghost use Rattle.read_rules.specs.KnownIn.{AreWays, IsSummary, Knows};
 ghost use Rattle.read_rules.specs.MacrosIn.{macro_seen};
 ghost use Rattle.read_rules.specs.Pruned.{kept_from, macro_pruned, macros_pruned};
 ghost use Rattle.read_rules.specs.WantedIn.{wants};
+ghost use Rattle.read_rules.specs.WaysIn.{Begins};
 ghost use Rattle.read_rules.specs.StepsIn.{AreJumps};
 
 use crate::known::{Known, Summary};
@@ -32,6 +33,24 @@ fn copied_names(alloc: Global, names: &[PlacedName]) -> Result<Vec<PlacedName>, 
     Ok(list)
 }
 
+// What is seen in a macro's body, by what is known of the older ones, where nothing was seen yet.
+fn see_once(
+    alloc: Global,
+    pool: &Pool,
+    wanted: &Wanted,
+    known: &Known,
+    ways: &mut Ways,
+    body: &[Stmt],
+) -> Result<(), AllocError>
+    requires { past_statements body.now ≤ length pool.now }
+    ensures { OnOk result ((u r : At) (ms : List MacroSeen) (ps : List Procedure) → Begins ways.old.unreached u → Begins ways.old.reached r → Knows known.now ms ps → AreWays ways.new (kept_from (wants wanted.now) ms ps (statements_at pool.now body.now) u) (kept_from (wants wanted.now) ms ps (statements_at pool.now body.now) r)) }
+{
+    known.body(alloc, pool, ways, body)?;
+    ways.unreached.keep_once(alloc, wanted)?;
+    ways.reached.keep_once(alloc, wanted)?;
+    Ok(())
+}
+
 // What is seen in a macro's body, by what is known of the older ones.
 fn seen_once(
     alloc: Global,
@@ -45,10 +64,13 @@ fn seen_once(
     ensures { IfOk result (λ r. (ms : List MacroSeen) (ps : List Procedure) → Knows known.now ms ps → AreWays r (kept_from (wants wanted.now) ms ps (statements_at pool.now body.now) (starting labelled None)) (kept_from (wants wanted.now) ms ps (statements_at pool.now body.now) (starting labelled (Some (earlier ∷ []))))) }
 {
     let mut ways = Ways::new(alloc, labelled);
-    known.body(alloc, pool, &mut ways, body)?;
-    ways.unreached.keep_once(alloc, wanted)?;
-    ways.reached.keep_once(alloc, wanted)?;
-    Ok(ways)
+    match see_once(alloc, pool, wanted, known, &mut ways, body) {
+        Ok(()) => Ok(ways),
+        Err(error) => {
+            drop(ways);
+            Err(error)
+        }
+    }
 }
 
 // What is seen in a macro, by what is known of the older ones. Each use is kept once, so that what is kept doesn't grow with
@@ -68,6 +90,26 @@ fn summary(
         plain: seen_once(alloc, pool, wanted, known, false, &one.body)?,
         labelled: seen_once(alloc, pool, wanted, known, true, &one.body)?,
     })
+}
+
+impl Known {
+    // What is seen in macros, each newer than those before.
+    fn add_macros(
+        &mut self,
+        alloc: Global,
+        pool: &Pool,
+        wanted: &Wanted,
+        macros: &[Macro],
+    ) -> Result<(), AllocError>
+        requires { greatest (map past_macro macros.now) ≤ length pool.now }
+        ensures { OnOk result ((ps : List Procedure) → Knows self.old [] ps → Knows self.new (macros_pruned (wants wanted.now) ps (reverse (map (macro_at pool.now) macros.now))) ps) }
+    {
+        for one in macros {
+            let summary = summary(alloc, pool, wanted, &*self, one)?;
+            self.add_macro(&one.name.name, summary)?;
+        }
+        Ok(())
+    }
 }
 
 /// What is seen in macros, where this is what calls of procedures use.
@@ -90,9 +132,11 @@ pub fn known_macros(
         summaries: Vec::new(alloc),
         jumps,
     };
-    for one in macros {
-        let summary = summary(alloc, pool, wanted, &known, one)?;
-        known.add_macro(&one.name.name, summary)?;
+    match known.add_macros(alloc, pool, wanted, macros) {
+        Ok(()) => Ok(known),
+        Err(error) => {
+            drop(known);
+            Err(error)
+        }
     }
-    Ok(known)
 }

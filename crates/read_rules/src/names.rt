@@ -31,16 +31,28 @@ impl Model for Names {
     ghost view = { λ s. unwrap_or (option_map (λ r. r.value.keys) s.names) [] };
 }
 
+// These names too, each copied.
+fn add_copies(set: &mut IndexSet<Name>, names: &[Name]) -> Result<(), AllocError>
+    ensures { OnOk result (Joins set.old.keys set.new.keys names.now) }
+{
+    for name in names {
+        set.insert(name.copied()?)?;
+    }
+    Ok(())
+}
+
 // A set of the same names, each copied.
-#[tactic(auto, using(crate::proofs::SetLaws::joins_none, crate::proofs::SetLaws::names_all))]
 fn copied_set(alloc: Global, names: &IndexSet<Name>) -> Result<IndexSet<Name>, AllocError>
     ensures { IfOk result (λ r. Joins [] r.keys names.now.keys) }
 {
     let mut set = IndexSet::new(alloc);
-    for name in names.as_slice() {
-        set.insert(name.copied()?)?;
+    match add_copies(&mut set, names.as_slice()) {
+        Ok(()) => Ok(set),
+        Err(error) => {
+            drop(set);
+            Err(error)
+        }
     }
-    Ok(set)
 }
 
 // The set itself, or a copy where others have it too.
@@ -62,7 +74,10 @@ fn shared(alloc: Global, set: IndexSet<Name>) -> Result<Rc<IndexSet<Name>>, Allo
 {
     match Rc::new(alloc, set) {
         Ok(shared) => Ok(shared),
-        Err(_) => Err(AllocError),
+        Err(set) => {
+            drop(set);
+            Err(AllocError)
+        }
     }
 }
 
@@ -98,11 +113,19 @@ impl Names {
     fn add_new(&mut self, name: &Name) -> Result<(), AllocError>
         ensures { OnOk result (Joins self.old self.new (name.now ∷ [])) }
     {
+        let name = name.copied()?;
         let before = self.names.take();
         let mut set = own(self.alloc, before)?;
-        set.insert(name.copied()?)?;
-        self.names = Some(shared(self.alloc, set)?);
-        Ok(())
+        match set.insert(name) {
+            Ok(_) => {
+                self.names = Some(shared(self.alloc, set)?);
+                Ok(())
+            }
+            Err(error) => {
+                drop(set);
+                Err(error.into())
+            }
+        }
     }
 
     /// One more name.

@@ -5,8 +5,7 @@ ghost use Rattle.pcal_tree.specs.InMemory.{algorithm_at, past_algorithm};
 ghost use Rattle.pcal_tree.specs.Offences.{first};
 ghost use Rattle.pcal_tree.specs.OffencesReads.{process_offences, own_offences, order_offences};
 ghost use Rattle.pcal_tree.specs.Variables.{declared};
-ghost use Rattle.read_rules.specs.Levels.{levels_of};
-ghost use Rattle.read_rules.specs.NumbersIn.{AreNumbers, AreLevels};
+ghost use Rattle.read_rules.specs.NumbersIn.{AreNumbers};
 
 use crate::identities::identity_refusal;
 use crate::levels::{levels, number_variables};
@@ -19,21 +18,28 @@ use std::alloc::{AllocError, Global};
 use tla_pool::Pool;
 use tla_token::Refusal;
 
-// The same, by the numbers of globals and the levels of definitions.
+// The same, by the numbers of globals.
 fn refusal_by(
     alloc: Global,
     pool: &Pool,
     numbers: &Table,
-    levels: Table,
     algorithm: &Algorithm,
 ) -> Result<Option<Refusal>, AllocError>
     requires { past_algorithm algorithm.now ≤ length pool.now }
-    ensures { IfOk result (λ r. AreNumbers numbers.now (declared (algorithm_at pool.now algorithm.now).globals) → AreLevels levels (levels_of (algorithm_at pool.now algorithm.now)) → r ≡ first (process_offences (algorithm_at pool.now algorithm.now) ++ (own_offences (algorithm_at pool.now algorithm.now) ++ order_offences (algorithm_at pool.now algorithm.now)))) }
+    ensures { IfOk result (λ r. AreNumbers numbers.now (declared (algorithm_at pool.now algorithm.now).globals) → r ≡ first (process_offences (algorithm_at pool.now algorithm.now) ++ (own_offences (algorithm_at pool.now algorithm.now) ++ order_offences (algorithm_at pool.now algorithm.now)))) }
 {
-    let identities = identity_refusal(alloc, pool, numbers, &levels, &algorithm.main)?;
-    let own = own_refusal(alloc, pool, &algorithm.main)?;
-    let order = order_refusal(alloc, pool, levels, algorithm)?;
-    Ok(least(identities, least(own, order)))
+    let levels = levels(alloc, pool, numbers, &algorithm.definitions)?;
+    match identity_refusal(alloc, pool, numbers, &levels, &algorithm.main) {
+        Ok(identities) => {
+            let order = order_refusal(alloc, pool, levels, algorithm)?;
+            let own = own_refusal(alloc, pool, &algorithm.main)?;
+            Ok(least(identities, least(own, order)))
+        }
+        Err(error) => {
+            drop(levels);
+            Err(error)
+        }
+    }
 }
 
 /// The first variable of an algorithm that is read where it has no value yet: in the identifier of a process, in a set that is
@@ -51,6 +57,7 @@ pub fn read_refusal(
     ensures { IfOk result (λ r. r ≡ first (process_offences (algorithm_at pool.now algorithm.now) ++ (own_offences (algorithm_at pool.now algorithm.now) ++ order_offences (algorithm_at pool.now algorithm.now)))) }
 {
     let numbers = number_variables(alloc, &algorithm.globals)?;
-    let levels = levels(alloc, pool, &numbers, &algorithm.definitions)?;
-    refusal_by(alloc, pool, &numbers, levels, algorithm)
+    let found = refusal_by(alloc, pool, &numbers, algorithm);
+    drop(numbers);
+    found
 }

@@ -133,6 +133,15 @@ pub fn with_body(
         unreached: Walk::new(alloc, false, None),
         reached: Walk::new(alloc, false, Some(Assigned::new(alloc, false))),
     };
-    known.body(alloc, pool, &mut ways, body)?;
-    Ok(with_seen(reads, so_far, identity, &ways.reached.seen))
+    match known.body(alloc, pool, &mut ways, body) {
+        Ok(()) => {
+            let found = with_seen(reads, so_far, identity, &ways.reached.seen);
+            drop(ways);
+            Ok(found)
+        }
+        Err(error) => {
+            drop(ways);
+            Err(error)
+        }
+    }
 }

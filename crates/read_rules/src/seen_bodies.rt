@@ -1,16 +1,16 @@
 //! What is seen in statements.
 
-ghost use Rattle.std.specs.Prelude.{◌≡◌, ◌<◌, ◌≤◌, List, length, map, IfOk, OnOk};
+ghost use Rattle.std.specs.Prelude.{◌≡◌, ◌<◌, ◌≤◌, false, None, Some, List, [], ◌∷◌, length, map, IfOk, OnOk};
 ghost use Rattle.tla_tree.specs.Nesting.{greatest};
 ghost use Rattle.tla_tree.specs.Pool.{at};
 ghost use Rattle.pcal_tree.specs.Algorithm.{branch, either, with, while, Procedure};
 ghost use Rattle.tla_token.specs.declared.place.Place.{Place};
 ghost use Rattle.pcal_tree.specs.InMemory.{binds_at, simple_at, statements_at, branches_at, past_bind, past_simple, past_stmt, past_statements, past_branches};
-ghost use Rattle.pcal_tree.specs.laws.MacroSpots.{MacroSeen, seen_in_call, seen_in_body, unlabelled, uses, uses_of_binds};
-ghost use Rattle.read_rules.specs.BodiesIn.{one, GoesStmt, in_some, no_paths};
+ghost use Rattle.pcal_tree.specs.laws.MacroSpots.{MacroSeen, earlier, seen_in_call, seen_in_body, starting, unlabelled, uses, uses_of_binds};
+ghost use Rattle.read_rules.specs.BodiesIn.{one, GoesStmt, in_some, together};
 ghost use Rattle.read_rules.specs.KnownIn.{Knows};
 ghost use Rattle.read_rules.specs.UsesIn.{uses_of};
-ghost use Rattle.read_rules.specs.WaysIn.{Goes, Branches};
+ghost use Rattle.read_rules.specs.WaysIn.{Goes, Begins, Branches};
 
 use crate::known::Known;
 use crate::steps::{add_binds, step};
@@ -57,13 +57,14 @@ impl Known {
         ensures { OnOk result ((ms : List MacroSeen) (ps : List Procedure) → Knows self.now ms ps → Goes ways.old ways.new (one (seen_in_call ms) ps place (simple_at pool.now simple.now))) }
     {
         match simple {
-            Simple::Macro(name, args) => self.call(alloc, pool, ways, name, args)?,
+            Simple::Macro(name, args) => self.call(alloc, pool, ways, name, args),
             _ => {
                 let step = step(alloc, pool, &self.jumps, place, simple)?;
-                ways.pass(alloc, pool, &step)?;
+                let outcome = ways.pass(alloc, pool, &step);
+                drop(step);
+                outcome
             }
         }
-        Ok(())
     }
 
     // A statement.
@@ -110,9 +111,38 @@ impl Known {
         ways.pass_uses(alloc, pool, test_uses(alloc, pool, e)?)?;
         let start = ways.take_paths();
         let mut ends = Paths::none();
-        self.fork(alloc, pool, ways, &start, &mut ends, then)?;
-        self.fork(alloc, pool, ways, &start, &mut ends, otherwise)?;
-        ways.end(ends);
+        match self.both(alloc, pool, ways, &start, &mut ends, then, otherwise) {
+            Ok(()) => {
+                drop(start);
+                ways.end(ends);
+                Ok(())
+            }
+            Err(error) => {
+                drop(start);
+                drop(ends);
+                Err(error)
+            }
+        }
+    }
+
+    // The two branches of an `if`, from where these paths lead; their ends are joined to those of the branches before.
+    #[cycle(bodies)]
+    fn both(
+        &self,
+        alloc: Global,
+        pool: &Pool,
+        ways: &mut Ways,
+        start: &Paths,
+        ends: &mut Paths,
+        then: &[Stmt],
+        otherwise: &[Stmt],
+    ) -> Result<(), AllocError>
+        requires first { past_statements then.now ≤ length pool.now }
+        requires second { past_statements otherwise.now ≤ length pool.now }
+        ensures { OnOk result ((ms : List MacroSeen) (ps : List Procedure) → Knows self.now ms ps → Branches ways.old ways.new start.now ends.old ends.new (together (λ q. seen_in_body (seen_in_call ms) ps (statements_at pool.now then.now) (unlabelled q)) (λ q. seen_in_body (seen_in_call ms) ps (statements_at pool.now otherwise.now) (unlabelled q)))) }
+    {
+        self.fork(alloc, pool, ways, start, ends, then)?;
+        self.fork(alloc, pool, ways, start, ends, otherwise)?;
         Ok(())
     }
 
@@ -130,9 +160,19 @@ impl Known {
     {
         ways.pass_uses(alloc, pool, Vec::new(alloc))?;
         let start = ways.take_paths();
-        let ends = self.branches(alloc, pool, ways, &start, list)?;
-        ways.end(ends);
-        Ok(())
+        let mut ends = Paths::none();
+        match self.branches(alloc, pool, ways, &start, &mut ends, list) {
+            Ok(()) => {
+                drop(start);
+                ways.end(ends);
+                Ok(())
+            }
+            Err(error) => {
+                drop(start);
+                drop(ends);
+                Err(error)
+            }
+        }
     }
 
     // A `with`.
@@ -170,9 +210,29 @@ impl Known {
         ensures { OnOk result ((ms : List MacroSeen) (ps : List Procedure) (p : Place) → Knows self.now ms ps → Goes ways.old ways.new (one (seen_in_call ms) ps p (while (at pool.now e) (statements_at pool.now body.now)))) }
     {
         let mut inner = Ways::new(alloc, false);
-        self.body(alloc, pool, &mut inner, body)?;
+        let outcome = self.rounds(alloc, pool, ways, &mut inner, e, body);
+        drop(inner);
+        outcome
+    }
+
+    // The rounds of a loop, where nothing was seen in its body yet.
+    #[cycle(bodies)]
+    fn rounds(
+        &self,
+        alloc: Global,
+        pool: &Pool,
+        ways: &mut Ways,
+        inner: &mut Ways,
+        e: NodeId,
+        body: &[Stmt],
+    ) -> Result<(), AllocError>
+        requires test { e < length pool.now }
+        requires body { past_statements body.now ≤ length pool.now }
+        ensures { OnOk result ((ms : List MacroSeen) (ps : List Procedure) (p : Place) → Begins inner.old.unreached (starting false None) → Begins inner.old.reached (starting false (Some (earlier ∷ []))) → Knows self.now ms ps → Goes ways.old ways.new (one (seen_in_call ms) ps p (while (at pool.now e) (statements_at pool.now body.now)))) }
+    {
+        self.body(alloc, pool, inner, body)?;
         let uses = test_uses(alloc, pool, e)?;
-        ways.go_round(alloc, pool, &uses, &inner)?;
+        ways.go_round(alloc, pool, &uses, &*inner)?;
         Ok(())
     }
 
@@ -196,7 +256,7 @@ impl Known {
         Ok(())
     }
 
-    // All branches of a statement, and their ends.
+    // All branches of a statement, from where these paths lead; their ends are joined to those of the branches before.
     #[cycle(bodies)]
     fn branches(
         &self,
@@ -204,16 +264,16 @@ impl Known {
         pool: &Pool,
         ways: &mut Ways,
         start: &Paths,
+        ends: &mut Paths,
         list: &[Vec<Stmt>],
-    ) -> Result<Paths, AllocError>
+    ) -> Result<(), AllocError>
         requires { past_branches list.now ≤ length pool.now }
-        ensures { IfOk result (λ r. (ms : List MacroSeen) (ps : List Procedure) → Knows self.now ms ps → Branches ways.old ways.new start.now no_paths r (in_some (seen_in_call ms) ps (branches_at pool.now list.now))) }
+        ensures { OnOk result ((ms : List MacroSeen) (ps : List Procedure) → Knows self.now ms ps → Branches ways.old ways.new start.now ends.old ends.new (in_some (seen_in_call ms) ps (branches_at pool.now list.now))) }
     {
-        let mut ends = Paths::none();
         for i in 0..list.len() {
-            self.fork(alloc, pool, ways, start, &mut ends, &list[i])?;
+            self.fork(alloc, pool, ways, start, ends, &list[i])?;
         }
-        Ok(ends)
+        Ok(())
     }
 
     /// A list of statements. It calls itself as deep as statements are in statements.

@@ -79,8 +79,17 @@ fn with_body(
         names: Vec::new(alloc),
         bound: Bound::new(alloc),
     };
-    used.body(pool, stmts)?;
-    Ok(with_names(so_far, &used.names))
+    match used.body(pool, stmts) {
+        Ok(()) => {
+            let found = with_names(so_far, &used.names);
+            drop(used);
+            Ok(found)
+        }
+        Err(error) => {
+            drop(used);
+            Err(error)
+        }
+    }
 }
 
 // ---- declarations
@@ -240,7 +249,9 @@ fn with_alone(
     ensures { IfOk result (λ r. r ≡ joined so_far (first (selves (used_outside (algorithm_at pool.now algorithm.now) (tree.alone (statements_at pool.now body.now)))))) }
 {
     let mut called = Table::new(alloc);
-    with_calls(alloc, pool, &mut called, so_far, algorithm, body)
+    let found = with_calls(alloc, pool, &mut called, so_far, algorithm, body);
+    drop(called);
+    found
 }
 
 // The same, where no macro is marked as called yet.

@@ -30,8 +30,8 @@ fn wanted_in(alloc: Global, pool: &Pool, algorithm: &Algorithm) -> Result<Wanted
 {
     let globals = global_names(alloc, &algorithm.globals)?;
     Ok(Wanted {
-        reads: all_reads(alloc, pool, &globals, &algorithm.definitions)?,
         names: all_params(alloc, &algorithm.macros)?,
+        reads: all_reads(alloc, pool, &globals, &algorithm.definitions)?,
     })
 }
 
@@ -46,8 +46,39 @@ fn known_in(
     ensures { IfOk result (λ r. KnowsAll (wants wanted.now) r (algorithm_at pool.now algorithm.now)) }
 {
     let jumps = jumps(alloc, pool, &algorithm.procedures)?;
-    let known = known_macros(alloc, pool, wanted, &algorithm.macros, jumps)?;
-    Ok(known)
+    known_macros(alloc, pool, wanted, &algorithm.macros, jumps)
+}
+
+// The first offence, by what tells whether uses may matter, and what is known of macros and procedures.
+fn refusal_by(
+    alloc: Global,
+    pool: &Pool,
+    wanted: &Wanted,
+    known: &Known,
+    algorithm: &Algorithm,
+) -> Result<Option<Refusal>, AllocError>
+    requires { past_algorithm algorithm.now ≤ length pool.now }
+    ensures { IfOk result (λ r. AreReads wanted.now.reads (readings_of (algorithm_at pool.now algorithm.now)) → Same wanted.now.names (params_in algorithm.now.macros.items) → KnowsAll (wants wanted.now) known.now (algorithm_at pool.now algorithm.now) → r ≡ first (stale_offences_by (spots_by_macros (algorithm_at pool.now algorithm.now)) (algorithm_at pool.now algorithm.now))) }
+{
+    let procedures = of_procedures(alloc, pool, known, &wanted.reads, &algorithm.procedures)?;
+    let main = of_main(alloc, pool, known, &wanted.reads, &algorithm.main)?;
+    Ok(least(procedures, main))
+}
+
+// The same, where nothing is known of macros and procedures yet.
+fn refusal_with(
+    alloc: Global,
+    pool: &Pool,
+    wanted: &Wanted,
+    algorithm: &Algorithm,
+) -> Result<Option<Refusal>, AllocError>
+    requires { past_algorithm algorithm.now ≤ length pool.now }
+    ensures { IfOk result (λ r. AreReads wanted.now.reads (readings_of (algorithm_at pool.now algorithm.now)) → Same wanted.now.names (params_in algorithm.now.macros.items) → r ≡ first (stale_offences_by (spots_by_macros (algorithm_at pool.now algorithm.now)) (algorithm_at pool.now algorithm.now))) }
+{
+    let known = known_in(alloc, pool, wanted, algorithm)?;
+    let found = refusal_by(alloc, pool, wanted, &known, algorithm);
+    drop(known);
+    found
 }
 
 /// The first use of a definition of an algorithm that reads a variable which the step may have assigned before, by what is computed
@@ -68,8 +99,7 @@ pub fn stale_refusal(
         return Ok(None);
     }
     let wanted = wanted_in(alloc, pool, algorithm)?;
-    let known = known_in(alloc, pool, &wanted, algorithm)?;
-    let procedures = of_procedures(alloc, pool, &known, &wanted.reads, &algorithm.procedures)?;
-    let main = of_main(alloc, pool, &known, &wanted.reads, &algorithm.main)?;
-    Ok(least(procedures, main))
+    let found = refusal_with(alloc, pool, &wanted, algorithm);
+    drop(wanted);
+    found
 }

@@ -99,8 +99,9 @@ impl Ways {
             names: Names::new(alloc),
             stops: false,
         };
-        self.pass(alloc, pool, &step)?;
-        Ok(())
+        let outcome = self.pass(alloc, pool, &step);
+        drop(step);
+        outcome
     }
 
     /// A loop, of which these are the uses of its test, and what is seen in its body.

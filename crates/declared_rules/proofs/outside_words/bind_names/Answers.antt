@@ -1,8 +1,8 @@
 -- Proves that names are bound.
-use Rattle.std.proofs.Common.{[], ◌∷◌, ◌∙◌}
+use Rattle.std.proofs.Common.{[], ◌∷◌}
 use Rattle.tla_tree.specs.Tree.{Word}
 use Rattle.algorithm_limits.proofs.BoundLemmas.{hides_as}
-use Rattle.declared_rules.proofs.OutsideLaws.{hides_more, hides_all, each_word, words_themselves}
+use Rattle.declared_rules.proofs.OutsideLaws.{hides_more, hides_all, one_word}
 use Rattle.declared_rules.proofs.outside_words.bind_names.Goals as goal
 
 pub loop-name-preserved : goal.loop-name-preserved
@@ -11,5 +11,5 @@ loop-name-preserved c =
 
 pub returns : goal.returns
 returns c =
-    hides_as c.args.bound.now c.loop-name.bound _ _ (each_word (λ (w : Word). w) c.args.names.now ∙ words_themselves c.args.names.now)
+    hides_as c.args.bound.now c.loop-name.bound _ _ (one_word c.args.names.now)
     (hides_all (λ (w : Word). w ∷ []) c.args.names.now c.args.bound.now c.loop-name.bound c.loop-name.name-index c.loop-name-test.false c.loop-name.invariant)

@@ -12,12 +12,12 @@ use Rattle.read_rules.specs.Sets.{trail_of}
 use Rattle.read_rules.proofs.RefusalLaws.{nothing_yet, body_stale}
 use Rattle.read_rules.proofs.refusals.with_body.Goals as goal
 
-pub returns : goal.returns
-returns c = λ ms ps ds k a.
+pub returns-in-Ok : goal.returns-in-Ok
+returns-in-Ok c = λ ms ps ds k a.
     let ns = c.args.identity.now in
     let new = c.body.new.ways.reached in
-    c.with_seen.ensures ds a
+    c.with_seen-found.ensures ds a
     ∙ ap (λ (gs : List Group). joined c.args.so_far (first (flat_map (stale_at ds ns) (map spot_of (seen_of gs))))) c.deref.ensures.value
     ∙ ap (joined c.args.so_far)
     (body_stale ms ps ds ns (statements_at c.args.pool.now c.args.body.now) c.new-3.result new c.new-3.ensures.seen c.new-3.ensures.labelled
-    (ap trail_of c.new-3.ensures.path ∙ nothing_yet c.new-2.result c.new-2.ensures.before c.new-2.ensures.nothing) (c.in_ok-body.ensures ms ps k).1)
+    (ap trail_of c.new-3.ensures.path ∙ nothing_yet c.new-2.result c.new-2.ensures.before c.new-2.ensures.nothing) (c.in-Ok.ensures ms ps k).1)

@@ -16,10 +16,10 @@ use Rattle.read_rules.specs.Using.{if_self}
 use Rattle.read_rules.proofs.SelfLaws.{selves_kept}
 use Rattle.read_rules.proofs.selves.with_body.Goals as goal
 
-pub returns : goal.returns
-returns c =
+pub returns-in-Ok : goal.returns-in-Ok
+returns-in-Ok c =
     let b = statements_at c.args.pool.now c.args.stmts.now in
-    let names = c.in_ok-body.ensures.meets [] (subst (λ (hs : List Word). Binds hs []) (sym c.new-2.ensures) none_bound) ∙ ap (λ (ns : List Name). ns ++ flat_map if_self (names_in b [])) c.new.ensures.items in
-    c.with_names.ensures
+    let names = c.in-Ok.ensures.meets [] (subst (λ (hs : List Word). Binds hs []) (sym c.new-2.ensures) none_bound) ∙ ap (λ (ns : List Name). ns ++ flat_map if_self (names_in b [])) c.new.ensures.items in
+    c.with_names-found.ensures
     ∙ ap (λ (ns : List Name). joined c.args.so_far (first (selves ns))) (c.deref.ensures.value ∙ names)
     ∙ ap (λ (rs : List Refusal). joined c.args.so_far (first rs)) (selves_kept (names_in b []) ∙ ap selves (sym (body_names b)))

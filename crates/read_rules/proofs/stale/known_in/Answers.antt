@@ -1,5 +1,6 @@
 -- Proves what is known of macros and procedures.
 use Rattle.std.proofs.Common.{List, map, reverse, subst}
+use Rattle.std.proofs.lemmas.Result.{IfOk-weaker}
 use Rattle.pcal_tree.specs.declared.algorithm.Macro.{Macro}
 use Rattle.pcal_tree.specs.declared.algorithm.Procedure.{Procedure}
 use Rattle.pcal_tree.specs.Algorithm as tree
@@ -16,4 +17,5 @@ returns c =
     let a : tree.Algorithm = algorithm_at ts c.args.algorithm.now in
     let ps = a.procedures in
     let jumps = subst (λ (qs : List Procedure). AreJumps c.in_ok-jumps.jumps.items (map (procedure_at ts) qs)) c.deref.ensures.value c.in_ok-jumps.ensures in
-    subst (λ (ds : List Macro). Knows c.in_ok-known.known (macros_pruned (wants c.args.wanted.now) ps (reverse (map (macro_at ts) ds))) ps) c.deref-2.ensures.value (c.in_ok-known.ensures ps jumps)
+    IfOk-weaker c.known_macros.result _ _
+    (λ k h. subst (λ (ds : List Macro). Knows k (macros_pruned (wants c.args.wanted.now) ps (reverse (map (macro_at ts) ds))) ps) c.deref-2.ensures.value (h ps jumps)) c.known_macros.ensures

@@ -20,6 +20,6 @@ returns c =
     let a : tree.Algorithm = algorithm_at ts c.args.algorithm.now in
     let gs = declared a.globals in
     let globals = subst (λ (ws : List Word). Same c.in_ok-globals.globals ws) (ap declared_in c.deref.ensures.value ∙ sym (declared_is ts c.args.algorithm.now.globals.items)) c.in_ok-globals.ensures in (
-      subst (λ (ds : List Definition). AreReads c.in_ok-all_reads.field-0 (readings gs (reverse (definitions_at ts ds)))) c.deref-2.ensures.value (c.in_ok-all_reads.ensures gs globals),
-      subst (λ (ds : List Macro). Same c.in_ok-all_params.field-0 (params_in ds)) c.deref-3.ensures.value c.in_ok-all_params.ensures,
+      subst (λ (ds : List Definition). AreReads c.in_ok-all_reads.field-0 (readings gs (reverse (definitions_at ts ds)))) c.deref-3.ensures.value (c.in_ok-all_reads.ensures gs globals),
+      subst (λ (ds : List Macro). Same c.in_ok-all_params.field-0 (params_in ds)) c.deref-2.ensures.value c.in_ok-all_params.ensures,
     )

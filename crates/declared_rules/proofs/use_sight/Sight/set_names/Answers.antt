@@ -2,7 +2,8 @@
 use Rattle.std.proofs.Common.{List, [], ◌∷◌, ◌++◌, map, take, ap}
 use Rattle.tla_tree.specs.Tree.{Word}
 use Rattle.pcal_tree.specs.NameUses.{knowing}
-use Rattle.declared_rules.proofs.SeenLaws.{seen_of, sees_is, things_more, things_all, one_word}
+use Rattle.declared_rules.proofs.OutsideLaws.{one_word}
+use Rattle.declared_rules.proofs.SeenLaws.{seen_of, sees_is, things_more, things_all}
 use Rattle.declared_rules.proofs.use_sight.Sight.set_names.Goals as goal
 
 abbrev words_of : Word → List Word

@@ -4,7 +4,8 @@ use Rattle.tla_tree.specs.Tree.{Word}
 use Rattle.module_outside.specs.declared.passed.Passed.{Passed}
 use Rattle.pcal_tree.specs.NameUses as names
 use Rattle.declared_rules.specs.UsesSeen.{Sees}
-use Rattle.declared_rules.proofs.SeenLaws.{seen_of, sees_is, things_more, things_all, all_passed}
+use Rattle.declared_rules.proofs.OutsideLaws.{names_passed}
+use Rattle.declared_rules.proofs.SeenLaws.{seen_of, sees_is, things_more, things_all}
 use Rattle.declared_rules.proofs.use_sight.Sight.set_passed.Goals as goal
 
 abbrev words_of : Passed → List Word
@@ -18,5 +19,5 @@ loop-unit-preserved c = λ s h.
 
 pub returns : goal.returns
 returns c = λ s h.
-    sees_is c.loop-unit.self _ _ (ap (λ (ws : List Word). map (names.knowing names.unread) ws ++ s) (all_passed c.args.list.now))
+    sees_is c.loop-unit.self _ _ (ap (λ (ws : List Word). map (names.knowing names.unread) ws ++ s) (names_passed c.args.list.now))
     (things_all words_of names.unread c.loop-unit.self c.args.list.now c.loop-unit.unit-index s c.loop-unit-test.false (c.loop-unit.invariant s h))

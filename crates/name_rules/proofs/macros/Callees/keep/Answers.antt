@@ -3,4 +3,4 @@ use Rattle.std.proofs.Common.{refl}
 use Rattle.name_rules.proofs.macros.Callees.keep.Goals as goal
 
 pub returns : goal.returns
-returns c = (c.in_ok-insert.ensures.entries, refl)
+returns c = (c.in_ok-before.ensures.entries, refl)

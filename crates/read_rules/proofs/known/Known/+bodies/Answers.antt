@@ -1,5 +1,6 @@
 -- Proves what is seen in statements.
 use Rattle.std.proofs.Common.{false, List, [], Vec, Global, sym, ap, subst, ◌∙◌, arith}
+use Rattle.std.proofs.lemmas.Result.{on_ok_weaker}
 use Rattle.tla_tree.proofs.PoolNumbers.{past_at}
 use Rattle.pcal_tree.specs.declared.algorithm.Bind.{Bind}
 use Rattle.tla_tree.specs.Pool.{at}
@@ -13,11 +14,11 @@ use Rattle.pcal_tree.proofs.StatementHeights.{height, heights, branch_heights, e
 use Rattle.read_rules.specs.declared.uses.Use as memory
 use Rattle.read_rules.specs.declared.walk.Group.{Group}
 use Rattle.read_rules.specs.declared.ways.Paths.{Paths}
-use Rattle.read_rules.specs.BodiesIn.{one, GoesStmt}
+use Rattle.read_rules.specs.BodiesIn.{one, GoesStmt, in_some, together}
 use Rattle.read_rules.specs.SeenIn.{stepping, looping}
 use Rattle.read_rules.specs.UsesIn.{uses_of}
 use Rattle.read_rules.specs.WaysIn.{Goes, Branches}
-use Rattle.read_rules.proofs.SeenBodyLaws.{label_goes, simple_goes, standing, if_goes, either_goes, with_goes, is_loop, body_more, body_done, branch_branches, branches_more, branches_none}
+use Rattle.read_rules.proofs.SeenBodyLaws.{label_goes, simple_goes, standing, if_goes, either_goes, with_goes, is_loop, body_more, body_done, branch_branches, branches_then, branches_more, branches_none}
 use Rattle.read_rules.proofs.known.Known.+bodies.Goals as goal
 
 pub body-loop-stmt-init : goal.body-loop-stmt-init
@@ -105,22 +106,33 @@ stmt-returns-in_ok-repeat-in-While t c = λ ms ps k.
     (standing S ps ts (While sp e b) sp (while (at ts e) (statements_at ts b.items)) c.args.ways.now c.repeat.new.ways (while_at ts sp e b)
     (subst (λ (ss : List Stmt). Goes c.args.ways.now c.repeat.new.ways (one S ps sp.first (while (at ts e) (statements_at ts ss)))) c.deref-in-While.ensures.value (c.in_ok-repeat-in-While.ensures ms ps sp.first k)))
 
-pub choice-returns : goal.choice-returns
-choice-returns t c = λ ms ps p k.
+pub choice-returns-in-Ok : goal.choice-returns-in-Ok
+choice-returns-in-Ok t c = λ ms ps p k.
+    let ts = c.args.pool.now in
     let start = c.take_paths-start.result in
-    if_goes (seen_in_call ms) ps c.args.pool.now p c.args.e c.args.then.now c.args.otherwise.now c.args.ways.now c.pass_uses.new.self c.take_paths-start.new.self c.fork.new.ways c.fork-2.new.ways c.end.new.self
-    start c.fork.new.ends c.fork-2.new.ends
+    let f : Trail → Called = λ q. seen_in_body (seen_in_call ms) ps (statements_at ts c.args.then.now) (unlabelled q) in
+    let g : Trail → Called = λ q. seen_in_body (seen_in_call ms) ps (statements_at ts c.args.otherwise.now) (unlabelled q) in
+    if_goes (seen_in_call ms) ps ts p c.args.e c.args.then.now c.args.otherwise.now c.args.ways.now c.pass_uses.new.self c.take_paths-start.new.self c.both.new.ways c.end.new.self start c.both.new.ends
     (subst (λ (us : List Use). Goes c.args.ways.now c.pass_uses.new.self (stepping us [] false)) c.in_ok-test_uses.ensures c.in_ok-pass_uses.ensures)
     c.take_paths-start.ensures.unreached c.take_paths-start.ensures.reached (ap (λ (v : Vec Group Global). v.items) c.take_paths-start.ensures.seen) (ap (λ (v : Vec Group Global). v.items) c.take_paths-start.ensures.seen_reached)
-    (subst (λ (e : Paths). Branches c.take_paths-start.new.self c.fork.new.ways start e c.fork.new.ends (λ q. seen_in_body (seen_in_call ms) ps (statements_at c.args.pool.now c.args.then.now) (unlabelled q))) c.none-ends.ensures (c.in_ok-fork.ensures ms ps k))
-    (c.in_ok-fork-2.ensures ms ps k) c.end.ensures
+    (subst (λ (e : Paths). Branches c.take_paths-start.new.self c.both.new.ways start e c.both.new.ends (together f g)) c.none-ends.ensures (c.in-Ok.ensures ms ps k)) c.end.ensures
 
-pub either-returns : goal.either-returns
-either-returns t c = λ ms ps p k.
-    either_goes (seen_in_call ms) ps c.args.pool.now p c.args.list.now c.args.ways.now c.pass_uses.new.self c.take_paths-start.new.self c.branches.new.ways c.end.new.self c.take_paths-start.result c.in_ok-ends.ends
+pub both-returns : goal.both-returns
+both-returns t c = λ ms ps k.
+    let ts = c.args.pool.now in
+    let f : Trail → Called = λ q. seen_in_body (seen_in_call ms) ps (statements_at ts c.args.then.now) (unlabelled q) in
+    let g : Trail → Called = λ q. seen_in_body (seen_in_call ms) ps (statements_at ts c.args.otherwise.now) (unlabelled q) in
+    branches_then c.args.ways.now c.fork.new.ways c.fork-2.new.ways c.args.start.now c.args.ends.now c.fork.new.ends c.fork-2.new.ends f g (c.in_ok-fork.ensures ms ps k) (c.in_ok-fork-2.ensures ms ps k)
+
+pub either-returns-in-Ok : goal.either-returns-in-Ok
+either-returns-in-Ok t c = λ ms ps p k.
+    let start = c.take_paths-start.result in
+    either_goes (seen_in_call ms) ps c.args.pool.now p c.args.list.now c.args.ways.now c.pass_uses.new.self c.take_paths-start.new.self c.branches.new.ways c.end.new.self start c.branches.new.ends
     (subst (λ (us : List memory.Use). Goes c.args.ways.now c.pass_uses.new.self (stepping (uses_of us) [] false)) c.new.ensures.items c.in_ok-pass_uses.ensures)
     c.take_paths-start.ensures.unreached c.take_paths-start.ensures.reached
-    (ap (λ (v : Vec Group Global). v.items) c.take_paths-start.ensures.seen) (ap (λ (v : Vec Group Global). v.items) c.take_paths-start.ensures.seen_reached) (c.in_ok-ends.ensures ms ps k) c.end.ensures
+    (ap (λ (v : Vec Group Global). v.items) c.take_paths-start.ensures.seen) (ap (λ (v : Vec Group Global). v.items) c.take_paths-start.ensures.seen_reached)
+    (subst (λ (e : Paths). Branches c.take_paths-start.new.self c.branches.new.ways start e c.branches.new.ends (in_some (seen_in_call ms) ps (branches_at c.args.pool.now c.args.list.now))) c.none-ends.ensures (c.in-Ok.ensures ms ps k))
+    c.end.ensures
 
 pub with-returns : goal.with-returns
 with-returns t c = λ ms ps p k.
@@ -129,18 +141,25 @@ with-returns t c = λ ms ps p k.
     (subst (λ (us : List Use). Goes c.args.ways.now c.pass_uses.new.self (stepping us [] false)) c.in_ok-bind_uses.ensures c.in_ok-pass_uses.ensures) (c.in_ok-body.ensures ms ps k) c.unlabel.ensures
 
 pub repeat-returns : goal.repeat-returns
-repeat-returns t c = λ ms ps p k.
+repeat-returns t c =
+    on_ok_weaker c.rounds-outcome.result (λ a ms ps p k. a ms ps p c.new-inner.ensures.unreached c.new-inner.ensures.reached k) c.rounds-outcome.ensures
+
+pub rounds-returns : goal.rounds-returns
+rounds-returns t c = λ ms ps p u r k.
     let ts = c.args.pool.now in
     let b = statements_at ts c.args.body.now in
     let g : Trail → Called = λ q. seen_in_body (seen_in_call ms) ps b (unlabelled q) in
     subst (λ (us : List Use). Goes c.args.ways.now c.go_round.new.self (looping us g)) (ap uses_of c.deref.ensures.value ∙ c.in_ok-uses.ensures)
-    (c.in_ok-go_round.ensures g (is_loop ms ps b c.new-inner.result c.body.new.ways c.new-inner.ensures.unreached c.new-inner.ensures.reached (c.in_ok-body.ensures ms ps k)))
+    (c.in_ok-go_round.ensures g (is_loop ms ps b c.args.inner.now c.body.new.ways u r (c.in_ok-body.ensures ms ps k)))
 
 pub branches-fork-requires : goal.branches-fork-requires
 branches-fork-requires t c =
     let less = past_at (λ (b : Vec Stmt Global). heights b.items) c.args.list.now c.loop-i.i c.index-list-i.result c.index-list-i.is c.loop-i-test.true in
     let past = past_at (λ (b : Vec Stmt Global). past_statements b.items) c.args.list.now c.loop-i.i c.index-list-i.result c.index-list-i.is c.loop-i-test.true in
     (omega (arith, less, ap heights c.deref.ensures.value, c.decreases), omega (arith, past, ap past_statements c.deref.ensures.value, c.requires))
+
+pub branches-loop-i-init : goal.branches-loop-i-init
+branches-loop-i-init t c = λ ms ps k w e g. g
 
 pub branches-loop-i-preserved : goal.branches-loop-i-preserved
 branches-loop-i-preserved t c = λ ms ps k w e g.
