@@ -85,11 +85,19 @@ fn summary(
     requires { past_macro one.now ≤ length pool.now }
     ensures { IfOk result (λ r. (ms : List MacroSeen) (ps : List Procedure) → Knows known.now ms ps → IsSummary r (macro_pruned (wants wanted.now) (macro_seen ps ms (macro_at pool.now one.now)))) }
 {
-    Ok(Summary {
-        params: copied_names(alloc, &one.params)?,
-        plain: seen_once(alloc, pool, wanted, known, false, &one.body)?,
-        labelled: seen_once(alloc, pool, wanted, known, true, &one.body)?,
-    })
+    let params = copied_names(alloc, &one.params)?;
+    let plain = seen_once(alloc, pool, wanted, known, false, &one.body)?;
+    match seen_once(alloc, pool, wanted, known, true, &one.body) {
+        Ok(labelled) => Ok(Summary {
+            params,
+            plain,
+            labelled,
+        }),
+        Err(error) => {
+            drop(plain);
+            Err(error)
+        }
+    }
 }
 
 impl Known {

@@ -28,11 +28,19 @@ fn wanted_in(alloc: Global, pool: &Pool, algorithm: &Algorithm) -> Result<Wanted
     requires { past_algorithm algorithm.now ≤ length pool.now }
     ensures { IfOk result (λ r. AreReads r.reads (readings_of (algorithm_at pool.now algorithm.now)) × Same r.names (params_in algorithm.now.macros.items)) }
 {
+    let names = all_params(alloc, &algorithm.macros)?;
     let globals = global_names(alloc, &algorithm.globals)?;
-    Ok(Wanted {
-        names: all_params(alloc, &algorithm.macros)?,
-        reads: all_reads(alloc, pool, &globals, &algorithm.definitions)?,
-    })
+    match all_reads(alloc, pool, &globals, &algorithm.definitions) {
+        Ok(reads) => {
+            drop(globals);
+            Ok(Wanted { reads, names })
+        }
+        Err(error) => {
+            drop(globals);
+            drop(names);
+            Err(error)
+        }
+    }
 }
 
 // What is known of an algorithm's macros and procedures.

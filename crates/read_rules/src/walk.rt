@@ -320,9 +320,16 @@ impl Walk {
         self.path = rounds(alloc, pool, inner, self.labelled, before)?;
         self.see(alloc, pool, uses)?;
         let after = copied(&self.path)?;
-        self.take_ways(alloc, pool, &[], &[], inner)?;
-        self.path = after;
-        self.labelled = false;
-        Ok(())
+        match self.take_ways(alloc, pool, &[], &[], inner) {
+            Ok(()) => {
+                self.path = after;
+                self.labelled = false;
+                Ok(())
+            }
+            Err(error) => {
+                drop(after);
+                Err(error)
+            }
+        }
     }
 }

@@ -14,12 +14,12 @@ use Rattle.read_rules.specs.ReadsIn.{AreReads}
 use Rattle.read_rules.specs.WantedIn.{params_in}
 use Rattle.read_rules.proofs.stale.wanted_in.Goals as goal
 
-pub returns : goal.returns
-returns c =
+pub returns-in-Ok : goal.returns-in-Ok
+returns-in-Ok c =
     let ts = c.args.pool.now in
     let a : tree.Algorithm = algorithm_at ts c.args.algorithm.now in
     let gs = declared a.globals in
-    let globals = subst (λ (ws : List Word). Same c.in_ok-globals.globals ws) (ap declared_in c.deref.ensures.value ∙ sym (declared_is ts c.args.algorithm.now.globals.items)) c.in_ok-globals.ensures in (
-      subst (λ (ds : List Definition). AreReads c.in_ok-all_reads.field-0 (readings gs (reverse (definitions_at ts ds)))) c.deref-3.ensures.value (c.in_ok-all_reads.ensures gs globals),
-      subst (λ (ds : List Macro). Same c.in_ok-all_params.field-0 (params_in ds)) c.deref-2.ensures.value c.in_ok-all_params.ensures,
+    let globals = subst (λ (ws : List Word). Same c.in_ok-globals.globals ws) (ap declared_in c.deref-2.ensures.value ∙ sym (declared_is ts c.args.algorithm.now.globals.items)) c.in_ok-globals.ensures in (
+      subst (λ (ds : List Definition). AreReads c.in-Ok.reads (readings gs (reverse (definitions_at ts ds)))) c.deref-3.ensures.value (c.in-Ok.ensures gs globals),
+      subst (λ (ds : List Macro). Same c.in_ok-names.names (params_in ds)) c.deref.ensures.value c.in_ok-names.ensures,
     )

@@ -1,5 +1,5 @@
 -- Proves that a procedure is looked at.
-use Rattle.std.proofs.Common.{List, [], ◌∷◌, ◌++◌, ap}
+use Rattle.std.proofs.Common.{List, [], ◌∷◌, ◌++◌, ap, ◌∙◌}
 use Rattle.std.specs.List.{flat_map}
 use Rattle.pcal_tree.specs.declared.algorithm.Declaration.{Declaration}
 use Rattle.declared_rules.specs.Parts.{bound, declaration_names, declaration_parts, body_parts}
@@ -16,3 +16,6 @@ returns-clause-adds c = λ ts.
     (adds_then ts c.starts.new.self c.starts-2.new.self c.body.new.self _ _
     (adds_as ts c.starts.new.self c.starts-2.new.self _ _ (ap (λ (ds : List Declaration). flat_map (declaration_parts ts) ds) c.deref-4.ensures.value) (c.starts-2.ensures.adds ts))
     (adds_as ts c.starts-2.new.self c.body.new.self _ _ (ap (body_parts ts) c.deref-5.ensures.value) (c.in_ok-body.ensures.adds ts)))))
+
+pub returns-clause-many : goal.returns-clause-many
+returns-clause-many c = c.in_ok-body.ensures.many ∙ c.starts-2.ensures.many ∙ c.starts.ensures.many ∙ c.in_ok-declared_list.ensures.many ∙ c.stacked.ensures.many

@@ -17,3 +17,6 @@ returns-clause-adds c = λ ts.
     (adds_then ts c.expr.new.self c.starts.new.self c.body.new.self _ _
     (adds_as ts c.expr.new.self c.starts.new.self _ _ (ap (λ (ds : List Declaration). flat_map (declaration_parts ts) ds) c.deref-2.ensures.value) (c.starts.ensures.adds ts))
     (adds_as ts c.starts.new.self c.body.new.self _ _ (ap (body_parts ts) c.deref-3.ensures.value) (c.in_ok-body.ensures.adds ts)))))
+
+pub returns-clause-many : goal.returns-clause-many
+returns-clause-many c = c.in_ok-body.ensures.many ∙ c.starts.ensures.many ∙ c.expr.ensures.many ∙ c.in_ok-declared_list.ensures.many ∙ c.declares.ensures.many

@@ -83,3 +83,18 @@ stmt-returns-in_ok-body-in-While-clause-adds t c = λ ts.
     subst (λ (z : Stmt). AddsStmt ts z c.args.self.now c.body-in-While.new.self) (sym c.in-While.is)
     (while_adds ts c.args.self.now c.expr-in-While.new.self c.body-in-While.new.self c.in-While.field-0 c.in-While.e c.in-While.body (c.expr-in-While.ensures.adds ts)
     (adds_as ts c.expr-in-While.new.self c.body-in-While.new.self _ _ (ap (body_words ts) c.deref-in-While.ensures.value) (c.in_ok-body-in-While.ensures.adds ts)))
+
+pub stmt-returns-in-Simple-clause-many : goal.stmt-returns-in-Simple-clause-many
+stmt-returns-in-Simple-clause-many t c = c.simple.ensures.many
+
+pub stmt-returns-in_ok-body-in-If-2-clause-many : goal.stmt-returns-in_ok-body-in-If-2-clause-many
+stmt-returns-in_ok-body-in-If-2-clause-many t c = c.in_ok-body-in-If-2.ensures.many ∙ c.in_ok-body-in-If.ensures.many ∙ c.expr.ensures.many
+
+pub stmt-returns-in_ok-branches-in-Either-clause-many : goal.stmt-returns-in_ok-branches-in-Either-clause-many
+stmt-returns-in_ok-branches-in-Either-clause-many t c = c.in_ok-branches-in-Either.ensures.many
+
+pub stmt-returns-in_ok-body-in-With-clause-many : goal.stmt-returns-in_ok-body-in-With-clause-many
+stmt-returns-in_ok-body-in-With-clause-many t c = c.in_ok-body-in-With.ensures.many ∙ c.in_ok-binds-in-With.ensures.many
+
+pub stmt-returns-in_ok-body-in-While-clause-many : goal.stmt-returns-in_ok-body-in-While-clause-many
+stmt-returns-in_ok-body-in-While-clause-many t c = c.in_ok-body-in-While.ensures.many ∙ c.expr-in-While.ensures.many

@@ -1,5 +1,5 @@
 -- Proves that the names of a whole algorithm are met.
-use Rattle.std.proofs.Common.{List, ap}
+use Rattle.std.proofs.Common.{List, ap, ◌∙◌}
 use Rattle.std.specs.List.{flat_map}
 use Rattle.pcal_tree.specs.declared.algorithm.Declaration.{Declaration}
 use Rattle.pcal_tree.specs.declared.algorithm.Definition.{Definition}
@@ -20,3 +20,6 @@ returns-clause-adds c = λ ts.
     (adds_then ts c.macros.new.self c.procedures.new.self c.main.new.self _ _
     (adds_as ts c.macros.new.self c.procedures.new.self _ _ (ap (λ (xs : List Procedure). flat_map (procedure_words ts) xs) c.deref-4.ensures.value) (c.in_ok-procedures.ensures.adds ts))
     (c.in_ok-main.ensures.adds ts))))
+
+pub returns-clause-many : goal.returns-clause-many
+returns-clause-many c = c.in_ok-main.ensures.many ∙ c.in_ok-procedures.ensures.many ∙ c.in_ok-macros.ensures.many ∙ c.in_ok-definitions.ensures.many ∙ c.in_ok-globals.ensures.many

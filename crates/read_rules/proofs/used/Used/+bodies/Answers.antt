@@ -10,7 +10,7 @@ use Rattle.read_rules.specs.BodyNames.{names_in, names_in_some}
 use Rattle.read_rules.specs.declared.used.Used.{Used}
 use Rattle.read_rules.specs.Using.{Adds}
 use Rattle.read_rules.specs.UsingBodies.{AddsBinds, AddsStmt}
-use Rattle.read_rules.proofs.BodyLaws.{label_adds, if_adds, either_adds, with_adds, while_adds, body_then, body_done, branches_then, branches_over}
+use Rattle.read_rules.proofs.BodyLaws.{label_adds, simple_adds, if_adds, either_adds, with_adds, while_adds, body_then, body_done, branches_then, branches_over}
 use Rattle.read_rules.proofs.used.Used.+bodies.Goals as goal
 
 pub body-loop-stmt-init : goal.body-loop-stmt-init
@@ -88,3 +88,7 @@ stmt-returns-in_ok-body-in-While t c =
     subst (λ (z : Stmt). AddsStmt ts z c.args.self.now c.body-in-While.new.self) (sym c.in-While.is)
     (while_adds ts c.args.self.now c.expr-in-While.new.self c.body-in-While.new.self c.in-While.field-0 c.in-While.e c.in-While.body c.in_ok-expr-in-While.ensures
     (subst (λ (ys : List Stmt). Adds c.expr-in-While.new.self c.body-in-While.new.self (names_in (statements_at ts ys))) c.deref-in-While.ensures.value c.in_ok-body-in-While.ensures))
+
+pub stmt-returns-in_ok-simple-in-Simple : goal.stmt-returns-in_ok-simple-in-Simple
+stmt-returns-in_ok-simple-in-Simple t c =
+    subst (λ (z : Stmt). AddsStmt c.args.pool.now z c.args.self.now c.simple.new.self) (sym c.in-Simple.is) (simple_adds c.args.pool.now c.args.self.now c.simple.new.self c.in-Simple.field-0 c.in-Simple.simple c.in_ok-simple-in-Simple.ensures)
