@@ -59,8 +59,7 @@ impl Walk {
     {
         add_copies(&mut kept.params, &one.params)?;
         kept.found.body(far, calls, pool, &one.body)?;
-        self.text(near, kept)?;
-        Ok(())
+        self.text(near, kept)
     }
 
     // A macro: its own text, and what is kept of it for those after it.

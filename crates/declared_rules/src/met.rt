@@ -41,8 +41,7 @@ impl Met {
         ensures adds { OnOk result ((ts : List Tree) → Adds ts self.old self.new (name.now ∷ [])) }
         ensures many { OnOk result (length self.new.marks.items ≡ length self.old.marks.items) }
     {
-        self.names.add(name)?;
-        Ok(())
+        self.names.add(name)
     }
 
     // Names.
@@ -50,8 +49,7 @@ impl Met {
         ensures adds { OnOk result ((ts : List Tree) → Adds ts self.old self.new (words names.now)) }
         ensures many { OnOk result (length self.new.marks.items ≡ length self.old.marks.items) }
     {
-        self.names.add_all(names)?;
-        Ok(())
+        self.names.add_all(names)
     }
 
     // An expression.
@@ -157,24 +155,26 @@ impl Met {
         ensures many { OnOk result (length self.new.marks.items ≡ length self.old.marks.items) }
     {
         match stmt {
-            Stmt::Label(_, _) => {}
-            Stmt::Simple(_, simple) => self.simple(simple),
+            Stmt::Label(_, _) => Ok(()),
+            Stmt::Simple(_, simple) => {
+                self.simple(simple);
+                Ok(())
+            }
             Stmt::If(_, e, then, otherwise) => {
                 self.expr(*e);
                 self.body(then)?;
-                self.body(otherwise)?;
+                self.body(otherwise)
             }
-            Stmt::Either(_, list) => self.branches(list)?,
+            Stmt::Either(_, list) => self.branches(list),
             Stmt::With(_, binds, body) => {
                 self.binds(binds)?;
-                self.body(body)?;
+                self.body(body)
             }
             Stmt::While(_, e, body) => {
                 self.expr(*e);
-                self.body(body)?;
+                self.body(body)
             }
         }
-        Ok(())
     }
 
     // Branches.
@@ -289,10 +289,9 @@ impl Met {
         ensures many { OnOk result (length self.new.marks.items ≡ length self.old.marks.items) }
     {
         match main {
-            Main::Alone(body) => self.body(body)?,
-            Main::Processes(processes) => self.processes(processes)?,
+            Main::Alone(body) => self.body(body),
+            Main::Processes(processes) => self.processes(processes),
         }
-        Ok(())
     }
 
     // A whole algorithm.
@@ -305,8 +304,7 @@ impl Met {
         self.definitions(&algorithm.definitions)?;
         self.macros(&algorithm.macros)?;
         self.procedures(&algorithm.procedures)?;
-        self.main(&algorithm.main)?;
-        Ok(())
+        self.main(&algorithm.main)
     }
 
     // The names that a form binds.
@@ -315,11 +313,10 @@ impl Met {
         ensures many { OnOk result (length self.new.marks.items ≡ length self.old.marks.items) }
     {
         match form {
-            Form::Binding(_, groups) => self.names.add_groups(groups)?,
-            Form::Local(names) => self.names.add_all(names)?,
-            _ => {}
+            Form::Binding(_, groups) => self.names.add_groups(groups),
+            Form::Local(names) => self.names.add_all(names),
+            _ => Ok(()),
         }
-        Ok(())
     }
 
     // The names of an expression: those of its form, and its parts are marked, which have smaller numbers.
@@ -378,8 +375,7 @@ impl Met {
         ensures many { OnOk result (length self.new.marks.items ≡ length self.old.marks.items) }
     {
         bind_units(&mut self.names, outside)?;
-        self.reads(&outside.definitions)?;
-        Ok(())
+        self.reads(&outside.definitions)
     }
 
     // All names, where none was met.
@@ -395,8 +391,7 @@ impl Met {
     {
         self.outside(outside)?;
         self.algorithm(algorithm)?;
-        self.sweep(pool)?;
-        Ok(())
+        self.sweep(pool)
     }
 }
 

@@ -146,10 +146,9 @@ impl Found {
         ensures many { OnOk result (length self.new.marks.items ≡ length self.old.marks.items) }
     {
         match main {
-            Main::Alone(_) => {}
-            Main::Processes(list) => self.process_titles(list)?,
+            Main::Alone(_) => Ok(()),
+            Main::Processes(list) => self.process_titles(list),
         }
-        Ok(())
     }
 
     // Those of globals and definitions.
@@ -158,8 +157,7 @@ impl Found {
         ensures many { OnOk result (length self.new.marks.items ≡ length self.old.marks.items) }
     {
         self.declared(&algorithm.globals)?;
-        self.defined(&algorithm.definitions)?;
-        Ok(())
+        self.defined(&algorithm.definitions)
     }
 
     // Those of macros, procedures and processes.
@@ -169,8 +167,7 @@ impl Found {
     {
         self.macro_titles(&algorithm.macros)?;
         self.procedure_titles(&algorithm.procedures)?;
-        self.main_titles(&algorithm.main)?;
-        Ok(())
+        self.main_titles(&algorithm.main)
     }
 
     /// All titles: each among those before it, and those of globals and definitions among the names outside.
@@ -187,8 +184,7 @@ impl Found {
         self.others(algorithm)?;
         self.seen.truncate(0);
         bind_units(&mut self.seen, outside)?;
-        self.kept(algorithm)?;
-        Ok(())
+        self.kept(algorithm)
     }
 
     /// What is outside.

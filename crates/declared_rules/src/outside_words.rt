@@ -54,6 +54,5 @@ pub fn bind_units(bound: &mut Bound, outside: &Outside) -> Result<(), AllocError
 {
     bound.add_all(&outside.constants)?;
     bind_read(bound, &outside.definitions)?;
-    bind_passed(bound, &outside.opaque)?;
-    Ok(())
+    bind_passed(bound, &outside.opaque)
 }

@@ -55,13 +55,18 @@ impl Found {
         ensures many { OnOk result (length self.new.marks.items ≡ length self.old.marks.items) }
     {
         match form {
-            Form::Binding(_, groups) => self.group_list(groups)?,
-            Form::Local(names) => self.list(names)?,
-            Form::Strings => self.offence(true, Rule::Infinite, place),
-            Form::Strict(strict) => self.sign(strict, place),
-            _ => {}
+            Form::Binding(_, groups) => self.group_list(groups),
+            Form::Local(names) => self.list(names),
+            Form::Strings => {
+                self.offence(true, Rule::Infinite, place);
+                Ok(())
+            }
+            Form::Strict(strict) => {
+                self.sign(strict, place);
+                Ok(())
+            }
+            _ => Ok(()),
         }
-        Ok(())
     }
 
     // A part, which may be directly right of `\in` or `\notin`: the set of all strings may be there.

@@ -124,25 +124,30 @@ impl Found {
         ensures many { OnOk result (length self.new.marks.items ≡ length self.old.marks.items) }
     {
         match stmt {
-            Stmt::Label(name, _) => self.label(name),
-            Stmt::Simple(span, simple) => self.simple(span.first, simple),
+            Stmt::Label(name, _) => {
+                self.label(name);
+                Ok(())
+            }
+            Stmt::Simple(span, simple) => {
+                self.simple(span.first, simple);
+                Ok(())
+            }
             Stmt::If(_, e, then, otherwise) => {
                 self.expr(*e);
                 self.body(then)?;
-                self.body(otherwise)?;
+                self.body(otherwise)
             }
-            Stmt::Either(_, list) => self.branches(list)?,
+            Stmt::Either(_, list) => self.branches(list),
             Stmt::With(_, binds, body) => {
                 self.bind_list(binds)?;
                 self.binds(binds);
-                self.body(body)?;
+                self.body(body)
             }
             Stmt::While(_, e, body) => {
                 self.expr(*e);
-                self.body(body)?;
+                self.body(body)
             }
         }
-        Ok(())
     }
 
     // Branches.
@@ -232,8 +237,7 @@ impl Found {
         self.declared_list(&procedure.params, &procedure.variables)?;
         self.starts(&procedure.params);
         self.starts(&procedure.variables);
-        self.body(&procedure.body)?;
-        Ok(())
+        self.body(&procedure.body)
     }
 
     // Procedures.
@@ -258,8 +262,7 @@ impl Found {
         self.declared_list(&process.variables, &[])?;
         self.expr(process.identity);
         self.starts(&process.variables);
-        self.body(&process.body)?;
-        Ok(())
+        self.body(&process.body)
     }
 
     // Processes.
@@ -281,10 +284,9 @@ impl Found {
         ensures many { OnOk result (length self.new.marks.items ≡ length self.old.marks.items) }
     {
         match main {
-            Main::Alone(body) => self.body(body)?,
-            Main::Processes(processes) => self.processes(processes)?,
+            Main::Alone(body) => self.body(body),
+            Main::Processes(processes) => self.processes(processes),
         }
-        Ok(())
     }
 
     /// A whole algorithm.
@@ -301,7 +303,6 @@ impl Found {
         self.definitions(&algorithm.definitions)?;
         self.macros(&algorithm.macros)?;
         self.procedures(&algorithm.procedures)?;
-        self.main(&algorithm.main)?;
-        Ok(())
+        self.main(&algorithm.main)
     }
 }

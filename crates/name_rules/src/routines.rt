@@ -39,11 +39,10 @@ impl Found {
         ensures { OnOk result (Tells self.old self.new (in_start (start_at pool.now start.now))) }
     {
         match start {
-            Start::Unset => {}
-            Start::Equals(e) => self.expr(pool, false, *e)?,
-            Start::Among(e) => self.expr(pool, false, *e)?,
+            Start::Unset => Ok(()),
+            Start::Equals(e) => self.expr(pool, false, *e),
+            Start::Among(e) => self.expr(pool, false, *e),
         }
-        Ok(())
     }
 
     // Those of declarations.

@@ -45,17 +45,16 @@ impl Used {
         ensures { OnOk result (Adds self.old self.new (names_in_one (simple_at pool.now simple.now))) }
     {
         match simple {
-            Simple::Assign(list) => self.assignments(pool, list)?,
-            Simple::Await(e) => self.expr(pool, *e)?,
-            Simple::Print(e) => self.expr(pool, *e)?,
-            Simple::Assert(e) => self.expr(pool, *e)?,
-            Simple::Skip => {}
-            Simple::Goto(_) => {}
-            Simple::Macro(_, es) => self.exprs(pool, es)?,
-            Simple::Call(_, es) => self.exprs(pool, es)?,
-            Simple::Return => {}
+            Simple::Assign(list) => self.assignments(pool, list),
+            Simple::Await(e) => self.expr(pool, *e),
+            Simple::Print(e) => self.expr(pool, *e),
+            Simple::Assert(e) => self.expr(pool, *e),
+            Simple::Skip => Ok(()),
+            Simple::Goto(_) => Ok(()),
+            Simple::Macro(_, es) => self.exprs(pool, es),
+            Simple::Call(_, es) => self.exprs(pool, es),
+            Simple::Return => Ok(()),
         }
-        Ok(())
     }
 
     // What a `with` names: its expression, and then it is bound.
@@ -94,26 +93,26 @@ impl Used {
         ensures { OnOk result (AddsStmt pool.now stmt.now self.old self.new) }
     {
         match stmt {
-            Stmt::Label(_, _) => {}
-            Stmt::Simple(_, simple) => self.simple(pool, simple)?,
+            Stmt::Label(_, _) => Ok(()),
+            Stmt::Simple(_, simple) => self.simple(pool, simple),
             Stmt::If(_, e, then, otherwise) => {
                 self.expr(pool, *e)?;
                 self.body(pool, then)?;
-                self.body(pool, otherwise)?;
+                self.body(pool, otherwise)
             }
-            Stmt::Either(_, list) => self.branches(pool, list)?,
+            Stmt::Either(_, list) => self.branches(pool, list),
             Stmt::With(_, binds, body) => {
                 let around = self.bound.len();
                 self.binds(pool, binds)?;
                 self.body(pool, body)?;
                 self.bound.truncate(around);
+                Ok(())
             }
             Stmt::While(_, e, body) => {
                 self.expr(pool, *e)?;
-                self.body(pool, body)?;
+                self.body(pool, body)
             }
         }
-        Ok(())
     }
 
     // Branches.

@@ -15,10 +15,9 @@ fn add_simple(called: &mut Table, simple: &Simple) -> Result<(), AllocError>
     ensures { OnOk result ((ts : List Tree) → AddsCalls called.old called.new (calls_in (simple_at ts simple.now))) }
 {
     match simple {
-        Simple::Macro(name, _) => called.set(name.copied()?, 1)?,
-        _ => {}
+        Simple::Macro(name, _) => called.set(name.copied()?, 1),
+        _ => Ok(()),
     }
-    Ok(())
 }
 
 // Those of a statement.
@@ -27,17 +26,16 @@ fn add_stmt(called: &mut Table, stmt: &Stmt) -> Result<(), AllocError>
     ensures { OnOk result ((ts : List Tree) → AddsStmtCalls ts stmt.now called.old called.new) }
 {
     match stmt {
-        Stmt::Label(_, _) => {}
-        Stmt::Simple(_, simple) => add_simple(called, simple)?,
+        Stmt::Label(_, _) => Ok(()),
+        Stmt::Simple(_, simple) => add_simple(called, simple),
         Stmt::If(_, _, then, otherwise) => {
             add_calls(called, then)?;
-            add_calls(called, otherwise)?;
+            add_calls(called, otherwise)
         }
-        Stmt::Either(_, list) => add_branches(called, list)?,
-        Stmt::With(_, _, body) => add_calls(called, body)?,
-        Stmt::While(_, _, body) => add_calls(called, body)?,
+        Stmt::Either(_, list) => add_branches(called, list),
+        Stmt::With(_, _, body) => add_calls(called, body),
+        Stmt::While(_, _, body) => add_calls(called, body),
     }
-    Ok(())
 }
 
 // Those of branches.

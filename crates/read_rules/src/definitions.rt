@@ -98,8 +98,7 @@ impl Reads {
         }
         let place = number - 1;
         let list = &lists[place];
-        into.add_all(list)?;
-        Ok(())
+        into.add_all(list)
     }
 
     // The variables that a name is or reads.
@@ -109,8 +108,7 @@ impl Reads {
         if globals.has(name) {
             into.add(name)?;
         }
-        self.add_through(into, name)?;
-        Ok(())
+        self.add_through(into, name)
     }
 
     // Those of several names.
@@ -154,8 +152,7 @@ impl Reads {
         self.lists.push(variables)?;
         let lists = self.lists.as_slice();
         let number = lists.len();
-        self.numbers.set(name.copied()?, number)?;
-        Ok(())
+        self.numbers.set(name.copied()?, number)
     }
 
     // What definitions read, each newer than those before, where these are the variables.

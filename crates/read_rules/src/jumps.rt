@@ -22,11 +22,10 @@ fn add_start(used: &mut Used, pool: &Pool, start: &Start) -> Result<(), AllocErr
     ensures { OnOk result (Adds used.old used.new (used_by_start (start_at pool.now start.now))) }
 {
     match start {
-        Start::Unset => {}
-        Start::Equals(e) => used.expr(pool, *e)?,
-        Start::Among(e) => used.expr(pool, *e)?,
+        Start::Unset => Ok(()),
+        Start::Equals(e) => used.expr(pool, *e),
+        Start::Among(e) => used.expr(pool, *e),
     }
-    Ok(())
 }
 
 // Those of declarations.
@@ -48,8 +47,7 @@ fn add_values(used: &mut Used, pool: &Pool, one: &Procedure) -> Result<(), Alloc
 {
     add_declared(&mut used.bound, &one.params)?;
     add_declared(&mut used.bound, &one.variables)?;
-    add_starts(used, pool, &one.variables)?;
-    Ok(())
+    add_starts(used, pool, &one.variables)
 }
 
 // What a call of a procedure uses.

@@ -80,8 +80,7 @@ impl Known {
         self.summaries.push(summary)?;
         let summaries = self.summaries.as_slice();
         let number = summaries.len();
-        self.numbers.set(name.copied()?, number)?;
-        Ok(())
+        self.numbers.set(name.copied()?, number)
     }
 
     // A call of a macro of this name.
@@ -108,8 +107,7 @@ impl Known {
         }
         let place = number - 1;
         let summary = &summaries[place];
-        walk.call(alloc, pool, summary, args)?;
-        Ok(())
+        walk.call(alloc, pool, summary, args)
     }
 
     /// A call of a macro of this name, where no path leads to it and where one does.

@@ -68,8 +68,7 @@ fn add_level(
 {
     let names = used_names(alloc, pool, &definition.params, definition.body)?;
     let level = furthest(numbers, &*levels, &names);
-    levels.set(definition.name.name.copied()?, level)?;
-    Ok(())
+    levels.set(definition.name.name.copied()?, level)
 }
 
 /// The levels of definitions, by the numbers of globals.

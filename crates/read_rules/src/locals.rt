@@ -64,8 +64,7 @@ fn add_variables(names: &mut Bound, algorithm: &Algorithm) -> Result<(), AllocEr
 {
     add_declared(names, &algorithm.globals)?;
     add_procedures(names, &algorithm.procedures)?;
-    add_main(names, &algorithm.main)?;
-    Ok(())
+    add_main(names, &algorithm.main)
 }
 
 /// All variables of an algorithm, and the parameters of its procedures.

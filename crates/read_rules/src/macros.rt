@@ -47,8 +47,7 @@ fn see_once(
 {
     known.body(alloc, pool, ways, body)?;
     ways.unreached.keep_once(alloc, wanted)?;
-    ways.reached.keep_once(alloc, wanted)?;
-    Ok(())
+    ways.reached.keep_once(alloc, wanted)
 }
 
 // What is seen in a macro's body, by what is known of the older ones.

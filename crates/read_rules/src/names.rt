@@ -139,8 +139,7 @@ impl Names {
         if self.has(name) {
             return Ok(());
         }
-        self.add_new(name)?;
-        Ok(())
+        self.add_new(name)
     }
 
     /// Those of another set too.

@@ -115,8 +115,7 @@ impl Kept {
         if !wanted.has(&one.name.name) {
             return Ok(());
         }
-        self.keep(one, after)?;
-        Ok(())
+        self.keep(one, after)
     }
 
     // Uses that are on one path.

@@ -80,16 +80,18 @@ impl Known {
         ensures { OnOk result ((ms : List MacroSeen) (ps : List Procedure) → Knows self.now ms ps → GoesStmt (seen_in_call ms) ps pool.now stmt.now ways.old ways.new) }
     {
         match stmt {
-            Stmt::Label(_, _) => ways.begin(alloc),
-            Stmt::Simple(span, simple) => self.simple(alloc, pool, ways, span.first, simple)?,
-            Stmt::If(_, e, then, otherwise) => {
-                self.choice(alloc, pool, ways, *e, then, otherwise)?;
+            Stmt::Label(_, _) => {
+                ways.begin(alloc);
+                Ok(())
             }
-            Stmt::Either(_, list) => self.either(alloc, pool, ways, list)?,
-            Stmt::With(_, binds, body) => self.with(alloc, pool, ways, binds, body)?,
-            Stmt::While(_, e, body) => self.repeat(alloc, pool, ways, *e, body)?,
+            Stmt::Simple(span, simple) => self.simple(alloc, pool, ways, span.first, simple),
+            Stmt::If(_, e, then, otherwise) => {
+                self.choice(alloc, pool, ways, *e, then, otherwise)
+            }
+            Stmt::Either(_, list) => self.either(alloc, pool, ways, list),
+            Stmt::With(_, binds, body) => self.with(alloc, pool, ways, binds, body),
+            Stmt::While(_, e, body) => self.repeat(alloc, pool, ways, *e, body),
         }
-        Ok(())
     }
 
     // An `if`.

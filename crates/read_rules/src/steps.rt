@@ -38,8 +38,7 @@ fn add_left(list: &mut Vec<Use>, pool: &Pool, e: NodeId) -> Result<(), AllocErro
     ensures { OnOk result (uses_of list.new.items ≡ uses_of list.old.items ++ left_uses (at pool.now e)) }
 {
     let place = pool.node(e).place;
-    add_uses_as(list, pool, Kind::Left, place, e)?;
-    Ok(())
+    add_uses_as(list, pool, Kind::Left, place, e)
 }
 
 // Uses of left and right sides.
@@ -64,10 +63,9 @@ fn add_bind(list: &mut Vec<Use>, pool: &Pool, bind: &Bind) -> Result<(), AllocEr
     ensures { OnOk result (uses_of list.new.items ≡ uses_of list.old.items ++ uses_of_binds (binds_at pool.now (bind.now ∷ []))) }
 {
     match bind {
-        Bind::Among(_, e) => add_uses(list, pool, *e)?,
-        Bind::Is(_, e) => add_uses(list, pool, *e)?,
+        Bind::Among(_, e) => add_uses(list, pool, *e),
+        Bind::Is(_, e) => add_uses(list, pool, *e),
     }
-    Ok(())
 }
 
 /// Uses of the expressions of a `with`.
@@ -113,8 +111,7 @@ fn add_self(alloc: Global, list: &mut Vec<Use>, place: Place) -> Result<(), Allo
     ensures { OnOk result (uses_of list.new.items ≡ uses_of list.old.items ++ other (self_at place) ∷ []) }
 {
     let name = Name::new(Vec::from_slice(alloc, b"self")?);
-    add_use(list, Kind::Other, &name, place)?;
-    Ok(())
+    add_use(list, Kind::Other, &name, place)
 }
 
 // These names, as uses at a place.

@@ -112,8 +112,7 @@ impl Used {
         ensures { OnOk result (self.old.only_self ≡ false → self.old.bound ≡ [] → self.new.names.items ≡ self.old.names.items ++ used (at pool.now e) (words params.now)) }
     {
         self.bound.add_all(params)?;
-        self.expr(pool, e)?;
-        Ok(())
+        self.expr(pool, e)
     }
 
     /// The names that were met.

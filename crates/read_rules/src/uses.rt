@@ -119,6 +119,5 @@ pub fn add_all_uses(list: &mut Vec<Use>, pool: &Pool, es: &[NodeId]) -> Result<(
     requires { past_numbers es.now ≤ length pool.now }
     ensures { OnOk result (uses_of list.new.items ≡ uses_of list.old.items ++ uses_of_all (trees_at pool.now es.now)) }
 {
-    add_parts(list, pool, es, pool.len())?;
-    Ok(())
+    add_parts(list, pool, es, pool.len())
 }

@@ -294,11 +294,9 @@ impl Walk {
         ensures { OnOk result ((u r : Called) → IsWay ways.now.unreached u → IsWay ways.now.reached r → Walks self.old self.new (λ z. put_called (putting params.now (trees_at pool.now args.now) (before_on z.trail)) (way u r z.trail))) }
     {
         if self.path.is_some() {
-            self.take(alloc, pool, params, args, &ways.reached)?;
-            Ok(())
+            self.take(alloc, pool, params, args, &ways.reached)
         } else {
-            self.take(alloc, pool, params, args, &ways.unreached)?;
-            Ok(())
+            self.take(alloc, pool, params, args, &ways.unreached)
         }
     }
 

@@ -77,8 +77,7 @@ impl Ways {
         ensures { OnOk result (Goes self.old self.new (stepping (uses_of step.now.uses.items) step.now.names step.now.stops)) }
     {
         self.unreached.pass(alloc, pool, step)?;
-        self.reached.pass(alloc, pool, step)?;
-        Ok(())
+        self.reached.pass(alloc, pool, step)
     }
 
     /// The test of a statement, or the expressions of a `with`.
@@ -175,8 +174,7 @@ impl Ways {
         ensures { OnOk result (Joined self.old self.new ends.old ends.new) }
     {
         self.unreached.join_end(&mut ends.unreached)?;
-        self.reached.join_end(&mut ends.reached)?;
-        Ok(())
+        self.reached.join_end(&mut ends.reached)
     }
 
     /// Behind branches, which have these ends.

@@ -1,5 +1,6 @@
 -- Proves that the macros that statements call are marked.
 use Rattle.std.proofs.Common.{List, Vec, Global, sym, ap, subst, arith}
+use Rattle.std.proofs.lemmas.Result.{on_ok_weaker}
 use Rattle.tla_tree.proofs.PoolNumbers.{past_at}
 use Rattle.pcal_tree.specs.declared.algorithm.Stmt.{Stmt}
 use Rattle.pcal_tree.specs.InMemory.{statements_at, branches_at}
@@ -42,32 +43,42 @@ pub add_stmt-returns-in-Label : goal.add_stmt-returns-in-Label
 add_stmt-returns-in-Label t c = λ ts.
     subst (λ (z : Stmt). AddsStmtCalls ts z c.args.called.now c.args.called.now) (sym c.in-Label.is) (label_calls ts c.args.called.now c.args.called.now c.in-Label.field-0 c.in-Label.field-1)
 
-pub add_stmt-returns-in_ok-add_calls-in-If-2 : goal.add_stmt-returns-in_ok-add_calls-in-If-2
-add_stmt-returns-in_ok-add_calls-in-If-2 t c = λ ts.
+pub add_stmt-returns-in_ok-add_calls-in-If : goal.add_stmt-returns-in_ok-add_calls-in-If
+add_stmt-returns-in_ok-add_calls-in-If t c =
+    on_ok_weaker c.add_calls-in-If.result
+    (λ done ts.
     subst (λ (z : Stmt). AddsStmtCalls ts z c.args.called.now c.add_calls-in-If.new.called) (sym c.in-If.is)
     (if_calls ts c.args.called.now c.add_calls.new.called c.add_calls-in-If.new.called c.in-If.field-0 c.in-If.field-1 c.in-If.then c.in-If.otherwise
     (calls_as c.args.called.now c.add_calls.new.called _ _ (ap (λ (ys : List Stmt). calls_of (statements_at ts ys)) c.deref.ensures.value) (c.in_ok-add_calls-in-If.ensures ts))
-    (calls_as c.add_calls.new.called c.add_calls-in-If.new.called _ _ (ap (λ (ys : List Stmt). calls_of (statements_at ts ys)) c.deref-in-If.ensures.value) (c.in_ok-add_calls-in-If-2.ensures ts)))
+    (calls_as c.add_calls.new.called c.add_calls-in-If.new.called _ _ (ap (λ (ys : List Stmt). calls_of (statements_at ts ys)) c.deref-in-If.ensures.value) (done ts)))) c.add_calls-in-If.ensures
 
-pub add_stmt-returns-in_ok-add_branches-in-Either : goal.add_stmt-returns-in_ok-add_branches-in-Either
-add_stmt-returns-in_ok-add_branches-in-Either t c = λ ts.
+pub add_stmt-returns-in-Either : goal.add_stmt-returns-in-Either
+add_stmt-returns-in-Either t c =
+    on_ok_weaker c.add_branches.result
+    (λ done ts.
     subst (λ (z : Stmt). AddsStmtCalls ts z c.args.called.now c.add_branches.new.called) (sym c.in-Either.is)
     (either_calls ts c.args.called.now c.add_branches.new.called c.in-Either.field-0 c.in-Either.list
-    (calls_as c.args.called.now c.add_branches.new.called _ _ (ap (λ (ys : List (Vec Stmt Global)). calls_of_some (branches_at ts ys)) c.deref-in-Either.ensures.value) (c.in_ok-add_branches-in-Either.ensures ts)))
+    (calls_as c.args.called.now c.add_branches.new.called _ _ (ap (λ (ys : List (Vec Stmt Global)). calls_of_some (branches_at ts ys)) c.deref-in-Either.ensures.value) (done ts)))) c.add_branches.ensures
 
-pub add_stmt-returns-in_ok-add_calls-in-With : goal.add_stmt-returns-in_ok-add_calls-in-With
-add_stmt-returns-in_ok-add_calls-in-With t c = λ ts.
+pub add_stmt-returns-in-With : goal.add_stmt-returns-in-With
+add_stmt-returns-in-With t c =
+    on_ok_weaker c.add_calls-in-With.result
+    (λ done ts.
     subst (λ (z : Stmt). AddsStmtCalls ts z c.args.called.now c.add_calls-in-With.new.called) (sym c.in-With.is)
     (with_calls ts c.args.called.now c.add_calls-in-With.new.called c.in-With.field-0 c.in-With.field-1 c.in-With.body
-    (calls_as c.args.called.now c.add_calls-in-With.new.called _ _ (ap (λ (ys : List Stmt). calls_of (statements_at ts ys)) c.deref-in-With.ensures.value) (c.in_ok-add_calls-in-With.ensures ts)))
+    (calls_as c.args.called.now c.add_calls-in-With.new.called _ _ (ap (λ (ys : List Stmt). calls_of (statements_at ts ys)) c.deref-in-With.ensures.value) (done ts)))) c.add_calls-in-With.ensures
 
-pub add_stmt-returns-in_ok-add_calls-in-While : goal.add_stmt-returns-in_ok-add_calls-in-While
-add_stmt-returns-in_ok-add_calls-in-While t c = λ ts.
+pub add_stmt-returns-in-While : goal.add_stmt-returns-in-While
+add_stmt-returns-in-While t c =
+    on_ok_weaker c.add_calls-in-While.result
+    (λ done ts.
     subst (λ (z : Stmt). AddsStmtCalls ts z c.args.called.now c.add_calls-in-While.new.called) (sym c.in-While.is)
     (while_calls ts c.args.called.now c.add_calls-in-While.new.called c.in-While.field-0 c.in-While.field-1 c.in-While.body
-    (calls_as c.args.called.now c.add_calls-in-While.new.called _ _ (ap (λ (ys : List Stmt). calls_of (statements_at ts ys)) c.deref-in-While.ensures.value) (c.in_ok-add_calls-in-While.ensures ts)))
+    (calls_as c.args.called.now c.add_calls-in-While.new.called _ _ (ap (λ (ys : List Stmt). calls_of (statements_at ts ys)) c.deref-in-While.ensures.value) (done ts)))) c.add_calls-in-While.ensures
 
-pub add_stmt-returns-in_ok-add_simple-in-Simple : goal.add_stmt-returns-in_ok-add_simple-in-Simple
-add_stmt-returns-in_ok-add_simple-in-Simple t c = λ ts.
+pub add_stmt-returns-in-Simple : goal.add_stmt-returns-in-Simple
+add_stmt-returns-in-Simple t c =
+    on_ok_weaker c.add_simple.result
+    (λ done ts.
     subst (λ (z : Stmt). AddsStmtCalls ts z c.args.called.now c.add_simple.new.called) (sym c.in-Simple.is)
-    (simple_calls ts c.args.called.now c.add_simple.new.called c.in-Simple.field-0 c.in-Simple.simple (c.in_ok-add_simple-in-Simple.ensures ts))
+    (simple_calls ts c.args.called.now c.add_simple.new.called c.in-Simple.field-0 c.in-Simple.simple (done ts))) c.add_simple.ensures

@@ -1,4 +1,5 @@
 -- Proves what the initial values of a procedure use.
+use Rattle.std.proofs.lemmas.Result.{on_ok_weaker}
 use Rattle.std.proofs.Common.{List, Bool, [], ◌++◌, sym, ap, subst, ◌∙◌}
 use Rattle.tla_tree.specs.Tree.{Word}
 use Rattle.pcal_tree.specs.declared.algorithm.Declaration.{Declaration}
@@ -15,7 +16,9 @@ use Rattle.read_rules.proofs.JumpLaws.{names_at}
 use Rattle.read_rules.proofs.jumps.add_values.Goals as goal
 
 pub returns : goal.returns
-returns c = λ o b.
+returns c =
+    on_ok_weaker c.add_starts.result
+    (λ done o b.
     let ts = c.args.pool.now in
     let ds = c.args.one.now.params.items in
     let es = c.args.one.now.variables.items in
@@ -25,5 +28,5 @@ returns c = λ o b.
     let two = c.add_declared-2.new.names in
     let hides = hides_then old.bound one two (declared_in ds) (declared_in es) (hides_as old.bound one _ _ (ap declared_in c.deref.ensures.value) c.in_ok-add_declared.ensures) (hides_as one two _ _ (ap declared_in c.deref-2.ensures.value) c.in_ok-add_declared-2.ensures) in
     let binds = binds_all two (declared_in ds ++ declared_in es) (subst (λ (hs : List Word). Hides hs two (declared_in ds ++ declared_in es)) b hides) in
-    c.in_ok-add_starts.ensures.meets xs (subst (λ (ys : List Word). Binds two ys) (sym (names_at ts ds es)) binds)
-    ∙ (λ i. old.names.items ++ kept (o i) (used_by_starts (declarations_at ts (c.deref-3.ensures.value i)) xs))
+    done.meets xs (subst (λ (ys : List Word). Binds two ys) (sym (names_at ts ds es)) binds)
+    ∙ (λ i. old.names.items ++ kept (o i) (used_by_starts (declarations_at ts (c.deref-3.ensures.value i)) xs))) c.add_starts.ensures

@@ -1,5 +1,6 @@
 -- Proves that the names of statements are looked at, in the order of the text.
 use Rattle.std.proofs.Common.{List, [], ◌∷◌, map, Vec, Global, sym, ap, subst, ◌∙◌, arith}
+use Rattle.std.proofs.lemmas.Result.{on_ok_weaker}
 use Rattle.std.specs.List.{flat_map}
 use Rattle.tla_tree.proofs.PoolNumbers.{past_at}
 use Rattle.pcal_tree.specs.declared.algorithm.Bind.{Bind}
@@ -58,36 +59,44 @@ pub stmt-returns-in-Simple-clause-adds : goal.stmt-returns-in-Simple-clause-adds
 stmt-returns-in-Simple-clause-adds t c = λ ts.
     subst (λ (z : Stmt). AddsStmt ts z c.args.self.now c.simple.new.self) (sym c.in-Simple.is) (simple_adds ts c.args.self.now c.simple.new.self c.in-Simple.span c.in-Simple.simple (c.simple.ensures.adds ts))
 
-pub stmt-returns-in_ok-body-in-If-2-clause-adds : goal.stmt-returns-in_ok-body-in-If-2-clause-adds
-stmt-returns-in_ok-body-in-If-2-clause-adds t c = λ ts.
+pub stmt-returns-in_ok-body-in-If-clause-adds : goal.stmt-returns-in_ok-body-in-If-clause-adds
+stmt-returns-in_ok-body-in-If-clause-adds t c =
+    on_ok_weaker c.body-in-If.result
+    (λ done ts.
     subst (λ (z : Stmt). AddsStmt ts z c.args.self.now c.body-in-If.new.self) (sym c.in-If.is)
     (if_adds ts c.args.self.now c.expr.new.self c.body.new.self c.body-in-If.new.self c.in-If.field-0 c.in-If.e c.in-If.then c.in-If.otherwise (c.expr.ensures.adds ts)
     (adds_as ts c.expr.new.self c.body.new.self _ _ (ap (body_parts ts) c.deref.ensures.value) (c.in_ok-body-in-If.ensures.adds ts))
-    (adds_as ts c.body.new.self c.body-in-If.new.self _ _ (ap (body_parts ts) c.deref-in-If.ensures.value) (c.in_ok-body-in-If-2.ensures.adds ts)))
+    (adds_as ts c.body.new.self c.body-in-If.new.self _ _ (ap (body_parts ts) c.deref-in-If.ensures.value) (done ts)))) c.body-in-If.ensures.adds
 
-pub stmt-returns-in_ok-branches-in-Either-clause-adds : goal.stmt-returns-in_ok-branches-in-Either-clause-adds
-stmt-returns-in_ok-branches-in-Either-clause-adds t c = λ ts.
+pub stmt-returns-in-Either-clause-adds : goal.stmt-returns-in-Either-clause-adds
+stmt-returns-in-Either-clause-adds t c =
+    on_ok_weaker c.branches.result
+    (λ done ts.
     subst (λ (z : Stmt). AddsStmt ts z c.args.self.now c.branches.new.self) (sym c.in-Either.is)
     (either_adds ts c.args.self.now c.branches.new.self c.in-Either.field-0 c.in-Either.list
-    (adds_as ts c.args.self.now c.branches.new.self _ _ (ap (λ (ys : List (Vec Stmt Global)). in_branches (branches_at ts ys)) c.deref-in-Either.ensures.value) (c.in_ok-branches-in-Either.ensures.adds ts)))
+    (adds_as ts c.args.self.now c.branches.new.self _ _ (ap (λ (ys : List (Vec Stmt Global)). in_branches (branches_at ts ys)) c.deref-in-Either.ensures.value) (done ts)))) c.branches.ensures.adds
 
-pub stmt-returns-in_ok-body-in-With-clause-adds : goal.stmt-returns-in_ok-body-in-With-clause-adds
-stmt-returns-in_ok-body-in-With-clause-adds t c = λ ts.
+pub stmt-returns-in_ok-bind_list-in-With-clause-adds : goal.stmt-returns-in_ok-bind_list-in-With-clause-adds
+stmt-returns-in_ok-bind_list-in-With-clause-adds t c =
+    on_ok_weaker c.body-in-With.result
+    (λ done ts.
     subst (λ (z : Stmt). AddsStmt ts z c.args.self.now c.body-in-With.new.self) (sym c.in-With.is)
     (with_adds ts c.args.self.now c.bind_list.new.self c.binds.new.self c.body-in-With.new.self c.in-With.field-0 c.in-With.binds c.in-With.body
     (adds_as ts c.args.self.now c.bind_list.new.self _ _ (ap (λ (bs : List Bind). bound (map bind_name bs) ∷ []) c.deref-in-With.ensures.value) (c.in_ok-bind_list-in-With.ensures.adds ts))
     (adds_as ts c.bind_list.new.self c.binds.new.self _ _ (ap (λ (bs : List Bind). flat_map (bind_parts ts) bs) c.deref-in-With-2.ensures.value) (c.binds.ensures.adds ts))
-    (adds_as ts c.binds.new.self c.body-in-With.new.self _ _ (ap (body_parts ts) c.deref-in-With-3.ensures.value) (c.in_ok-body-in-With.ensures.adds ts)))
+    (adds_as ts c.binds.new.self c.body-in-With.new.self _ _ (ap (body_parts ts) c.deref-in-With-3.ensures.value) (done ts)))) c.body-in-With.ensures.adds
 
 pub stmt-returns-in-Label-clause-adds : goal.stmt-returns-in-Label-clause-adds
 stmt-returns-in-Label-clause-adds t c = λ ts.
     subst (λ (z : Stmt). AddsStmt ts z c.args.self.now c.label.new.self) (sym c.in-Label.is) (label_adds ts c.args.self.now c.label.new.self c.in-Label.name c.in-Label.field-1 (c.label.ensures.adds ts))
 
-pub stmt-returns-in_ok-body-in-While-clause-adds : goal.stmt-returns-in_ok-body-in-While-clause-adds
-stmt-returns-in_ok-body-in-While-clause-adds t c = λ ts.
+pub stmt-returns-in-While-clause-adds : goal.stmt-returns-in-While-clause-adds
+stmt-returns-in-While-clause-adds t c =
+    on_ok_weaker c.body-in-While.result
+    (λ done ts.
     subst (λ (z : Stmt). AddsStmt ts z c.args.self.now c.body-in-While.new.self) (sym c.in-While.is)
     (while_adds ts c.args.self.now c.expr-in-While.new.self c.body-in-While.new.self c.in-While.field-0 c.in-While.e c.in-While.body (c.expr-in-While.ensures.adds ts)
-    (adds_as ts c.expr-in-While.new.self c.body-in-While.new.self _ _ (ap (body_parts ts) c.deref-in-While.ensures.value) (c.in_ok-body-in-While.ensures.adds ts)))
+    (adds_as ts c.expr-in-While.new.self c.body-in-While.new.self _ _ (ap (body_parts ts) c.deref-in-While.ensures.value) (done ts)))) c.body-in-While.ensures.adds
 
 pub stmt-returns-in-Label-clause-many : goal.stmt-returns-in-Label-clause-many
 stmt-returns-in-Label-clause-many t c = c.label.ensures.many
@@ -95,14 +104,26 @@ stmt-returns-in-Label-clause-many t c = c.label.ensures.many
 pub stmt-returns-in-Simple-clause-many : goal.stmt-returns-in-Simple-clause-many
 stmt-returns-in-Simple-clause-many t c = c.simple.ensures.many
 
-pub stmt-returns-in_ok-body-in-If-2-clause-many : goal.stmt-returns-in_ok-body-in-If-2-clause-many
-stmt-returns-in_ok-body-in-If-2-clause-many t c = c.in_ok-body-in-If-2.ensures.many ∙ c.in_ok-body-in-If.ensures.many ∙ c.expr.ensures.many
+pub stmt-returns-in_ok-body-in-If-clause-many : goal.stmt-returns-in_ok-body-in-If-clause-many
+stmt-returns-in_ok-body-in-If-clause-many t c =
+    on_ok_weaker c.body-in-If.result
+    (λ done.
+    done ∙ c.in_ok-body-in-If.ensures.many ∙ c.expr.ensures.many) c.body-in-If.ensures.many
 
-pub stmt-returns-in_ok-branches-in-Either-clause-many : goal.stmt-returns-in_ok-branches-in-Either-clause-many
-stmt-returns-in_ok-branches-in-Either-clause-many t c = c.in_ok-branches-in-Either.ensures.many
+pub stmt-returns-in-Either-clause-many : goal.stmt-returns-in-Either-clause-many
+stmt-returns-in-Either-clause-many t c =
+    on_ok_weaker c.branches.result
+    (λ done.
+    done) c.branches.ensures.many
 
-pub stmt-returns-in_ok-body-in-With-clause-many : goal.stmt-returns-in_ok-body-in-With-clause-many
-stmt-returns-in_ok-body-in-With-clause-many t c = c.in_ok-body-in-With.ensures.many ∙ c.binds.ensures.many ∙ c.in_ok-bind_list-in-With.ensures.many
+pub stmt-returns-in_ok-bind_list-in-With-clause-many : goal.stmt-returns-in_ok-bind_list-in-With-clause-many
+stmt-returns-in_ok-bind_list-in-With-clause-many t c =
+    on_ok_weaker c.body-in-With.result
+    (λ done.
+    done ∙ c.binds.ensures.many ∙ c.in_ok-bind_list-in-With.ensures.many) c.body-in-With.ensures.many
 
-pub stmt-returns-in_ok-body-in-While-clause-many : goal.stmt-returns-in_ok-body-in-While-clause-many
-stmt-returns-in_ok-body-in-While-clause-many t c = c.in_ok-body-in-While.ensures.many ∙ c.expr-in-While.ensures.many
+pub stmt-returns-in-While-clause-many : goal.stmt-returns-in-While-clause-many
+stmt-returns-in-While-clause-many t c =
+    on_ok_weaker c.body-in-While.result
+    (λ done.
+    done ∙ c.expr-in-While.ensures.many) c.body-in-While.ensures.many

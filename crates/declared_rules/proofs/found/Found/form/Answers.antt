@@ -1,5 +1,6 @@
 -- Proves that what a form offends is found.
 use Rattle.std.proofs.Common.{false, List, Vec, Global, [], ◌∷◌, sym, ap, subst}
+use Rattle.std.proofs.lemmas.Result.{on_ok_weaker}
 use Rattle.tla_tree.specs.Tree.{Name}
 use Rattle.tla_pool.specs.declared.form.Form.{Form}
 use Rattle.tla_pool.specs.FormOf.{groups_of, strict_of, form_of}
@@ -10,15 +11,19 @@ use Rattle.declared_rules.proofs.JoinLaws.{adds_as}
 use Rattle.declared_rules.proofs.SweepLaws.{binder_joined, local_joined, sign_joined}
 use Rattle.declared_rules.proofs.found.Found.form.Goals as goal
 
-pub returns-in_ok-group_list-in-Binding-clause-adds : goal.returns-in_ok-group_list-in-Binding-clause-adds
-returns-in_ok-group_list-in-Binding-clause-adds c = λ ts.
+pub returns-in-Binding-clause-adds : goal.returns-in-Binding-clause-adds
+returns-in-Binding-clause-adds c =
+    on_ok_weaker c.group_list.result
+    (λ done ts.
     binder_joined ts c.args.self.now c.group_list.new.self (form_of c.args.form.now) c.in-Binding.field-0 (groups_of c.in-Binding.groups.items) c.args.place (ap form_of c.in-Binding.is)
-    (adds_as ts c.args.self.now c.group_list.new.self _ _ (ap (λ (gs : List (Vec Name Global)). bound (all_of (groups_of gs)) ∷ []) c.deref.ensures.value) (c.in_ok-group_list-in-Binding.ensures.adds ts))
+    (adds_as ts c.args.self.now c.group_list.new.self _ _ (ap (λ (gs : List (Vec Name Global)). bound (all_of (groups_of gs)) ∷ []) c.deref.ensures.value) (done ts))) c.group_list.ensures.adds
 
-pub returns-in_ok-list-in-Local-clause-adds : goal.returns-in_ok-list-in-Local-clause-adds
-returns-in_ok-list-in-Local-clause-adds c = λ ts.
+pub returns-in-Local-clause-adds : goal.returns-in-Local-clause-adds
+returns-in-Local-clause-adds c =
+    on_ok_weaker c.list.result
+    (λ done ts.
     local_joined ts c.args.self.now c.list.new.self (form_of c.args.form.now) c.in-Local.names.items c.args.place (ap form_of c.in-Local.is)
-    (adds_as ts c.args.self.now c.list.new.self _ _ (ap (λ (ns : List Name). bound ns ∷ []) c.deref-in-Local.ensures.value) (c.in_ok-list-in-Local.ensures.adds ts))
+    (adds_as ts c.args.self.now c.list.new.self _ _ (ap (λ (ns : List Name). bound ns ∷ []) c.deref-in-Local.ensures.value) (done ts))) c.list.ensures.adds
 
 pub returns-in-Strings-clause-adds : goal.returns-in-Strings-clause-adds
 returns-in-Strings-clause-adds c = λ ts.

@@ -1,4 +1,5 @@
 -- Proves that the names of globals and definitions are looked at.
+use Rattle.std.proofs.lemmas.Result.{on_ok_weaker}
 use Rattle.std.proofs.Common.{ap}
 use Rattle.declared_rules.specs.Parts.{declaration_names}
 use Rattle.declared_rules.specs.Titles.{defined_names}
@@ -7,5 +8,7 @@ use Rattle.declared_rules.proofs.found.Found.kept.Goals as goal
 
 pub returns-clause-adds : goal.returns-clause-adds
 returns-clause-adds c =
+    on_ok_weaker c.defined.result
+    (λ done.
     names_then c.args.self.now c.declared.new.self c.defined.new.self _ _ (names_as c.args.self.now c.declared.new.self _ _ (ap declaration_names c.deref.ensures.value) c.in_ok-declared.ensures.adds)
-    (names_as c.declared.new.self c.defined.new.self _ _ (ap defined_names c.deref-2.ensures.value) c.in_ok-defined.ensures.adds)
+    (names_as c.declared.new.self c.defined.new.self _ _ (ap defined_names c.deref-2.ensures.value) done)) c.defined.ensures.adds

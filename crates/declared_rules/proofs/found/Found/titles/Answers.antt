@@ -1,5 +1,6 @@
 -- Proves that all titles are looked at.
 use Rattle.std.proofs.Common.{List, subst}
+use Rattle.std.proofs.lemmas.Result.{on_ok_weaker}
 use Rattle.tla_tree.specs.Tree.{Word}
 use Rattle.pcal_tree.specs.Outside.{unit_names}
 use Rattle.algorithm_limits.specs.DepthsIn.{Hides}
@@ -10,6 +11,8 @@ use Rattle.declared_rules.proofs.found.Found.titles.Goals as goal
 
 pub returns-clause-joins : goal.returns-clause-joins
 returns-clause-joins c =
+    on_ok_weaker c.kept-2.result
+    (λ done.
     titles_joined c.args.self.now c.kept.new.self c.others.new.self c.kept-2.new.self c.truncate.new.self c.bind_units.new.bound (kept_titles c.args.algorithm.now) (other_titles c.args.algorithm.now)
     (λ ts. unit_names (outside_at ts c.args.outside.now)) c.truncate.ensures c.in_ok-kept.ensures.adds c.in_ok-others.ensures.adds
-    (λ ts. subst (λ (x : List Word). Hides x c.bind_units.new.bound (unit_names (outside_at ts c.args.outside.now))) c.truncate-2.ensures (c.in_ok-bind_units.ensures ts)) c.in_ok-kept-2.ensures.adds
+    (λ ts. subst (λ (x : List Word). Hides x c.bind_units.new.bound (unit_names (outside_at ts c.args.outside.now))) c.truncate-2.ensures (c.in_ok-bind_units.ensures ts)) done) c.kept-2.ensures.adds

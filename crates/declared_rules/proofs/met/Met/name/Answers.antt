@@ -1,7 +1,11 @@
 -- Proves that what is met is added.
 use Rattle.std.proofs.Common.{refl}
+use Rattle.std.proofs.lemmas.Result.{on_ok_weaker}
 use Rattle.declared_rules.proofs.MetWalks.{adds_hidden}
 use Rattle.declared_rules.proofs.met.Met.name.Goals as goal
 
 pub returns-clause-adds : goal.returns-clause-adds
-returns-clause-adds c = λ ts. adds_hidden ts c.args.self.now _ _ c.in_ok-add.ensures refl
+returns-clause-adds c = on_ok_weaker c.add.result (λ done ts. adds_hidden ts c.args.self.now _ _ done refl) c.add.ensures
+
+pub returns-clause-many : goal.returns-clause-many
+returns-clause-many c = on_ok_weaker c.add.result (λ done. refl) c.add.ensures

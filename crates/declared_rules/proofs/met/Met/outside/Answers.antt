@@ -1,4 +1,5 @@
 -- Proves that all names that are taken outside are met.
+use Rattle.std.proofs.lemmas.Result.{on_ok_weaker}
 use Rattle.std.proofs.Common.{List, refl, ap, ◌∙◌}
 use Rattle.std.specs.List.{flat_map}
 use Rattle.module_outside.specs.declared.definition.ReadDefinition.{ReadDefinition}
@@ -8,6 +9,8 @@ use Rattle.declared_rules.proofs.MetWords.{bound_read}
 use Rattle.declared_rules.proofs.met.Met.outside.Goals as goal
 
 pub returns-clause-adds : goal.returns-clause-adds
-returns-clause-adds c = λ ts l.
+returns-clause-adds c =
+    on_ok_weaker c.reads.result
+    (λ done ts l.
     adds_then ts c.args.self.now _ c.reads.new.self _ _ (adds_hidden ts c.args.self.now _ _ (c.in_ok-bind_units.ensures ts) refl)
-    (adds_as ts _ c.reads.new.self _ _ (ap (λ (ds : List ReadDefinition). flat_map (words_within ts) ds) c.deref.ensures.value ∙ bound_read ts c.args.outside.now.definitions.items) (c.in_ok-reads.ensures.adds ts l))
+    (adds_as ts _ c.reads.new.self _ _ (ap (λ (ds : List ReadDefinition). flat_map (words_within ts) ds) c.deref.ensures.value ∙ bound_read ts c.args.outside.now.definitions.items) (done ts l))) c.reads.ensures.adds

@@ -1,4 +1,5 @@
 -- Proves that what a name reads is there besides.
+use Rattle.std.proofs.lemmas.Result.{on_ok_weaker}
 use Rattle.std.proofs.Common.{◌≡◌, suc, ◌-◌, List, length, get_or, ◌∙◌, sym, ap, arith}
 use Rattle.algorithm_limits.specs.Numbers.{number_of}
 use Rattle.read_rules.specs.declared.names.Names.{Names}
@@ -14,7 +15,9 @@ returns-then-number-lists c = λ ds a.
     number_past c.args.self.now ds c.args.name.now a (omega (arith, c.if-number-lists.true, all, c.get-number.ensures))
 
 pub returns : goal.returns
-returns c = λ ds a.
+returns c =
+    on_ok_weaker c.add_all.result
+    (λ done ds a.
     let r = c.args.self.now in
     let x = c.args.name.now in
     let s = c.index-lists-place.result in
@@ -22,4 +25,4 @@ returns c = λ ds a.
     let e : number_of r.numbers x ≡ suc place = omega (arith, c.if-number-eq0.false, c.get-number.ensures) in
     let all = ap (λ (ls : List Names). length ls) c.as_slice-lists.ensures.value in
     joins_there r ds c.args.into.now c.add_all.new.self x place s a e (c.index-lists-place.is ∙ ap (λ (ls : List Names). get_or ls place s) c.as_slice-lists.ensures.value)
-    (omega (arith, c.if-number-lists.false, c.if-number-eq0.false, all)) c.in_ok-add_all.ensures
+    (omega (arith, c.if-number-lists.false, c.if-number-eq0.false, all)) done) c.add_all.ensures

@@ -49,10 +49,12 @@ stmt-returns-in-Label t c = λ ms ps k.
     subst (λ (z : Stmt). GoesStmt (seen_in_call ms) ps c.args.pool.now z c.args.ways.now c.begin.new.self) (sym c.in-Label.is)
     (label_goes (seen_in_call ms) ps c.args.pool.now c.in-Label.field-0 c.in-Label.field-1 c.args.ways.now c.begin.new.self c.begin.ensures)
 
-pub stmt-returns-in_ok-simple-in-Simple : goal.stmt-returns-in_ok-simple-in-Simple
-stmt-returns-in_ok-simple-in-Simple t c = λ ms ps k.
+pub stmt-returns-in-Simple : goal.stmt-returns-in-Simple
+stmt-returns-in-Simple t c =
+    on_ok_weaker c.simple.result
+    (λ done ms ps k.
     subst (λ (z : Stmt). GoesStmt (seen_in_call ms) ps c.args.pool.now z c.args.ways.now c.simple.new.ways) (sym c.in-Simple.is)
-    (simple_goes (seen_in_call ms) ps c.args.pool.now c.in-Simple.span c.in-Simple.simple c.args.ways.now c.simple.new.ways (c.in_ok-simple-in-Simple.ensures ms ps k))
+    (simple_goes (seen_in_call ms) ps c.args.pool.now c.in-Simple.span c.in-Simple.simple c.args.ways.now c.simple.new.ways (done ms ps k))) c.simple.ensures
 
 pub stmt-either-requires : goal.stmt-either-requires
 stmt-either-requires t c = (
@@ -60,8 +62,10 @@ stmt-either-requires t c = (
   omega (arith, past_either c.in-Either.field-0 c.in-Either.list, ap past_branches c.deref-in-Either.ensures.value, ap past_stmt c.in-Either.is, c.requires),
 )
 
-pub stmt-returns-in_ok-choice-in-If : goal.stmt-returns-in_ok-choice-in-If
-stmt-returns-in_ok-choice-in-If t c = λ ms ps k.
+pub stmt-returns-in-If : goal.stmt-returns-in-If
+stmt-returns-in-If t c =
+    on_ok_weaker c.choice.result
+    (λ done ms ps k.
     let S = seen_in_call ms in
     let ts = c.args.pool.now in
     let sp = c.in-If.field-0 in
@@ -71,20 +75,24 @@ stmt-returns-in_ok-choice-in-If t c = λ ms ps k.
     let Ends : List Stmt → List Stmt → Type 0 = λ ss rs. Goes c.args.ways.now c.choice.new.ways (one S ps sp.first (branch (at ts e) (statements_at ts ss) (statements_at ts rs))) in
     subst (λ (z : Stmt). GoesStmt S ps ts z c.args.ways.now c.choice.new.ways) (sym c.in-If.is)
     (standing S ps ts (If sp e a b) sp (branch (at ts e) (statements_at ts a.items) (statements_at ts b.items)) c.args.ways.now c.choice.new.ways (if_at ts sp e a b)
-    (subst (λ (rs : List Stmt). Ends a.items rs) c.deref-in-If.ensures.value (subst (λ (ss : List Stmt). Ends ss c.deref-in-If.result.now) c.deref.ensures.value (c.in_ok-choice-in-If.ensures ms ps sp.first k))))
+    (subst (λ (rs : List Stmt). Ends a.items rs) c.deref-in-If.ensures.value (subst (λ (ss : List Stmt). Ends ss c.deref-in-If.result.now) c.deref.ensures.value (done ms ps sp.first k))))) c.choice.ensures
 
-pub stmt-returns-in_ok-either-in-Either : goal.stmt-returns-in_ok-either-in-Either
-stmt-returns-in_ok-either-in-Either t c = λ ms ps k.
+pub stmt-returns-in-Either : goal.stmt-returns-in-Either
+stmt-returns-in-Either t c =
+    on_ok_weaker c.either.result
+    (λ done ms ps k.
     let S = seen_in_call ms in
     let ts = c.args.pool.now in
     let sp = c.in-Either.field-0 in
     let bs = c.in-Either.list in
     subst (λ (z : Stmt). GoesStmt S ps ts z c.args.ways.now c.either.new.ways) (sym c.in-Either.is)
     (standing S ps ts (Either sp bs) sp (either (branches_at ts bs.items)) c.args.ways.now c.either.new.ways (either_at ts sp bs)
-    (subst (λ (cs : List (Vec Stmt Global)). Goes c.args.ways.now c.either.new.ways (one S ps sp.first (either (branches_at ts cs)))) c.deref-in-Either.ensures.value (c.in_ok-either-in-Either.ensures ms ps sp.first k)))
+    (subst (λ (cs : List (Vec Stmt Global)). Goes c.args.ways.now c.either.new.ways (one S ps sp.first (either (branches_at ts cs)))) c.deref-in-Either.ensures.value (done ms ps sp.first k)))) c.either.ensures
 
-pub stmt-returns-in_ok-with-in-With : goal.stmt-returns-in_ok-with-in-With
-stmt-returns-in_ok-with-in-With t c = λ ms ps k.
+pub stmt-returns-in-With : goal.stmt-returns-in-With
+stmt-returns-in-With t c =
+    on_ok_weaker c.with.result
+    (λ done ms ps k.
     let S = seen_in_call ms in
     let ts = c.args.pool.now in
     let sp = c.in-With.field-0 in
@@ -93,10 +101,12 @@ stmt-returns-in_ok-with-in-With t c = λ ms ps k.
     let Ends : List Bind → List Stmt → Type 0 = λ xs ss. Goes c.args.ways.now c.with.new.ways (one S ps sp.first (with (binds_at ts xs) (statements_at ts ss))) in
     subst (λ (z : Stmt). GoesStmt S ps ts z c.args.ways.now c.with.new.ways) (sym c.in-With.is)
     (standing S ps ts (With sp bs b) sp (with (binds_at ts bs.items) (statements_at ts b.items)) c.args.ways.now c.with.new.ways (with_at ts sp bs b)
-    (subst (λ (ss : List Stmt). Ends bs.items ss) c.deref-in-With-2.ensures.value (subst (λ (xs : List Bind). Ends xs c.deref-in-With-2.result.now) c.deref-in-With.ensures.value (c.in_ok-with-in-With.ensures ms ps sp.first k))))
+    (subst (λ (ss : List Stmt). Ends bs.items ss) c.deref-in-With-2.ensures.value (subst (λ (xs : List Bind). Ends xs c.deref-in-With-2.result.now) c.deref-in-With.ensures.value (done ms ps sp.first k))))) c.with.ensures
 
-pub stmt-returns-in_ok-repeat-in-While : goal.stmt-returns-in_ok-repeat-in-While
-stmt-returns-in_ok-repeat-in-While t c = λ ms ps k.
+pub stmt-returns-in-While : goal.stmt-returns-in-While
+stmt-returns-in-While t c =
+    on_ok_weaker c.repeat.result
+    (λ done ms ps k.
     let S = seen_in_call ms in
     let ts = c.args.pool.now in
     let sp = c.in-While.field-0 in
@@ -104,7 +114,7 @@ stmt-returns-in_ok-repeat-in-While t c = λ ms ps k.
     let b = c.in-While.body in
     subst (λ (z : Stmt). GoesStmt S ps ts z c.args.ways.now c.repeat.new.ways) (sym c.in-While.is)
     (standing S ps ts (While sp e b) sp (while (at ts e) (statements_at ts b.items)) c.args.ways.now c.repeat.new.ways (while_at ts sp e b)
-    (subst (λ (ss : List Stmt). Goes c.args.ways.now c.repeat.new.ways (one S ps sp.first (while (at ts e) (statements_at ts ss)))) c.deref-in-While.ensures.value (c.in_ok-repeat-in-While.ensures ms ps sp.first k)))
+    (subst (λ (ss : List Stmt). Goes c.args.ways.now c.repeat.new.ways (one S ps sp.first (while (at ts e) (statements_at ts ss)))) c.deref-in-While.ensures.value (done ms ps sp.first k)))) c.repeat.ensures
 
 pub choice-returns-in-Ok : goal.choice-returns-in-Ok
 choice-returns-in-Ok t c = λ ms ps p k.

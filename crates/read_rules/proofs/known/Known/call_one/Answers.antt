@@ -1,4 +1,5 @@
 -- Proves what is seen in a call of a macro by its name.
+use Rattle.std.proofs.lemmas.Result.{on_ok_weaker}
 use Rattle.std.proofs.Common.{◌≡◌, suc, ◌-◌, List, length, get_or, ◌∙◌, sym, ap, arith}
 use Rattle.tla_tree.specs.Pool.{trees_at}
 use Rattle.algorithm_limits.specs.Numbers.{number_of}
@@ -17,10 +18,12 @@ returns-then-number-summaries c = λ ms a.
     past_call k ms c.args.name.now (trees_at c.args.pool.now c.args.args.now) c.args.walk.now c.stop-then-number-summaries.new.self a (omega (arith, c.if-number-summaries.true, all, c.get-number.ensures))
 
 pub returns : goal.returns
-returns c = λ ms a.
+returns c =
+    on_ok_weaker c.call.result
+    (λ done ms a.
     let k = c.args.self.now in
     let m = c.args.name.now in
     let place = c.get-number.result - 1 in
     let e : number_of k.numbers m ≡ suc place = omega (arith, c.if-number-eq0.false, c.get-number.ensures) in
     found_walks k ms m (trees_at c.args.pool.now c.args.args.now) c.args.walk.now c.call.new.self c.index-summaries-place.result a place e
-    (c.index-summaries-place.is ∙ ap (λ (ss : List Summary). get_or ss place c.index-summaries-place.result) c.as_slice-summaries.ensures.value) c.in_ok-call.ensures
+    (c.index-summaries-place.is ∙ ap (λ (ss : List Summary). get_or ss place c.index-summaries-place.result) c.as_slice-summaries.ensures.value) done) c.call.ensures

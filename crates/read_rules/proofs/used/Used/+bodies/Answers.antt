@@ -1,5 +1,6 @@
 -- Proves that the names of statements are met, in the order of the text.
 use Rattle.std.proofs.Common.{ℕ, List, Vec, Global, take, refl, sym, ap, subst, ◌∙◌, arith}
+use Rattle.std.proofs.lemmas.Result.{on_ok_weaker}
 use Rattle.tla_tree.proofs.PoolNumbers.{past_at}
 use Rattle.pcal_tree.specs.declared.algorithm.Bind.{Bind}
 use Rattle.pcal_tree.specs.declared.algorithm.Stmt.{Stmt}
@@ -57,20 +58,24 @@ pub stmt-returns-in-Label : goal.stmt-returns-in-Label
 stmt-returns-in-Label t c =
     subst (λ (z : Stmt). AddsStmt c.args.pool.now z c.args.self.now c.args.self.now) (sym c.in-Label.is) (label_adds c.args.pool.now c.args.self.now c.in-Label.field-0 c.in-Label.field-1)
 
-pub stmt-returns-in_ok-body-in-If-2 : goal.stmt-returns-in_ok-body-in-If-2
-stmt-returns-in_ok-body-in-If-2 t c =
+pub stmt-returns-in_ok-body-in-If : goal.stmt-returns-in_ok-body-in-If
+stmt-returns-in_ok-body-in-If t c =
+    on_ok_weaker c.body-in-If.result
+    (λ done.
     let ts = c.args.pool.now in
     subst (λ (z : Stmt). AddsStmt ts z c.args.self.now c.body-in-If.new.self) (sym c.in-If.is)
     (if_adds ts c.args.self.now c.expr.new.self c.body.new.self c.body-in-If.new.self c.in-If.field-0 c.in-If.e c.in-If.then c.in-If.otherwise c.in_ok-expr-in-If.ensures
     (subst (λ (ys : List Stmt). Adds c.expr.new.self c.body.new.self (names_in (statements_at ts ys))) c.deref.ensures.value c.in_ok-body-in-If.ensures)
-    (subst (λ (ys : List Stmt). Adds c.body.new.self c.body-in-If.new.self (names_in (statements_at ts ys))) c.deref-in-If.ensures.value c.in_ok-body-in-If-2.ensures))
+    (subst (λ (ys : List Stmt). Adds c.body.new.self c.body-in-If.new.self (names_in (statements_at ts ys))) c.deref-in-If.ensures.value done))) c.body-in-If.ensures
 
-pub stmt-returns-in_ok-branches-in-Either : goal.stmt-returns-in_ok-branches-in-Either
-stmt-returns-in_ok-branches-in-Either t c =
+pub stmt-returns-in-Either : goal.stmt-returns-in-Either
+stmt-returns-in-Either t c =
+    on_ok_weaker c.branches.result
+    (λ done.
     let ts = c.args.pool.now in
     subst (λ (z : Stmt). AddsStmt ts z c.args.self.now c.branches.new.self) (sym c.in-Either.is)
     (either_adds ts c.args.self.now c.branches.new.self c.in-Either.field-0 c.in-Either.list
-    (subst (λ (ys : List (Vec Stmt Global)). Adds c.args.self.now c.branches.new.self (names_in_some (branches_at ts ys))) c.deref-in-Either.ensures.value c.in_ok-branches-in-Either.ensures))
+    (subst (λ (ys : List (Vec Stmt Global)). Adds c.args.self.now c.branches.new.self (names_in_some (branches_at ts ys))) c.deref-in-Either.ensures.value done))) c.branches.ensures
 
 pub stmt-returns-in_ok-body-in-With : goal.stmt-returns-in_ok-body-in-With
 stmt-returns-in_ok-body-in-With t c =
@@ -82,13 +87,17 @@ stmt-returns-in_ok-body-in-With t c =
     (subst (λ (ys : List Stmt). Adds c.binds.new.self c.body-in-With.new.self (names_in (statements_at ts ys))) c.deref-in-With-2.ensures.value c.in_ok-body-in-With.ensures)
     refl refl (c.truncate.ensures ∙ ap (λ (k : ℕ). take k c.body-in-With.new.self.bound) c.len-around.ensures))
 
-pub stmt-returns-in_ok-body-in-While : goal.stmt-returns-in_ok-body-in-While
-stmt-returns-in_ok-body-in-While t c =
+pub stmt-returns-in_ok-expr-in-While : goal.stmt-returns-in_ok-expr-in-While
+stmt-returns-in_ok-expr-in-While t c =
+    on_ok_weaker c.body-in-While.result
+    (λ done.
     let ts = c.args.pool.now in
     subst (λ (z : Stmt). AddsStmt ts z c.args.self.now c.body-in-While.new.self) (sym c.in-While.is)
     (while_adds ts c.args.self.now c.expr-in-While.new.self c.body-in-While.new.self c.in-While.field-0 c.in-While.e c.in-While.body c.in_ok-expr-in-While.ensures
-    (subst (λ (ys : List Stmt). Adds c.expr-in-While.new.self c.body-in-While.new.self (names_in (statements_at ts ys))) c.deref-in-While.ensures.value c.in_ok-body-in-While.ensures))
+    (subst (λ (ys : List Stmt). Adds c.expr-in-While.new.self c.body-in-While.new.self (names_in (statements_at ts ys))) c.deref-in-While.ensures.value done))) c.body-in-While.ensures
 
-pub stmt-returns-in_ok-simple-in-Simple : goal.stmt-returns-in_ok-simple-in-Simple
-stmt-returns-in_ok-simple-in-Simple t c =
-    subst (λ (z : Stmt). AddsStmt c.args.pool.now z c.args.self.now c.simple.new.self) (sym c.in-Simple.is) (simple_adds c.args.pool.now c.args.self.now c.simple.new.self c.in-Simple.field-0 c.in-Simple.simple c.in_ok-simple-in-Simple.ensures)
+pub stmt-returns-in-Simple : goal.stmt-returns-in-Simple
+stmt-returns-in-Simple t c =
+    on_ok_weaker c.simple.result
+    (λ done.
+    subst (λ (z : Stmt). AddsStmt c.args.pool.now z c.args.self.now c.simple.new.self) (sym c.in-Simple.is) (simple_adds c.args.pool.now c.args.self.now c.simple.new.self c.in-Simple.field-0 c.in-Simple.simple done)) c.simple.ensures
