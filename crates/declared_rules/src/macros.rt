@@ -19,8 +19,12 @@ use std::alloc::{AllocError, Global};
 use tla_pool::Pool;
 use tla_tree::PlacedName;
 
-// The same names once more, in a list with none.
-fn add_copies(list: &mut Vec<PlacedName>, names: &[PlacedName]) -> Result<(), AllocError>
+/// The same names once more, in a list with none.
+///
+/// # Errors
+///
+/// Only for want of memory.
+pub fn add_copies(list: &mut Vec<PlacedName>, names: &[PlacedName]) -> Result<(), AllocError>
     ensures { OnOk result (list.old.items ≡ [] → list.new.items ≡ names.now) }
 {
     for name in names {

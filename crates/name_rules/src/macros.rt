@@ -14,6 +14,7 @@ ghost use Rattle.name_rules.specs.Keeping.{Keeps, MacroKept, AreProcedures, proc
 
 use crate::found::Found;
 use algorithm_limits::table::Table;
+use declared_rules::macros::add_copies;
 use indexmap::IndexMap;
 use pcal_tree::algorithm::{Declaration, Macro, Procedure};
 use std::alloc::{AllocError, Global};
@@ -33,16 +34,6 @@ pub struct MacroUses {
 pub struct Callees {
     pub macros: IndexMap<Name, MacroUses>,
     pub procedures: Table,
-}
-
-// The same names once more, in a list with none.
-fn add_copies(list: &mut Vec<PlacedName>, names: &[PlacedName]) -> Result<(), AllocError>
-    ensures { OnOk result (list.old.items ≡ [] → list.new.items ≡ names.now) }
-{
-    for one in names {
-        list.push(one.copied()?)?;
-    }
-    Ok(())
 }
 
 // How many declarations these are.

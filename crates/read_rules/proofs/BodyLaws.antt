@@ -1,5 +1,5 @@
 -- Names that are met in statements, one after another.
-use Rattle.std.proofs.Common.{◌≡◌, ℕ, ◌+◌, ◌<◌, ◌≤◌, List, [], ◌∷◌, ◌++◌, length, take, drop, map, get_or, Bool, Vec, Global, refl, sym, ap, ◌∙◌, subst, append-nil, append_assoc}
+use Rattle.std.proofs.Common.{◌≡◌, ℕ, ◌+◌, ◌<◌, ◌≤◌, List, [], ◌∷◌, ◌++◌, length, take, drop, map, get_or, Bool, Vec, Global, ◌⊎◌, ⊎_elim, refl, sym, ap, ◌∙◌, subst, append-nil, append_assoc}
 use Rattle.std.proofs.lemmas.List.{drop_more, drop_all, take_more, take_all, map-append}
 use Rattle.tla_tree.specs.Tree.{Word, Tree, words}
 use Rattle.tla_tree.specs.Pool.{at, trees_at}
@@ -71,6 +71,20 @@ pub assigned_done : (ts : List Tree) (k : Used) (ms : List Assignment) (i : ℕ)
 assigned_done ts k ms i less = adds_as k k _ _ (λ xs. ap (λ (ns : List Assignment). used_by_assignments (assignments_at ts ns) xs) (sym (drop_all i ms less))) (adds_none k)
 
 -- ---- what a `with` names
+
+-- one that a `with` names, in either form
+pub bind_adds : (ts : List Tree) (b : Bind) (x : Name) (e : ℕ) (old mid new : Used) → (b ≡ bind.Among x e) ⊎ (b ≡ bind.Is x e) → Adds old mid (used (at ts e)) → new.only_self ≡ mid.only_self
+    → new.names.items ≡ mid.names.items → Hides mid.bound new.bound (x.word ∷ []) → AddsBind ts b old new
+bind_adds ts b x e old mid new is a own same h =
+    ⊎_elim (λ (i : b ≡ bind.Among x e). subst (λ (z : Bind). AddsBind ts z old new) (sym i) (by (bind.Among x e) refl refl))
+    (λ (i : b ≡ bind.Is x e). subst (λ (z : Bind). AddsBind ts z old new) (sym i) (by (bind.Is x e) refl refl)) is
+  where
+    by : (z : Bind) → bind_word z ≡ x.word → bind_number z ≡ e → AddsBind ts z old new
+    by z w n = record {
+      only = own ∙ a.only;
+      hides = subst (λ (y : Word). Hides old.bound new.bound (y ∷ [])) (sym w) (subst (λ (ws : List Word). Hides ws new.bound (x.word ∷ [])) a.bound h);
+      meets = λ xs k. same ∙ a.meets xs k ∙ ap (λ (i : ℕ). old.names.items ++ kept old.only_self (used (at ts i) xs)) (sym n);
+    }
 
 abbrev bind_words : List Bind → List Word
 bind_words bs = map bind_word bs

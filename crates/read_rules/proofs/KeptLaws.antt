@@ -1,7 +1,8 @@
 -- Uses that are kept each once.
-use Rattle.std.proofs.Common.{◌≡◌, ℕ, zero, suc, arith, ◌+◌, ◌<◌, ◌≤◌, Bool, true, false, ◌&&◌, ◌||◌, List, [], ◌∷◌, ◌++◌, length, take, get_or, Option, Some, None, refl, sym, ap, ◌∙◌, subst, cond, append-nil, append_assoc, nat_eq, eqb-true, slice_get}
+use Rattle.std.proofs.Common.{◌≡◌, ℕ, zero, suc, arith, ◌+◌, ◌<◌, ◌≤◌, Bool, true, false, ◌&&◌, ◌||◌, List, [], ◌∷◌, ◌++◌, length, take, get_or, Option, Some, None, refl, sym, ap, ◌∙◌, subst, cond, append-nil, append_assoc, nat_eq, eqb-true, slice_get, unwrap_or}
 use Rattle.std.specs.Prelude.{if◌then◌else◌}
 use Rattle.std.specs.List.{list_any}
+use Rattle.std.specs.Option.{option_map}
 use Rattle.std.specs.Map.{lookup}
 use Rattle.std.proofs.lemmas.Bool.{and_parts}
 use Rattle.std.proofs.lemmas.List.{take_more, take_all, map-append}
@@ -100,37 +101,26 @@ keeps_put es k v ss some none K =
     ∙ ap (λ (b : Bool). b || list_any (passes K) ss) (sym (any_flat (passes K) entry_seen es))
     ∙ sym (list_any-append (passes K) (entries_seen es) ss)
 
-some≢none : {X : Type 0} (x : X) (o : Option X) → o ≡ Some x → o ≡ None → ⊥
-some≢none x o e h = cc
-
-pub keeps_new : (es fs : List Entry) (k : Key) (v a : Assigned) (u : Use) → key_use k ≡ u → v ≡ a → lookup (same.it k) es ≡ None → fs ≡ insert_entry same.it es k v
-    → Keeps es fs (on_trail (Some (origins a)) (u ∷ []))
-keeps_new es fs k v a u e same_path absent is =
+pub keeps_joined : (es fs : List Entry) (k : Key) (v a : Assigned) (u : Use) → key_use k ≡ u → Joins (unwrap_or (option_map origins (lookup (same.it k) es)) []) (origins v) (origins a)
+    → fs ≡ insert_entry same.it es k v → Keeps es fs (on_trail (Some (origins a)) (u ∷ []))
+keeps_joined es fs k v a u e l is =
     subst (λ (gs : List Entry). Keeps es gs (on_trail (Some (origins a)) (u ∷ []))) (sym is)
     (keeps_put es k v (on_trail (Some (origins a)) (u ∷ []))
-    (λ K w h. absurd (some≢none w (lookup (same.it k) es) h absent))
-    (λ K h i. list_any (λ o. K o (e i)) (origins (same_path i)) || false))
-
-pub keeps_known : (es fs : List Entry) (k : Key) (n v a w : Assigned) (u : Use) → key_use k ≡ u → n ≡ w → Joins (origins n) (origins v) (origins a)
-    → lookup (same.it k) es ≡ Some w → fs ≡ insert_entry same.it es k v → Keeps es fs (on_trail (Some (origins a)) (u ∷ []))
-keeps_known es fs k n v a w u e copy l there is =
-    subst (λ (gs : List Entry). Keeps es gs (on_trail (Some (origins a)) (u ∷ []))) (sym is)
-    (keeps_put es k v (on_trail (Some (origins a)) (u ∷ []))
-    (λ K x h.
-    let f : Origin → Bool = λ o. K o (key_use k) in
-    or-false (list_any f (origins v)) ∙ l f
-    ∙ ap (λ (y : Assigned). list_any f (origins y) || list_any f (origins a)) (copy ∙ same_some w x (sym there ∙ h))
-    ∙ each (list_any f (origins x)) (list_any f (origins a))
-    ∙ ap (λ (y : Use). (list_any f (origins x) || false) || (list_any (λ o. K o y) (origins a) || false)) e)
-    (λ K h. absurd (some≢none w (lookup (same.it k) es) there h)))
+    (λ K w h.
+    all K (Some w) h ∙ each (list_any (λ o. K o (key_use k)) (origins w)) (list_any (λ o. K o (key_use k)) (origins a))
+    ∙ ap (λ (y : Use). (list_any (λ o. K o (key_use k)) (origins w) || false) || (list_any (λ o. K o y) (origins a) || false)) e)
+    (λ K h. all K None h ∙ sym (or-false (list_any (λ o. K o (key_use k)) (origins a))) ∙ ap (λ (y : Use). list_any (λ o. K o y) (origins a) || false) e))
   where
+    all : (K : Origin → Use → Bool) (o : Option Assigned) → lookup (same.it k) es ≡ o
+        → list_any (passes K) (entry_seen (k, v)) ≡ (list_any (λ o. K o (key_use k)) (unwrap_or (option_map origins o) []) || list_any (λ o. K o (key_use k)) (origins a))
+    all K o h =
+        or-false (list_any (λ o. K o (key_use k)) (origins v)) ∙ l (λ o. K o (key_use k))
+        ∙ ap (λ (o : Option Assigned). list_any (λ o. K o (key_use k)) (unwrap_or (option_map origins o) []) || list_any (λ o. K o (key_use k)) (origins a)) h
+
     each : (b c : Bool) → (b || c) ≡ ((b || false) || (c || false))
     each true c = refl
     each false true = refl
     each false false = refl
-
-    same_some : (x y : Assigned) → Some x ≡ Some y → x ≡ y
-    same_some x y h = cc
 
 -- ---- uses that may matter
 

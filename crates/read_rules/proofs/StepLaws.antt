@@ -93,3 +93,21 @@ call_uses js ps a at q = ap (λ (us : List Use). other (self_at at) ∷ us) (sym
 pub call_step : (old a s n us os all : List Use) (u : Use) → a ≡ old ++ us → s ≡ a ++ u ∷ [] → n ≡ s ++ os → u ∷ os ≡ all → n ≡ old ++ (us ++ all)
 call_step old a s n us os all u e f g h =
     g ∙ ap (λ (r : List Use). r ++ os) f ∙ append_assoc a (u ∷ []) os ∙ (λ i. e i ++ h i) ∙ append_assoc old us all
+
+-- ---- the procedure that is called, among those that are left
+
+jump_at : (js : List Jump) (x : Word) (i : ℕ) (j : Jump) → j ≡ get_or js i j → i < length js → cond (bytes_eq j.name x) (words j.uses.items) (jump_words (drop (i + 1) js) x) ≡ jump_words (drop i js) x
+jump_at js x i j e l =
+    ap (λ (z : Jump). cond (bytes_eq z.name x) (words z.uses.items) (jump_words (drop (i + 1) js) x)) e ∙ ap (λ (ks : List Jump). jump_words ks x) (sym (drop_more js i j l))
+
+pub jump_here : (js : List Jump) (x : Word) (i : ℕ) (j : Jump) → j ≡ get_or js i j → i < length js → bytes_eq j.name x ≡ true → jump_words (drop i js) x ≡ jump_words js x → words j.uses.items ≡ jump_words js x
+jump_here js x i j e l same inv =
+    ap (λ (b : Bool). cond b (words j.uses.items) (jump_words (drop (i + 1) js) x)) (sym same) ∙ jump_at js x i j e l ∙ inv
+
+pub jump_more : (js : List Jump) (x : Word) (i : ℕ) (j : Jump) → j ≡ get_or js i j → i < length js → bytes_eq j.name x ≡ false → jump_words (drop i js) x ≡ jump_words js x
+    → jump_words (drop (i + 1) js) x ≡ jump_words js x
+jump_more js x i j e l differs inv =
+    ap (λ (b : Bool). cond b (words j.uses.items) (jump_words (drop (i + 1) js) x)) (sym differs) ∙ jump_at js x i j e l ∙ inv
+
+pub jump_nowhere : (js : List Jump) (x : Word) (i : ℕ) → length js ≤ i → jump_words (drop i js) x ≡ jump_words js x → [] ≡ jump_words js x
+jump_nowhere js x i l inv = ap (λ (ks : List Jump). jump_words ks x) (sym (drop_all i js l)) ∙ inv

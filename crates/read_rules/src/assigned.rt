@@ -85,7 +85,6 @@ pub fn copied(path: &Option<Assigned>) -> Result<Option<Assigned>, AllocError>
 /// # Errors
 ///
 /// Only for want of memory.
-#[tactic(auto, using(crate::proofs::PathLaws::like_join, crate::proofs::PathLaws::like_itself))]
 pub fn join(
     first: Option<Assigned>,
     second: Option<Assigned>,
@@ -97,8 +96,15 @@ pub fn join(
         Some(mut all) => match second {
             None => Ok(Some(all)),
             Some(more) => {
-                all.add_all(&more)?;
-                Ok(Some(all))
+                let outcome = all.add_all(&more);
+                drop(more);
+                match outcome {
+                    Ok(()) => Ok(Some(all)),
+                    Err(error) => {
+                        drop(all);
+                        Err(error)
+                    }
+                }
             }
         },
     }

@@ -63,16 +63,11 @@ impl Used {
         ensures { OnOk result (AddsBind pool.now bind.now self.old self.new) }
     {
         match bind {
-            Bind::Among(name, e) => {
+            Bind::Among(name, e) | Bind::Is(name, e) => {
                 self.expr(pool, *e)?;
-                self.bound.add(&name.name)?;
-            }
-            Bind::Is(name, e) => {
-                self.expr(pool, *e)?;
-                self.bound.add(&name.name)?;
+                self.bound.add(&name.name)
             }
         }
-        Ok(())
     }
 
     // All that a `with` names, each seen by those after it.

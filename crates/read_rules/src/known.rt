@@ -59,11 +59,9 @@ impl Walk {
         ensures { OnOk result ((d : MacroSeen) → IsSummary summary.now d → Walks self.old self.new (λ z. put_called (putting d.params (trees_at pool.now args.now) (before_on z.trail)) (seen_from d z.labelled z.trail))) }
     {
         if self.labelled {
-            self.take_ways(alloc, pool, &summary.params, args, &summary.labelled)?;
-            Ok(())
+            self.take_ways(alloc, pool, &summary.params, args, &summary.labelled)
         } else {
-            self.take_ways(alloc, pool, &summary.params, args, &summary.plain)?;
-            Ok(())
+            self.take_ways(alloc, pool, &summary.params, args, &summary.plain)
         }
     }
 }
@@ -127,7 +125,6 @@ impl Known {
         ensures { OnOk result ((ms : List MacroSeen) → AreMacros self.now ms → Goes ways.old ways.new (seen_in_call ms name.now (trees_at pool.now args.now))) }
     {
         self.call_one(alloc, pool, &mut ways.unreached, name, args)?;
-        self.call_one(alloc, pool, &mut ways.reached, name, args)?;
-        Ok(())
+        self.call_one(alloc, pool, &mut ways.reached, name, args)
     }
 }

@@ -113,17 +113,16 @@ impl Names {
     fn add_new(&mut self, name: &Name) -> Result<(), AllocError>
         ensures { OnOk result (Joins self.old self.new (name.now ∷ [])) }
     {
-        let name = name.copied()?;
         let before = self.names.take();
         let mut set = own(self.alloc, before)?;
-        match set.insert(name) {
-            Ok(_) => {
+        match add_copies(&mut set, std::slice::from_ref(name)) {
+            Ok(()) => {
                 self.names = Some(shared(self.alloc, set)?);
                 Ok(())
             }
             Err(error) => {
                 drop(set);
-                Err(error.into())
+                Err(error)
             }
         }
     }

@@ -1,8 +1,10 @@
 //! What is seen in a macro, each use once.
 
-ghost use Rattle.std.specs.Prelude.{◌≡◌, ◌<◌, [], ◌∷◌, Some, length, slice_get, IfOk, OnOk};
+ghost use Rattle.std.specs.Prelude.{◌≡◌, ◌<◌, [], ◌∷◌, Some, unwrap_or, length, slice_get, IfOk, OnOk};
+ghost use Rattle.std.specs.Option.{option_copied, option_map};
 ghost use Rattle.pcal_tree.specs.laws.MacroSpots.{Called, on_trail};
 ghost use Rattle.pcal_tree.proofs.SpotCalls.{SeenLike};
+ghost use Rattle.read_rules.specs.Joins.{Joins};
 ghost use Rattle.read_rules.specs.Pruned.{only, pruned};
 ghost use Rattle.read_rules.specs.WantedIn.{wants};
 ghost use Rattle.read_rules.specs.OnceIn.{Entry, entry_seen, entries_seen, key_use, Keeps};
@@ -74,6 +76,23 @@ fn group_of(alloc: Global, key: &Key, after: &Assigned) -> Result<Group, AllocEr
     })
 }
 
+// What paths to a use have assigned, if there were some, with one path more.
+fn joined(before: Option<&Assigned>, after: &Assigned) -> Result<Assigned, AllocError>
+    ensures { IfOk result (λ a. Joins (unwrap_or (option_map origins (option_copied before.entry)) []) (origins a) (origins after.now)) }
+{
+    let Some(before) = before else {
+        return after.copied();
+    };
+    let mut all = before.copied()?;
+    match all.add_all(after) {
+        Ok(()) => Ok(all),
+        Err(error) => {
+            drop(all);
+            Err(error)
+        }
+    }
+}
+
 impl Kept {
     // No uses.
     fn new(alloc: Global) -> Kept
@@ -89,16 +108,15 @@ impl Kept {
         ensures { OnOk result (Keeps self.old.uses.entries self.new.uses.entries (on_trail (Some (origins after.now)) (use_of one.now ∷ []))) }
     {
         let key = key_of(one)?;
-        match self.uses.get(&key) {
-            None => {
-                self.uses.insert(key, after.copied()?)?;
+        match joined(self.uses.get(&key), after) {
+            Ok(all) => {
+                let before = self.uses.insert(key, all)?;
+                drop(before);
                 Ok(())
             }
-            Some(before) => {
-                let mut all = before.copied()?;
-                all.add_all(after)?;
-                self.uses.insert(key, all)?;
-                Ok(())
+            Err(error) => {
+                drop(key);
+                Err(error)
             }
         }
     }

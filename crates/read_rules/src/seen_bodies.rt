@@ -144,8 +144,7 @@ impl Known {
         ensures { OnOk result ((ms : List MacroSeen) (ps : List Procedure) → Knows self.now ms ps → Branches ways.old ways.new start.now ends.old ends.new (together (λ q. seen_in_body (seen_in_call ms) ps (statements_at pool.now then.now) (unlabelled q)) (λ q. seen_in_body (seen_in_call ms) ps (statements_at pool.now otherwise.now) (unlabelled q)))) }
     {
         self.fork(alloc, pool, ways, start, ends, then)?;
-        self.fork(alloc, pool, ways, start, ends, otherwise)?;
-        Ok(())
+        self.fork(alloc, pool, ways, start, ends, otherwise)
     }
 
     // An `either`.
@@ -254,8 +253,7 @@ impl Known {
     {
         ways.restart(start)?;
         self.body(alloc, pool, ways, body)?;
-        ways.join_ends(ends)?;
-        Ok(())
+        ways.join_ends(ends)
     }
 
     // All branches of a statement, from where these paths lead; their ends are joined to those of the branches before.

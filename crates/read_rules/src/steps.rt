@@ -136,8 +136,7 @@ fn add_jump(
     for i in 0..jumps.len() {
         let jump = &jumps[i];
         if same(&jump.name, name) {
-            add_others(list, &jump.uses, place)?;
-            return Ok(());
+            return add_others(list, &jump.uses, place);
         }
     }
     Ok(())
@@ -166,8 +165,7 @@ fn add_simple(
         Simple::Call(name, args) => {
             add_all_uses(list, pool, args)?;
             add_self(alloc, list, place)?;
-            add_jump(list, jumps, &name.name, place)?;
-            Ok(())
+            add_jump(list, jumps, &name.name, place)
         }
         Simple::Return => Ok(()),
     }

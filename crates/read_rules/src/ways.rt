@@ -118,8 +118,7 @@ impl Ways {
         ensures { OnOk result ((g : Trail → Called) → IsLoop inner.now g → Goes self.old self.new (looping (uses_of uses.now) g)) }
     {
         self.unreached.go_round(alloc, pool, uses, inner)?;
-        self.reached.go_round(alloc, pool, uses, inner)?;
-        Ok(())
+        self.reached.go_round(alloc, pool, uses, inner)
     }
 
     /// From a label on.

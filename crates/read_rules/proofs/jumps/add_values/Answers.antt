@@ -1,8 +1,7 @@
 -- Proves what the initial values of a procedure use.
 use Rattle.std.proofs.lemmas.Result.{on_ok_weaker}
-use Rattle.std.proofs.Common.{List, Bool, [], ◌++◌, sym, ap, subst, ◌∙◌}
+use Rattle.std.proofs.Common.{List, ◌++◌, sym, ap, subst, ◌∙◌}
 use Rattle.tla_tree.specs.Tree.{Word}
-use Rattle.pcal_tree.specs.declared.algorithm.Declaration.{Declaration}
 use Rattle.pcal_tree.specs.InMemory.{declarations_at}
 use Rattle.pcal_tree.specs.Variables.{declared}
 use Rattle.algorithm_limits.specs.DepthsIn.{Hides}

@@ -1,5 +1,5 @@
 -- Proves that the first offence of a process is found that is one of a set.
-use Rattle.std.proofs.Common.{List, [], sym, ap, ◌∙◌, subst}
+use Rattle.std.proofs.Common.{List, sym, ap, ◌∙◌, subst}
 use Rattle.std.specs.List.{flat_map}
 use Rattle.std.proofs.lemmas.Result.{IfOk-weaker}
 use Rattle.tla_tree.specs.Tree.{Word}

@@ -1,5 +1,6 @@
 -- Proves what a call of a procedure uses.
 use Rattle.std.proofs.Common.{ℕ, List, ◌++◌, ◌≡◌, ◌∙◌, map, sym, ap, subst}
+use Rattle.std.proofs.lemmas.Result.{on_ok_weaker}
 use Rattle.tla_tree.specs.Tree.{Name}
 use Rattle.tla_tree.specs.Pool.{trees_at}
 use Rattle.pcal_tree.specs.declared.algorithm.Simple.{Simple}
@@ -12,8 +13,10 @@ use Rattle.read_rules.specs.UsesIn.{uses_of}
 use Rattle.read_rules.proofs.StepLaws.{call_uses, call_step}
 use Rattle.read_rules.proofs.steps.add_simple.Goals as goal
 
-pub returns-in_ok-add_jump-in-Call : goal.returns-in_ok-add_jump-in-Call
-returns-in_ok-add_jump-in-Call c = λ ps a.
+pub returns-in_ok-add_self-in-Call : goal.returns-in_ok-add_self-in-Call
+returns-in_ok-add_self-in-Call c =
+    on_ok_weaker c.add_jump.result
+    (λ done ps a.
     let ts = c.args.pool.now in
     let at = c.args.place in
     let q = c.in-Call.name in
@@ -24,5 +27,5 @@ returns-in_ok-add_jump-in-Call c = λ ps a.
     (others_at at (jump_words js q.word)) (map other (jumps_use ps at (call q (trees_at ts c.in-Call.args.items)))) (other (self_at at))
     (subst (λ (es : List ℕ). uses_of c.add_all_uses.new.list.items ≡ uses_of c.args.list.now.items ++ uses_of_all (trees_at ts es)) c.deref-in-Call.ensures.value c.in_ok-add_all_uses-in-Call.ensures)
     c.in_ok-add_self-in-Call.ensures
-    (c.in_ok-add_jump-in-Call.ensures ∙ ap (λ (n : Name). uses_of c.add_self-in-Call.new.list.items ++ others_at at (jump_words js n.word)) c.name.view_is)
-    (call_uses js ps a at q))
+    (done ∙ ap (λ (n : Name). uses_of c.add_self-in-Call.new.list.items ++ others_at at (jump_words js n.word)) c.name.view_is)
+    (call_uses js ps a at q))) c.add_jump.ensures

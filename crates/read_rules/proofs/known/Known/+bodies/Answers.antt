@@ -40,9 +40,11 @@ body-returns t c = λ ms ps k.
     c.loop-stmt.invariant ms ps k c.loop-stmt.ways (body_done (seen_in_call ms) ps c.args.pool.now c.loop-stmt.ways c.args.stmts.now c.loop-stmt.stmt-index c.loop-stmt-test.false)
 
 pub fork-returns : goal.fork-returns
-fork-returns t c = λ ms ps k.
+fork-returns t c =
+    on_ok_weaker c.join_ends.result
+    (λ done ms ps k.
     branch_branches (λ z. seen_in_body (seen_in_call ms) ps (statements_at c.args.pool.now c.args.body.now) z) c.args.ways.now c.restart.new.self c.body.new.ways c.join_ends.new.self c.args.start.now c.args.ends.now c.join_ends.new.ends
-    c.in_ok-restart.ensures (c.in_ok-body.ensures ms ps k) c.in_ok-join_ends.ensures
+    c.in_ok-restart.ensures (c.in_ok-body.ensures ms ps k) done) c.join_ends.ensures
 
 pub stmt-returns-in-Label : goal.stmt-returns-in-Label
 stmt-returns-in-Label t c = λ ms ps k.
@@ -128,11 +130,13 @@ choice-returns-in-Ok t c = λ ms ps p k.
     (subst (λ (e : Paths). Branches c.take_paths-start.new.self c.both.new.ways start e c.both.new.ends (together f g)) c.none-ends.ensures (c.in-Ok.ensures ms ps k)) c.end.ensures
 
 pub both-returns : goal.both-returns
-both-returns t c = λ ms ps k.
+both-returns t c =
+    on_ok_weaker c.fork-2.result
+    (λ done ms ps k.
     let ts = c.args.pool.now in
     let f : Trail → Called = λ q. seen_in_body (seen_in_call ms) ps (statements_at ts c.args.then.now) (unlabelled q) in
     let g : Trail → Called = λ q. seen_in_body (seen_in_call ms) ps (statements_at ts c.args.otherwise.now) (unlabelled q) in
-    branches_then c.args.ways.now c.fork.new.ways c.fork-2.new.ways c.args.start.now c.args.ends.now c.fork.new.ends c.fork-2.new.ends f g (c.in_ok-fork.ensures ms ps k) (c.in_ok-fork-2.ensures ms ps k)
+    branches_then c.args.ways.now c.fork.new.ways c.fork-2.new.ways c.args.start.now c.args.ends.now c.fork.new.ends c.fork-2.new.ends f g (c.in_ok-fork.ensures ms ps k) (done ms ps k)) c.fork-2.ensures
 
 pub either-returns-in-Ok : goal.either-returns-in-Ok
 either-returns-in-Ok t c = λ ms ps p k.

@@ -2,7 +2,6 @@
 use Rattle.std.proofs.Common.{List, [], ◌∷◌, ◌++◌, Bool, cond, refl, sym, ap, ◌∙◌, append-nil}
 use Rattle.pcal_tree.specs.Algorithm.{Name}
 use Rattle.pcal_tree.specs.Reads.{named}
-use Rattle.read_rules.specs.declared.used.Used.{Used}
 use Rattle.read_rules.proofs.UsedLaws.{skipped_met, name_met}
 use Rattle.read_rules.proofs.used.Used.name.Goals as goal
 
@@ -15,3 +14,9 @@ returns-then-has c =
     let n = named c.args.name.now c.args.place in
     name_met u c.args.name.now c.args.place c.skips.result c.has.result u c.skips.ensures c.if-skips.false c.has.ensures refl refl
     (sym (append-nil u.names.items) ∙ ap (λ (b : Bool). u.names.items ++ cond b [] (n ∷ [])) (sym c.if-has.true))
+
+pub returns : goal.returns
+returns c =
+    let n = named c.args.name.now c.args.place in
+    name_met c.args.self.now c.args.name.now c.args.place c.skips.result c.has.result _ c.skips.ensures c.if-skips.false c.has.ensures refl refl
+    (◌∙◌ {A = List Name} c.in_ok-push.ensures.items (λ i. c.args.self.now.names.items ++ cond (sym c.if-has.false i) [] (record { word = c.in_ok-copied.ensures i; place = c.args.place } ∷ [])))
