@@ -18,7 +18,7 @@ use std::alloc::{AllocError, Global};
 use tla_pool::Pool;
 use tla_token::Refusal;
 
-// The same, by the numbers of globals.
+// The first such variable, by the numbers of globals.
 fn refusal_by(
     alloc: Global,
     pool: &Pool,
