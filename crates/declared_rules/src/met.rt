@@ -91,11 +91,7 @@ impl Met {
         ensures many { OnOk result (length self.new.marks.items ≡ length self.old.marks.items) }
     {
         match bind {
-            Bind::Among(name, e) => {
-                self.name(&name.name)?;
-                self.expr(*e);
-            }
-            Bind::Is(name, e) => {
+            Bind::Among(name, e) | Bind::Is(name, e) => {
                 self.name(&name.name)?;
                 self.expr(*e);
             }

@@ -8,7 +8,7 @@ use Rattle.pcal_tree.specs.declared.algorithm.Simple.{Simple}
 use Rattle.pcal_tree.specs.InMemory.{assignments_at, simple_at}
 use Rattle.pcal_tree.specs.OffencesRebind.{any_name, Calls, jump_rebinds, call_rebinds, assignments_rebind, each_rebinds, one_rebinds}
 use Rattle.declared_rules.specs.Telling.{Adds}
-use Rattle.declared_rules.proofs.TellLaws.{adds_then}
+use Rattle.declared_rules.proofs.TellLaws.{adds_none, adds_then}
 use Rattle.declared_rules.proofs.BindBodyLaws.{jump_adds}
 use Rattle.declared_rules.proofs.bind_walk.Walk.simple.Goals as goal
 
@@ -34,6 +34,9 @@ pub returns-in-Assert : goal.returns-in-Assert
 returns-in-Assert c =
     on_ok_weaker c.expr-in-Assert.result
     (λ a C ps h. subst (λ (x : Simple). Adds c.args.sight.now any_name c.args.self.now c.expr-in-Assert.new.self (λ ms r. one_rebinds ms ps (C ms) (simple_at c.args.pool.now x) r)) (sym c.in-Assert.is) (a any_name)) c.expr-in-Assert.ensures
+
+pub returns-in-Skip : goal.returns-in-Skip
+returns-in-Skip c = λ C ps h. subst (λ (x : Simple). Adds c.args.sight.now any_name c.args.self.now c.args.self.now (λ ms r. one_rebinds ms ps (C ms) (simple_at c.args.pool.now x) r)) (sym c.in-Skip.is) (adds_none c.args.sight.now any_name c.args.self.now)
 
 pub returns-in-Goto : goal.returns-in-Goto
 returns-in-Goto c =
@@ -64,3 +67,6 @@ returns-in_ok-called-in-Call c =
     (adds_then g any_name c.standing-in-Call.new.self c.called.new.self c.exprs.new.self (λ ms r. call_rebinds ms ps c.in-Call.name.word r) (λ ms r. each_rebinds ms ts r)
     (subst (λ (n : Name). Adds g any_name c.standing-in-Call.new.self c.called.new.self (λ ms r. call_rebinds ms ps n.word r)) c.name.view_is (c.in_ok-called-in-Call.ensures P no_trees h.procedures refl))
     (subst (λ (es : List ℕ). Adds g any_name c.called.new.self c.exprs.new.self (λ ms r. each_rebinds ms (trees_at c.args.pool.now es) r)) c.deref-in-Call.ensures.value a)))) c.exprs.ensures
+
+pub returns-in-Return : goal.returns-in-Return
+returns-in-Return c = λ C ps h. subst (λ (x : Simple). Adds c.args.sight.now any_name c.args.self.now c.args.self.now (λ ms r. one_rebinds ms ps (C ms) (simple_at c.args.pool.now x) r)) (sym c.in-Return.is) (adds_none c.args.sight.now any_name c.args.self.now)

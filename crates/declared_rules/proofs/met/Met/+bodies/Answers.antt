@@ -1,5 +1,5 @@
 -- Proves that the names of statements are added, in the order of the text.
-use Rattle.std.proofs.Common.{List, Vec, Global, sym, ap, subst, ◌∙◌, arith}
+use Rattle.std.proofs.Common.{List, Vec, Global, refl, sym, ap, subst, ◌∙◌, arith}
 use Rattle.std.proofs.lemmas.Result.{on_ok_weaker}
 use Rattle.std.specs.List.{flat_map}
 use Rattle.tla_tree.proofs.PoolNumbers.{past_at}
@@ -11,8 +11,11 @@ use Rattle.pcal_tree.proofs.InMemoryEach.{past_either}
 use Rattle.pcal_tree.proofs.StatementHeights.{height, heights, branch_heights, either_height}
 use Rattle.declared_rules.specs.Met.{bound_words, AddsStmt, bind_words, body_words}
 use Rattle.declared_rules.proofs.MetWalks.{adds_as}
-use Rattle.declared_rules.proofs.MetBodies.{simple_adds, if_adds, either_adds, with_adds, while_adds, body_then, body_done, branches_then, branches_over}
+use Rattle.declared_rules.proofs.MetBodies.{label_adds, simple_adds, if_adds, either_adds, with_adds, while_adds, body_then, body_done, branches_then, branches_over}
 use Rattle.declared_rules.proofs.met.Met.+bodies.Goals as goal
+
+pub body-loop-stmt-init : goal.body-loop-stmt-init
+body-loop-stmt-init t c = record { many = refl; rest = λ ts k g. g }
 
 pub body-stmt-requires : goal.body-stmt-requires
 body-stmt-requires t c =
@@ -30,6 +33,12 @@ body-loop-stmt-preserved t c = record {
 
 pub body-returns-clause-adds : goal.body-returns-clause-adds
 body-returns-clause-adds t c = λ ts. c.loop-stmt.invariant.rest ts c.loop-stmt.self (body_done ts c.loop-stmt.self c.args.stmts.now c.loop-stmt.stmt-index c.loop-stmt-test.false)
+
+pub body-returns-clause-many : goal.body-returns-clause-many
+body-returns-clause-many t c = c.loop-stmt.invariant.many
+
+pub branches-loop-i-init : goal.branches-loop-i-init
+branches-loop-i-init t c = record { many = refl; rest = λ ts k g. g }
 
 pub branches-body-requires : goal.branches-body-requires
 branches-body-requires t c =
@@ -49,11 +58,21 @@ branches-loop-i-preserved t c = record {
 pub branches-returns-clause-adds : goal.branches-returns-clause-adds
 branches-returns-clause-adds t c = λ ts. c.loop-i.invariant.rest ts c.loop-i.self (branches_over ts c.loop-i.self c.args.list.now c.loop-i.i c.loop-i-test.false)
 
+pub branches-returns-clause-many : goal.branches-returns-clause-many
+branches-returns-clause-many t c = c.loop-i.invariant.many
+
 pub stmt-branches-requires : goal.stmt-branches-requires
 stmt-branches-requires t c = (
   omega (arith, either_height c.in-Either.field-0 c.in-Either.list, ap branch_heights c.deref-in-Either.ensures.value, ap height c.in-Either.is, c.decreases),
   omega (arith, past_either c.in-Either.field-0 c.in-Either.list, ap past_branches c.deref-in-Either.ensures.value, ap past_stmt c.in-Either.is, c.requires),
 )
+
+pub stmt-returns-in-Label-clause-adds : goal.stmt-returns-in-Label-clause-adds
+stmt-returns-in-Label-clause-adds t c = λ ts.
+    subst (λ (z : Stmt). AddsStmt ts z c.args.self.now c.args.self.now) (sym c.in-Label.is) (label_adds ts c.args.self.now c.in-Label.field-0 c.in-Label.field-1)
+
+pub stmt-returns-in-Label-clause-many : goal.stmt-returns-in-Label-clause-many
+stmt-returns-in-Label-clause-many t c = refl
 
 pub stmt-returns-in-Simple-clause-adds : goal.stmt-returns-in-Simple-clause-adds
 stmt-returns-in-Simple-clause-adds t c = λ ts.
