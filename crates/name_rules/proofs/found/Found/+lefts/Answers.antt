@@ -7,7 +7,7 @@ use Rattle.pcal_tree.proofs.InMemoryEach.{all_below_past}
 use Rattle.tla_tree.proofs.PoolNumbers.{AllBelow-more}
 use Rattle.pcal_tree.specs.OffencesNames.{root_offences, in_each, in_left}
 use Rattle.name_rules.specs.Finding.{Tells}
-use Rattle.name_rules.proofs.TreeLaws.{left_with}
+use Rattle.name_rules.proofs.TreeLaws.{left_alone, left_with}
 use Rattle.name_rules.proofs.found.Found.+lefts.Goals as goal
 
 pub exprs-requires : goal.exprs-requires
@@ -26,3 +26,9 @@ returns-in_ok-exprs t c =
     (subst (λ (k : Entry). Tells c.args.self.now c.root.new.self (λ r. root_offences r k.form k.place)) c.node.view_is c.in_ok-root.ensures)
     (subst (λ (is : List ℕ). Tells c.root.new.self c.left.new.self (in_left (at c.args.pool.now (slice_index_or is 0 0)))) parts c.in_ok-left.ensures)
     (subst (λ (is : List ℕ). Tells c.left.new.self c.exprs.new.self (in_each (trees_at c.args.pool.now (drop 1 is)))) parts c.in_ok-exprs.ensures)
+
+pub returns-else-parts-gt0 : goal.returns-else-parts-gt0
+returns-else-parts-gt0 t c =
+    left_alone c.args.self.now c.root.new.self c.node-node.result.now c.args.pool.now c.args.e c.node-node.ensures.tree
+    (subst (λ (is : List ℕ). length is ≤ 0) (c.deref-parts.ensures.value ∙ ap (λ (n : Entry). n.parts) c.node.view_is) c.if-parts-gt0.false)
+    (subst (λ (k : Entry). Tells c.args.self.now c.root.new.self (λ r. root_offences r k.form k.place)) c.node.view_is c.in_ok-root.ensures)
