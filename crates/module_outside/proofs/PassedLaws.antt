@@ -1,5 +1,6 @@
 -- Names of units that are passed on unread, token by token.
-use Rattle.std.proofs.Common.{◌≡◌, ℕ, ◌+◌, ◌≤◌, Bool, true, false, List, [], ◌∷◌, ◌++◌, length, Option, Some, None, refl, sym, ap, ◌∙◌, append-nil, append_assoc}
+use Rattle.std.proofs.Common.{◌≡◌, ℕ, ◌+◌, ◌≤◌, Bool, true, false, List, [], ◌∷◌, ◌++◌, length, Option, Some, None, refl, sym, ap, ◌∙◌, append-nil, append_assoc, cond, codes}
+use Rattle.tla_token.specs.Signs.{is_among}
 use Rattle.tla_token.specs.declared.token.Tokens.{Tokens}
 use Rattle.tla_tree.specs.Tree.{Word}
 use Rattle.tla_tree.specs.Lexical.{TokenView, Token}
@@ -9,7 +10,7 @@ use Rattle.module_tree.specs.Outside.{identifiers, first_one, is_define, title_a
 use Rattle.expr_nodes.specs.Ahead.{ahead}
 use Rattle.expr_nodes.proofs.AheadLemmas.{ahead_tail}
 use Rattle.module_outside.specs.Fronts.{front_mark}
-use Rattle.module_outside.specs.Passing.{identifier_in, front_identifier, with_one}
+use Rattle.module_outside.specs.Passing.{identifier_in, front_identifier, with_one, passed_names}
 use Rattle.module_outside.proofs.FrontLaws.{ahead_end}
 
 one_there : (t : Token) (ts : List Token) (k : TokenView) → t.kind ≡ k → identifiers (t ∷ ts) ≡ with_one [] (identifier_in k) ++ identifiers ts
@@ -69,3 +70,20 @@ has_none v b xs h t z = z ∙ sym (untitled (tail (ahead v 0)) (ap (front_mark t
 
 pub names_listed : (v : Tokens) (xs : List Word) → xs ≡ identifiers (ahead v 1) → xs ≡ identifiers (tail (ahead v 0))
 names_listed v xs e = e ∙ ap identifiers (ahead_tail v 0)
+
+-- by the first word of a unit
+module _ (w : Word) (ts : List Token) (xs : List Word) where
+  abbrev titles : Bool
+  titles = is_among (codes "ASSUME" ∷ codes "ASSUMPTION" ∷ codes "AXIOM" ∷ codes "THEOREM" ∷ []) w
+
+  abbrev lists : Bool
+  lists = is_among (codes "CONSTANT" ∷ codes "CONSTANTS" ∷ codes "RECURSIVE" ∷ []) w
+
+  pub titled_names : true ≡ titles → xs ≡ title_at (tail ts) → xs ≡ passed_names w ts
+  titled_names t h = h ∙ ap (λ (b : Bool). cond b (title_at (tail ts)) (cond lists (identifiers (tail ts)) (first_one (identifiers ts)))) t
+
+  pub listed_names : false ≡ titles → true ≡ lists → xs ≡ identifiers (tail ts) → xs ≡ passed_names w ts
+  listed_names t l h = h ∙ (λ i. cond (t i) (title_at (tail ts)) (cond (l i) (identifiers (tail ts)) (first_one (identifiers ts))))
+
+  pub other_names : false ≡ titles → false ≡ lists → xs ≡ first_one (identifiers ts) → xs ≡ passed_names w ts
+  other_names t l h = h ∙ (λ i. cond (t i) (title_at (tail ts)) (cond (l i) (identifiers (tail ts)) (first_one (identifiers ts))))

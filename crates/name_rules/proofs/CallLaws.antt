@@ -1,5 +1,5 @@
 -- What calls offend, by what is kept of macros and procedures.
-use Rattle.std.proofs.Common.{◌≡◌, ℕ, zero, suc, ◌+◌, ◌-◌, ◌<◌, ◌≤◌, Bool, true, false, ◌&&◌, nat_lt, List, [], ◌∷◌, ◌++◌, length, drop, get_or, cond, bytes_eq, Option, Some, None, refl, sym, ap, ◌∙◌, subst, arith, lt-ltb, true≢false}
+use Rattle.std.proofs.Common.{◌≡◌, ℕ, zero, suc, ◌+◌, ◌-◌, ◌<◌, ◌≤◌, Bool, true, false, ◌&&◌, nat_lt, List, [], ◌∷◌, ◌++◌, length, drop, get_or, slice_index_or, cond, bytes_eq, Option, Some, None, refl, sym, ap, ◌∙◌, subst, arith, lt-ltb, true≢false}
 use Rattle.std.specs.Prelude.{◌==◌}
 use Rattle.std.specs.List.{flat_map}
 use Rattle.std.specs.Map.{lookup}
@@ -45,12 +45,12 @@ plain_form (strict apply) o e = absurd (true≢false e)
 plain_form (strict (select a)) o e = absurd (true≢false e)
 plain_form m o e = refl
 
-pub deeper_root : (n : Entry) (ts : List Tree) (e d : ℕ) → at ts e ≡ tree_in ts n → (is_subscripted n.form && nat_lt 0 (length n.parts)) ≡ true → d ≡ get_or n.parts 0 d → root (at ts d) ≡ root (at ts e)
-deeper_root n ts e d is h g = some n.parts h g ∙ ap root (sym is)
+pub deeper_root : (n : Entry) (ts : List Tree) (e : ℕ) → at ts e ≡ tree_in ts n → (is_subscripted n.form && nat_lt 0 (length n.parts)) ≡ true → root (at ts (slice_index_or n.parts 0 0)) ≡ root (at ts e)
+deeper_root n ts e is h = some n.parts h ∙ ap root (sym is)
   where
-    some : (ids : List ℕ) → (is_subscripted n.form && nat_lt 0 (length ids)) ≡ true → d ≡ get_or ids 0 d → root (at ts d) ≡ root (node n.form n.place (trees_at ts ids))
-    some [] h g = absurd (true≢false (sym (and_parts (is_subscripted n.form) (nat_lt 0 0) h).1))
-    some (i ∷ ids) h g = ap (λ (z : ℕ). root (at ts z)) g ∙ sym (subscripted_form n.form (root (at ts i)) (and_parts (is_subscripted n.form) (nat_lt 0 (length (i ∷ ids))) h).0)
+    some : (ids : List ℕ) → (is_subscripted n.form && nat_lt 0 (length ids)) ≡ true → root (at ts (slice_index_or ids 0 0)) ≡ root (node n.form n.place (trees_at ts ids))
+    some [] h = absurd (true≢false (sym (and_parts (is_subscripted n.form) (nat_lt 0 0) h).1))
+    some (i ∷ ids) h = sym (subscripted_form n.form (root (at ts i)) (and_parts (is_subscripted n.form) (nat_lt 0 (length (i ∷ ids))) h).0)
 
 pub flat_root : (n : Entry) (ts : List Tree) (e : ℕ) → at ts e ≡ tree_in ts n → (is_subscripted n.form && nat_lt 0 (length n.parts)) ≡ false → root_form n.form None ≡ root (at ts e)
 flat_root n ts e is h = some n.parts h ∙ ap root (sym is)

@@ -41,3 +41,12 @@ returns-in-None-clause-value c v s =
       body = at c.args.pool.now ((ap (λ (d : ReadDefinition). d.body) c.found.view_is) i);
       outside = true;
     })))
+
+pub returns-in_ok-define-in-Some-clause-within : goal.returns-in_ok-define-in-Some-clause-within
+returns-in_ok-define-in-Some-clause-within c = c.requires
+
+pub returns-in-None-clause-within : goal.returns-in-None-clause-within
+returns-in-None-clause-within c = tt
+
+pub returns-in-None-clause-sees : goal.returns-in-None-clause-sees
+returns-in-None-clause-sees c v s = s

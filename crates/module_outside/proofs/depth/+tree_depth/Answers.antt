@@ -1,6 +1,7 @@
 -- Proves what is asked of the functions that measure an expression.
 use Rattle.std.proofs.Common.{ℕ, ◌+◌, ◌≤◌, ◌++◌, true, false, List, [], length, take, slice_index_or, Option, IfSome, sym, ap, ◌∙◌, subst, refl, arith}
 use Rattle.std.proofs.lemmas.List.{get_or_default}
+use Rattle.std.proofs.Math.Seq.{take-append_seam}
 use Rattle.tla_tree.specs.Tree.{Word, seen_names}
 use Rattle.tla_tree.specs.Pool.{Entry, trees_at}
 use Rattle.tla_tree.proofs.PoolNumbers.{AllBelow-at}
@@ -10,11 +11,11 @@ use Rattle.tla_value.specs.StandardModules.{is_member}
 use Rattle.module_tree.specs.Outside.{form_reads}
 use Rattle.outside_reading.specs.TreeDepth.{trees_depth}
 use Rattle.algorithm_limits.specs.DepthsIn.{seen_by, seen_next, Hides}
-use Rattle.algorithm_limits.proofs.BoundLemmas.{hides_then, hides_as, seen_more}
+use Rattle.algorithm_limits.proofs.BoundLemmas.{hides_none, hides_then, hides_as, seen_first, seen_more}
 use Rattle.algorithm_limits.proofs.Greater.{max_is}
 use Rattle.module_outside.specs.SightIn.{Binds}
 use Rattle.module_outside.proofs.SightLaws.{binds_more, used_seen}
-use Rattle.module_outside.proofs.DepthLaws.{part_more, part_none, node_depth}
+use Rattle.module_outside.proofs.DepthLaws.{part_more, part_none, parts_first, parts_end, node_depth}
 use Rattle.module_outside.proofs.depth.+tree_depth.Goals as goal
 
 pub parts_depth-tree_depth-requires : goal.parts_depth-tree_depth-requires
@@ -66,3 +67,38 @@ tree_depth-returns-clause-depth t c v bs s b =
     (c.use_depth.ensures ∙ used_seen c.args.sight.now v s m ∙ ap (used (depths [] v.earlier)) f)
     (c.in_ok-deepest.ensures.depth v bs s (subst (λ (hs : List Word). Binds hs bs) (sym kept) b)
     ∙ (λ i. trees_depth v (depths [] v.earlier) bs (seen_names (f i)) (is_member (f i)) (trees_at c.args.pool.now ((c.deref-parts.ensures.value ∙ ap (λ (n : Entry). n.parts) c.node.view_is) i))))
+
+pub parts_depth-loop-i-init : goal.parts_depth-loop-i-init
+parts_depth-loop-i-init t c = record {
+  small = omega arith;
+  bound = hides_as c.args.bound.now c.args.bound.now [] _ (sym (seen_first (form_of c.args.form.now))) (hides_none c.args.bound.now);
+  depth = λ v bs s b. parts_first _;
+}
+
+pub parts_depth-overflow_add-depth : goal.parts_depth-overflow_add-depth
+parts_depth-overflow_add-depth t c = let h = subst (λ (o : Option ℕ). IfSome o (λ n. n ≤ 500)) c.in-Some.is c.in_ok-depth.ensures.small in omega (arith, h)
+
+pub parts_depth-returns-in-None-clause-kept : goal.parts_depth-returns-in-None-clause-kept
+parts_depth-returns-in-None-clause-kept t c =
+    ap (take (length c.args.bound.now)) (c.in_ok-depth.ensures.kept ∙ c.loop-i.invariant.bound.behind) ∙ take-append_seam c.args.bound.now c.loop-i.invariant.bound.more
+
+pub parts_depth-returns-clause-depth : goal.parts_depth-returns-clause-depth
+parts_depth-returns-clause-depth t c v bs s b =
+    parts_end v bs c.args.pool.now (form_of c.args.form.now) c.args.parts.now c.loop-i.i c.loop-i.deepest _ c.loop-i-test.false (c.loop-i.invariant.depth v bs s b)
+
+pub parts_depth-returns-clause-kept : goal.parts_depth-returns-clause-kept
+parts_depth-returns-clause-kept t c = ap (take (length c.args.bound.now)) c.loop-i.invariant.bound.behind ∙ take-append_seam c.args.bound.now c.loop-i.invariant.bound.more
+
+pub tree_depth-returns-then-not-reads-clause-small : goal.tree_depth-returns-then-not-reads-clause-small
+tree_depth-returns-then-not-reads-clause-small t c = tt
+
+pub tree_depth-returns-then-not-reads-clause-kept : goal.tree_depth-returns-then-not-reads-clause-kept
+tree_depth-returns-then-not-reads-clause-kept t c = c.truncate.ensures ∙ ap (λ (k : ℕ). take k c.form_reads.new.bound) c.len-around.ensures ∙ c.in_ok-reads.ensures.kept
+
+pub tree_depth-returns-clause-small : goal.tree_depth-returns-clause-small
+tree_depth-returns-clause-small t c = c.with_parts.ensures.small
+
+pub tree_depth-returns-clause-kept : goal.tree_depth-returns-clause-kept
+tree_depth-returns-clause-kept t c =
+    let kept = c.truncate.ensures ∙ ap (λ (k : ℕ). take k c.form_reads.new.bound) c.len-around.ensures ∙ c.in_ok-reads.ensures.kept in
+    c.truncate-2.ensures ∙ ap (λ (k : ℕ). take k c.parts_depth.new.bound) (c.len-around.ensures ∙ ap (λ (ws : List Word). length ws) (sym kept)) ∙ c.in_ok-deepest.ensures.kept ∙ kept

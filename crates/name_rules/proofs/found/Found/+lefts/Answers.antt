@@ -1,13 +1,13 @@
 -- Proves what is asked of the function that goes through a left side.
 use Rattle.std.proofs.Common.{ℕ, ◌≤◌, ◌<◌, List, length, drop, slice_index_or, sym, ap, ◌∙◌, subst, arith}
 use Rattle.std.proofs.lemmas.List.{get_or_default}
-use Rattle.tla_tree.specs.Pool.{Entry, at, trees_at}
+use Rattle.tla_tree.specs.Pool.{Entry, at, trees_at, AllBelow}
 use Rattle.pcal_tree.specs.InMemory.{past_numbers}
 use Rattle.pcal_tree.proofs.InMemoryEach.{all_below_past}
-use Rattle.tla_tree.proofs.PoolNumbers.{AllBelow-more}
+use Rattle.tla_tree.proofs.PoolNumbers.{AllBelow-at, AllBelow-more}
 use Rattle.pcal_tree.specs.OffencesNames.{root_offences, in_each, in_left}
 use Rattle.name_rules.specs.Finding.{Tells}
-use Rattle.name_rules.proofs.TreeLaws.{left_with}
+use Rattle.name_rules.proofs.TreeLaws.{left_alone, left_with}
 use Rattle.name_rules.proofs.found.Found.+lefts.Goals as goal
 
 pub exprs-requires : goal.exprs-requires
@@ -26,3 +26,15 @@ returns-in_ok-exprs t c =
     (subst (λ (k : Entry). Tells c.args.self.now c.root.new.self (λ r. root_offences r k.form k.place)) c.node.view_is c.in_ok-root.ensures)
     (subst (λ (is : List ℕ). Tells c.root.new.self c.left.new.self (in_left (at c.args.pool.now (slice_index_or is 0 0)))) parts c.in_ok-left.ensures)
     (subst (λ (is : List ℕ). Tells c.left.new.self c.exprs.new.self (in_each (trees_at c.args.pool.now (drop 1 is)))) parts c.in_ok-exprs.ensures)
+
+pub returns-else-parts-gt0 : goal.returns-else-parts-gt0
+returns-else-parts-gt0 t c =
+    left_alone c.args.self.now c.root.new.self c.node-node.result.now c.args.pool.now c.args.e c.node-node.ensures.tree
+    (subst (λ (is : List ℕ). length is ≤ 0) (c.deref-parts.ensures.value ∙ ap (λ (n : Entry). n.parts) c.node.view_is) c.if-parts-gt0.false)
+    (subst (λ (k : Entry). Tells c.args.self.now c.root.new.self (λ r. root_offences r k.form k.place)) c.node.view_is c.in_ok-root.ensures)
+
+pub left-requires : goal.left-requires
+left-requires t c =
+    let parts = c.deref-parts.ensures.value ∙ ap (λ (n : Entry). n.parts) c.node.view_is in
+    let below = AllBelow-at c.args.e c.deref-parts.result.now 0 0 (subst (λ (is : List ℕ). AllBelow c.args.e is) (sym parts) c.node-node.ensures.older) c.if-parts-gt0.true in
+    (omega (arith, below, c.decreases), omega (arith, below, c.requires))

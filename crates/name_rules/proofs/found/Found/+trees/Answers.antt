@@ -1,14 +1,15 @@
 -- Proves what is asked of the functions that go through an expression.
-use Rattle.std.proofs.Common.{ℕ, List, length, take, slice_index_or, ap, ◌∙◌, subst, refl, arith}
+use Rattle.std.proofs.Common.{ℕ, List, length, take, slice_index_or, sym, ap, ◌∙◌, subst, refl, arith}
 use Rattle.std.proofs.lemmas.List.{get_or_default}
 use Rattle.tla_tree.specs.Tree.{Form, seen_names}
-use Rattle.tla_tree.specs.Pool.{Entry, trees_at}
+use Rattle.tla_tree.specs.Shapes.{Shaped}
+use Rattle.tla_tree.specs.Pool.{Entry, trees_at, AllBelow}
 use Rattle.tla_tree.proofs.PoolNumbers.{AllBelow-at}
 use Rattle.tla_value.specs.StandardModules.{is_member}
 use Rattle.tla_pool.specs.FormOf.{form_of}
 use Rattle.pcal_tree.specs.OffencesNames.{form_offences, in_parts}
 use Rattle.name_rules.specs.Finding.{Tells, TellsParts}
-use Rattle.name_rules.proofs.TreeLaws.{parts_more, parts_cut, node_met}
+use Rattle.name_rules.proofs.TreeLaws.{parts_start, parts_more, parts_cut, parts_done, node_met}
 use Rattle.name_rules.proofs.found.Found.+trees.Goals as goal
 
 pub expr-returns : goal.expr-returns
@@ -41,3 +42,23 @@ parts-returns-then-ends_in_literal t c =
     parts_cut c.args.self.now c.loop-i.self c.expr.new.self (form_of c.args.form.now) c.args.pool.now c.args.parts.now c.loop-i.i e c.is_last_of_member-right.result
     (get_or_default c.args.parts.now c.loop-i.i 0 e c.loop-i-test.true) c.loop-i-test.true
     c.requires.shaped c.is_last_of_member-right.ensures c.in_ok-expr.ensures (c.ends_in_literal.ensures c.if-ends_in_literal.true) c.loop-i.invariant
+
+pub parts-loop-i-init : goal.parts-loop-i-init
+parts-loop-i-init t c = parts_start c.args.self.now (form_of c.args.form.now) c.args.pool.now c.args.parts.now
+
+pub parts-returns : goal.parts-returns
+parts-returns t c = parts_done c.args.self.now c.loop-i.self (form_of c.args.form.now) c.args.pool.now c.args.parts.now c.loop-i.i c.loop-i-test.false c.loop-i.invariant
+
+pub expr-parts-requires : goal.expr-parts-requires
+expr-parts-requires t c =
+    let parts = c.deref-parts.ensures.value ∙ ap (λ (n : Entry). n.parts) c.node.view_is in
+    (
+      omega (arith, c.decreases),
+      (
+        subst (λ (is : List ℕ). AllBelow c.args.e is) (sym parts) c.node-node.ensures.older,
+        (
+          omega (arith, c.requires),
+          subst (λ (is : List ℕ). Shaped (form_of c.node.inside.form) (length is)) (sym c.deref-parts.ensures.value) (subst (λ (k : Entry). Shaped k.form (length k.parts)) (sym c.node.view_is) c.node-node.ensures.shaped),
+        ),
+      ),
+    )
