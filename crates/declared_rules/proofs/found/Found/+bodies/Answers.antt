@@ -1,5 +1,5 @@
 -- Proves that the names of statements are looked at, in the order of the text.
-use Rattle.std.proofs.Common.{List, [], ◌∷◌, map, Vec, Global, sym, ap, subst, ◌∙◌, arith}
+use Rattle.std.proofs.Common.{List, [], ◌∷◌, map, Vec, Global, refl, sym, ap, subst, ◌∙◌, arith}
 use Rattle.std.proofs.lemmas.Result.{on_ok_weaker}
 use Rattle.std.specs.List.{flat_map}
 use Rattle.tla_tree.proofs.PoolNumbers.{past_at}
@@ -13,6 +13,9 @@ use Rattle.declared_rules.specs.Finding.{AddsStmt}
 use Rattle.declared_rules.proofs.JoinLaws.{adds_as}
 use Rattle.declared_rules.proofs.BodyLaws.{label_adds, simple_adds, if_adds, either_adds, with_adds, while_adds, body_then, body_done, branches_then, branches_over}
 use Rattle.declared_rules.proofs.found.Found.+bodies.Goals as goal
+
+pub body-loop-stmt-init : goal.body-loop-stmt-init
+body-loop-stmt-init t c = record { many = refl; rest = λ ts k g. g }
 
 pub body-stmt-requires : goal.body-stmt-requires
 body-stmt-requires t c =
@@ -31,6 +34,12 @@ body-loop-stmt-preserved t c = record {
 pub body-returns-clause-adds : goal.body-returns-clause-adds
 body-returns-clause-adds t c = λ ts. c.loop-stmt.invariant.rest ts c.loop-stmt.self (body_done ts c.loop-stmt.self c.args.stmts.now c.loop-stmt.stmt-index c.loop-stmt-test.false)
 
+pub body-returns-clause-many : goal.body-returns-clause-many
+body-returns-clause-many t c = c.loop-stmt.invariant.many
+
+pub branches-loop-i-init : goal.branches-loop-i-init
+branches-loop-i-init t c = record { many = refl; rest = λ ts k g. g }
+
 pub branches-body-requires : goal.branches-body-requires
 branches-body-requires t c =
     let less = past_at (λ (b : Vec Stmt Global). heights b.items) c.args.list.now c.loop-i.i c.index-list-i.result c.index-list-i.is c.loop-i-test.true in
@@ -48,6 +57,9 @@ branches-loop-i-preserved t c = record {
 
 pub branches-returns-clause-adds : goal.branches-returns-clause-adds
 branches-returns-clause-adds t c = λ ts. c.loop-i.invariant.rest ts c.loop-i.self (branches_over ts c.loop-i.self c.args.list.now c.loop-i.i c.loop-i-test.false)
+
+pub branches-returns-clause-many : goal.branches-returns-clause-many
+branches-returns-clause-many t c = c.loop-i.invariant.many
 
 pub stmt-branches-requires : goal.stmt-branches-requires
 stmt-branches-requires t c = (
