@@ -1,9 +1,11 @@
 -- Proves what is asked of the functions that measure an expression.
 use Rattle.std.proofs.Common.{ℕ, ◌+◌, ◌≤◌, ◌++◌, true, false, List, [], length, take, slice_index_or, Option, IfSome, sym, ap, ◌∙◌, subst, refl, arith}
 use Rattle.std.proofs.lemmas.List.{get_or_default}
+use Rattle.std.proofs.lemmas.Result.{IfOk-from_err}
 use Rattle.std.proofs.Math.Seq.{take-append_seam}
 use Rattle.tla_tree.specs.Tree.{Word, seen_names}
-use Rattle.tla_tree.specs.Pool.{Entry, trees_at}
+use Rattle.tla_tree.specs.Shapes.{Shaped}
+use Rattle.tla_tree.specs.Pool.{Entry, trees_at, AllBelow}
 use Rattle.tla_tree.proofs.PoolNumbers.{AllBelow-at}
 use Rattle.tla_pool.specs.FormOf.{form_of}
 use Rattle.tla_value.specs.DefinitionNesting.{depths, used}
@@ -102,3 +104,47 @@ pub tree_depth-returns-clause-kept : goal.tree_depth-returns-clause-kept
 tree_depth-returns-clause-kept t c =
     let kept = c.truncate.ensures ∙ ap (λ (k : ℕ). take k c.form_reads.new.bound) c.len-around.ensures ∙ c.in_ok-reads.ensures.kept in
     c.truncate-2.ensures ∙ ap (λ (k : ℕ). take k c.parts_depth.new.bound) (c.len-around.ensures ∙ ap (λ (ws : List Word). length ws) (sym kept)) ∙ c.in_ok-deepest.ensures.kept ∙ kept
+
+pub tree_depth-parts_depth-requires : goal.tree_depth-parts_depth-requires
+tree_depth-parts_depth-requires t c =
+    let parts = c.deref-parts.ensures.value ∙ ap (λ (n : Entry). n.parts) c.node.view_is in
+    (
+      omega (arith, c.decreases),
+      (
+        subst (λ (is : List ℕ). AllBelow c.args.e is) (sym parts) c.node-node.ensures.older,
+        (
+          omega (arith, c.requires),
+          subst (λ (is : List ℕ). Shaped (form_of c.node.inside.form) (length is)) (sym c.deref-parts.ensures.value) (subst (λ (k : Entry). Shaped k.form (length k.parts)) (sym c.node.view_is) c.node-node.ensures.shaped),
+        ),
+      ),
+    )
+
+pub parts_depth-returns-in_err-depth-clause-depth : goal.parts_depth-returns-in_err-depth-clause-depth
+parts_depth-returns-in_err-depth-clause-depth t c = IfOk-from_err c.from_residual.result _ c.from_residual.ensures.0
+
+pub parts_depth-returns-in_err-depth-clause-kept : goal.parts_depth-returns-in_err-depth-clause-kept
+parts_depth-returns-in_err-depth-clause-kept t c = IfOk-from_err c.from_residual.result _ c.from_residual.ensures.0
+
+pub parts_depth-returns-in_err-add_next-clause-depth : goal.parts_depth-returns-in_err-add_next-clause-depth
+parts_depth-returns-in_err-add_next-clause-depth t c = IfOk-from_err c.from_residual-in_err-add_next.result _ c.from_residual-in_err-add_next.ensures.0
+
+pub parts_depth-returns-in_err-add_next-clause-kept : goal.parts_depth-returns-in_err-add_next-clause-kept
+parts_depth-returns-in_err-add_next-clause-kept t c = IfOk-from_err c.from_residual-in_err-add_next.result _ c.from_residual-in_err-add_next.ensures.0
+
+pub tree_depth-returns-in_err-reads-clause-depth : goal.tree_depth-returns-in_err-reads-clause-depth
+tree_depth-returns-in_err-reads-clause-depth t c = IfOk-from_err c.from_residual.result _ c.from_residual.ensures.0
+
+pub tree_depth-returns-in_err-reads-clause-small : goal.tree_depth-returns-in_err-reads-clause-small
+tree_depth-returns-in_err-reads-clause-small t c = IfOk-from_err c.from_residual.result _ c.from_residual.ensures.0
+
+pub tree_depth-returns-in_err-reads-clause-kept : goal.tree_depth-returns-in_err-reads-clause-kept
+tree_depth-returns-in_err-reads-clause-kept t c = IfOk-from_err c.from_residual.result _ c.from_residual.ensures.0
+
+pub tree_depth-returns-in_err-deepest-clause-depth : goal.tree_depth-returns-in_err-deepest-clause-depth
+tree_depth-returns-in_err-deepest-clause-depth t c = IfOk-from_err c.from_residual-in_err-deepest.result _ c.from_residual-in_err-deepest.ensures.0
+
+pub tree_depth-returns-in_err-deepest-clause-small : goal.tree_depth-returns-in_err-deepest-clause-small
+tree_depth-returns-in_err-deepest-clause-small t c = IfOk-from_err c.from_residual-in_err-deepest.result _ c.from_residual-in_err-deepest.ensures.0
+
+pub tree_depth-returns-in_err-deepest-clause-kept : goal.tree_depth-returns-in_err-deepest-clause-kept
+tree_depth-returns-in_err-deepest-clause-kept t c = IfOk-from_err c.from_residual-in_err-deepest.result _ c.from_residual-in_err-deepest.ensures.0

@@ -1,5 +1,6 @@
 -- Names are read as far as there are commas.
 use Rattle.std.proofs.Common.{◌+◌, List, ap, ◌∙◌, arith}
+use Rattle.std.proofs.lemmas.Result.{IfOk-from_err}
 use Rattle.outside_reading.specs.PlainUnits.{names_in}
 use Rattle.expr_nodes.specs.Ahead.{ahead}
 use Rattle.tla_tree.specs.Tree.{Name}
@@ -39,3 +40,30 @@ loop-at-init c = record {
 
 pub returns-then-not-is_mark_at-clause-within : goal.returns-then-not-is_mark_at-clause-within
 returns-then-not-is_mark_at-clause-within c = (let h = c.loop-at-test.true in let k = c.len.ensures in omega (arith, h, k))
+
+pub returns-in_err-name-clause-value : goal.returns-in_err-name-clause-value
+returns-in_err-name-clause-value c = IfOk-from_err c.from_residual.result _ c.from_residual.ensures.0
+
+pub returns-in_err-name-clause-within : goal.returns-in_err-name-clause-within
+returns-in_err-name-clause-within c = IfOk-from_err c.from_residual.result _ c.from_residual.ensures.0
+
+pub returns-in_err-push-in-Some-clause-value : goal.returns-in_err-push-in-Some-clause-value
+returns-in_err-push-in-Some-clause-value c = IfOk-from_err c.from_residual-in_err-push-in-Some.result _ c.from_residual-in_err-push-in-Some.ensures.0
+
+pub returns-in_err-push-in-Some-clause-within : goal.returns-in_err-push-in-Some-clause-within
+returns-in_err-push-in-Some-clause-within c = IfOk-from_err c.from_residual-in_err-push-in-Some.result _ c.from_residual-in_err-push-in-Some.ensures.0
+
+pub returns-in-None-clause-within : goal.returns-in-None-clause-within
+returns-in-None-clause-within c = tt
+
+pub returns-then-not-is_right_at-clause-within : goal.returns-then-not-is_right_at-clause-within
+returns-then-not-is_right_at-clause-within c = tt
+
+pub returns-clause-within : goal.returns-clause-within
+returns-clause-within c = tt
+
+pub name_at-requires : goal.name_at-requires
+name_at-requires c = (let h = c.loop-at-test.true in let k = c.len.ensures in omega (arith, h, k))
+
+pub loop-at-smaller : goal.loop-at-smaller
+loop-at-smaller c = (let h = c.loop-at-test.true in let k = c.len.ensures in omega (arith, h, k))
