@@ -107,8 +107,7 @@ tree_depth-returns-clause-kept t c =
 
 pub tree_depth-parts_depth-requires : goal.tree_depth-parts_depth-requires
 tree_depth-parts_depth-requires t c =
-    let parts = c.deref-parts.ensures.value ∙ ap (λ (n : Entry). n.parts) c.node.view_is in
-    (
+    let parts = c.deref-parts.ensures.value ∙ ap (λ (n : Entry). n.parts) c.node.view_is in (
       omega (arith, c.decreases),
       (
         subst (λ (is : List ℕ). AllBelow c.args.e is) (sym parts) c.node-node.ensures.older,

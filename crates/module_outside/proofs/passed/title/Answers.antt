@@ -18,9 +18,9 @@ identifier_at-requires c = (let h = c.is_mark_at.ensures.there c.if-is_mark_at.t
 pub returns : goal.returns
 returns c =
     elim c.if-is_mark_at.branch [
-      then-is_mark_at+in_ok-identifier_at+in_ok-with_identifier w ↦
-        ap (λ (ns : Vec Name Global). ns.items) w.names-is
-        ∙ has_title c.args.unit.now c.is_mark_at.result w.in_ok-identifier_at.field-0 c.new-names.result.items w.with_identifier.new.names.items c.is_mark_at.ensures.value w.if-is_mark_at.true w.in_ok-identifier_at.ensures c.new-names.ensures.items w.in_ok-with_identifier.ensures
-    | else-is_mark_at w ↦
-        ap (λ (ns : Vec Name Global). ns.items) w.names-is ∙ has_none c.args.unit.now c.is_mark_at.result c.new-names.result.items c.is_mark_at.ensures.value w.if-is_mark_at.false c.new-names.ensures.items
+      | then-is_mark_at+in_ok-identifier_at+in_ok-with_identifier w ↦
+          ap (λ (ns : Vec Name Global). ns.items) w.names-is
+          ∙ has_title c.args.unit.now c.is_mark_at.result w.in_ok-identifier_at.field-0 c.new-names.result.items w.with_identifier.new.names.items c.is_mark_at.ensures.value w.if-is_mark_at.true w.in_ok-identifier_at.ensures c.new-names.ensures.items w.in_ok-with_identifier.ensures
+      | else-is_mark_at w ↦
+          ap (λ (ns : Vec Name Global). ns.items) w.names-is ∙ has_none c.args.unit.now c.is_mark_at.result c.new-names.result.items c.is_mark_at.ensures.value w.if-is_mark_at.false c.new-names.ensures.items
     ]

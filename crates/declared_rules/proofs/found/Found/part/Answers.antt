@@ -23,9 +23,9 @@ returns-else-right-clause-adds c =
     let e = c.node-node.result.now in
     other_joined c.args.pool.now c.args.self.now c.expr.new.self c.args.right c.args.e e.form e.place e.parts c.node-node.ensures.tree
     (elim c.else-right.branch [
-      else-right-via-then-right+else-is_strings w ↦
+      | else-right-via-then-right+else-is_strings w ↦
           (λ i. w.if-right.true i && is_strings_of e.form) ∙ ap (λ (n : Entry). is_strings_of n.form) (sym c.node.view_is) ∙ sym w.is_strings.ensures ∙ w.if-is_strings.false
-    | else-right-via-else-right w ↦ λ i. w.if-right.false i && is_strings_of e.form
+      | else-right-via-else-right w ↦ λ i. w.if-right.false i && is_strings_of e.form
     ])
     (c.expr.ensures.adds c.args.pool.now)
 

@@ -120,16 +120,14 @@ stmt-expr-requires t c = number_within _ _ _ _ (ap past_stmt c.in-If.is ∙ past
 
 pub stmt-body-requires : goal.stmt-body-requires
 stmt-body-requires t c =
-    let past = ap past_stmt c.in-If.is ∙ past_if c.in-If.field-0 c.in-If.e c.in-If.then c.in-If.otherwise in
-    (
+    let past = ap past_stmt c.in-If.is ∙ past_if c.in-If.field-0 c.in-If.e c.in-If.then c.in-If.otherwise in (
       omega (arith, if_height c.in-If.field-0 c.in-If.e c.in-If.then c.in-If.otherwise, ap heights c.deref.ensures.value, ap height c.in-If.is, c.decreases),
       subst (λ (ys : List Stmt). past_statements ys ≤ length c.args.pool.now) (sym c.deref.ensures.value) (first_within _ _ _ _ refl (second_within _ _ _ _ past c.requires)),
     )
 
 pub stmt-body-requires-in-If : goal.stmt-body-requires-in-If
 stmt-body-requires-in-If t c =
-    let past = ap past_stmt c.in-If.is ∙ past_if c.in-If.field-0 c.in-If.e c.in-If.then c.in-If.otherwise in
-    (
+    let past = ap past_stmt c.in-If.is ∙ past_if c.in-If.field-0 c.in-If.e c.in-If.then c.in-If.otherwise in (
       omega (arith, if_height c.in-If.field-0 c.in-If.e c.in-If.then c.in-If.otherwise, ap heights c.deref-in-If.ensures.value, ap height c.in-If.is, c.decreases),
       subst (λ (ys : List Stmt). past_statements ys ≤ length c.args.pool.now) (sym c.deref-in-If.ensures.value) (second_within _ _ _ _ refl (second_within _ _ _ _ past c.requires)),
     )
@@ -143,7 +141,7 @@ pub stmt-body-requires-in-With : goal.stmt-body-requires-in-With
 stmt-body-requires-in-With t c = (
   omega (arith, with_height c.in-With.field-0 c.in-With.binds c.in-With.body, ap heights c.deref-in-With-2.ensures.value, ap height c.in-With.is, c.decreases),
   subst (λ (ys : List Stmt). past_statements ys ≤ length c.args.pool.now) (sym c.deref-in-With-2.ensures.value)
-  (second_within _ _ _ _ (ap past_stmt c.in-With.is ∙ past_with c.in-With.field-0 c.in-With.binds c.in-With.body) c.requires),
+      (second_within _ _ _ _ (ap past_stmt c.in-With.is ∙ past_with c.in-With.field-0 c.in-With.binds c.in-With.body) c.requires),
 )
 
 pub stmt-expr-requires-in-While : goal.stmt-expr-requires-in-While
@@ -153,5 +151,5 @@ pub stmt-body-requires-in-While : goal.stmt-body-requires-in-While
 stmt-body-requires-in-While t c = (
   omega (arith, while_height c.in-While.field-0 c.in-While.e c.in-While.body, ap heights c.deref-in-While.ensures.value, ap height c.in-While.is, c.decreases),
   subst (λ (ys : List Stmt). past_statements ys ≤ length c.args.pool.now) (sym c.deref-in-While.ensures.value)
-  (second_within _ _ _ _ (ap past_stmt c.in-While.is ∙ past_while c.in-While.field-0 c.in-While.e c.in-While.body) c.requires),
+      (second_within _ _ _ _ (ap past_stmt c.in-While.is ∙ past_while c.in-While.field-0 c.in-While.e c.in-While.body) c.requires),
 )

@@ -51,8 +51,7 @@ parts-returns t c = parts_done c.args.self.now c.loop-i.self (form_of c.args.for
 
 pub expr-parts-requires : goal.expr-parts-requires
 expr-parts-requires t c =
-    let parts = c.deref-parts.ensures.value ∙ ap (λ (n : Entry). n.parts) c.node.view_is in
-    (
+    let parts = c.deref-parts.ensures.value ∙ ap (λ (n : Entry). n.parts) c.node.view_is in (
       omega (arith, c.decreases),
       (
         subst (λ (is : List ℕ). AllBelow c.args.e is) (sym parts) c.node-node.ensures.older,
