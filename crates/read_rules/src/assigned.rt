@@ -64,6 +64,23 @@ impl Assigned {
         self.earlier = one_of(self.earlier, other.earlier);
         Ok(())
     }
+
+    /// The same, with what others have assigned too.
+    ///
+    /// # Errors
+    ///
+    /// Only for want of memory.
+    pub fn with(mut self, other: &Assigned) -> Result<Assigned, AllocError>
+        ensures { IfOk result (λ a. Joins (origins self) (origins a) (origins other.now)) }
+    {
+        match self.add_all(other) {
+            Ok(()) => Ok(self),
+            Err(error) => {
+                drop(self);
+                Err(error)
+            }
+        }
+    }
 }
 
 /// The same path once more.
@@ -93,18 +110,12 @@ pub fn join(
 {
     match first {
         None => Ok(second),
-        Some(mut all) => match second {
+        Some(all) => match second {
             None => Ok(Some(all)),
             Some(more) => {
-                let outcome = all.add_all(&more);
+                let both = all.with(&more);
                 drop(more);
-                match outcome {
-                    Ok(()) => Ok(Some(all)),
-                    Err(error) => {
-                        drop(all);
-                        Err(error)
-                    }
-                }
+                Ok(Some(both?))
             }
         },
     }

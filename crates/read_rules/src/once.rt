@@ -77,19 +77,12 @@ fn group_of(alloc: Global, key: &Key, after: &Assigned) -> Result<Group, AllocEr
 }
 
 // What paths to a use have assigned, if there were some, with one path more.
-fn joined(before: Option<&Assigned>, after: &Assigned) -> Result<Assigned, AllocError>
+fn one_more(before: Option<&Assigned>, after: &Assigned) -> Result<Assigned, AllocError>
     ensures { IfOk result (λ a. Joins (unwrap_or (option_map origins (option_copied before.entry)) []) (origins a) (origins after.now)) }
 {
-    let Some(before) = before else {
-        return after.copied();
-    };
-    let mut all = before.copied()?;
-    match all.add_all(after) {
-        Ok(()) => Ok(all),
-        Err(error) => {
-            drop(all);
-            Err(error)
-        }
+    match before {
+        None => after.copied(),
+        Some(before) => before.copied()?.with(after),
     }
 }
 
@@ -108,7 +101,7 @@ impl Kept {
         ensures { OnOk result (Keeps self.old.uses.entries self.new.uses.entries (on_trail (Some (origins after.now)) (use_of one.now ∷ []))) }
     {
         let key = key_of(one)?;
-        match joined(self.uses.get(&key), after) {
+        match one_more(self.uses.get(&key), after) {
             Ok(all) => {
                 let before = self.uses.insert(key, all)?;
                 drop(before);

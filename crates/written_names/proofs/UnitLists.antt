@@ -4,11 +4,11 @@ use Rattle.std.proofs.lemmas.List.{take_more, take_all, map-append, length-map}
 use Rattle.tla_tree.specs.Tree.{Word, Tree}
 use Rattle.pcal_tree.specs.declared.algorithm.Algorithm as code
 use Rattle.pcal_tree.specs.Algorithm.{first_procedure}
-use Rattle.pcal_tree.specs.InMemory.{procedure_at, macro_at, main_at, algorithm_at}
+use Rattle.pcal_tree.specs.InMemory.{macro_at, algorithm_at}
 use Rattle.pcal_tree.specs.Names.{give, wanted, naming_by}
 use Rattle.written_names.specs.declared.naming.UnitNames.{UnitNames}
 use Rattle.written_names.specs.Giving.{Known, Knows}
-use Rattle.written_names.specs.Units.{no_names, naming_of, Asked, asked_procedure, asked_main, asked, after_unit, after_units, AreUnits, NamesUnit, AddsUnits}
+use Rattle.written_names.specs.Units.{no_names, naming_of, Asked, asked, after_unit, after_units, AreUnits, NamesUnit, AddsUnits}
 use Rattle.written_names.proofs.LookedUp.{naming_is, wanted_is}
 
 after_both : (extended taken : List Word) (qs rs : List Asked) → after_units extended taken (qs ++ rs) ≡ after_units extended (after_units extended taken qs) rs

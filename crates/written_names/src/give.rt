@@ -91,8 +91,7 @@ fn add_units(
     ensures { OnOk result ((ts : List Tree) → AddsUnits giver.old giver.new units.old.items units.new.items (asked (algorithm_at ts algorithm.now))) }
 {
     add_procedures(alloc, giver, units, &algorithm.procedures)?;
-    add_main(alloc, giver, units, &algorithm.main)?;
-    Ok(())
+    add_main(alloc, giver, units, &algorithm.main)
 }
 
 // The written names of an algorithm, by what is known of names.

@@ -71,8 +71,7 @@ impl Giver {
         ensures { OnOk result ((extended taken : List Word) → Knows self.old extended taken → is_taken_of extended self.old.names name.now ≡ true → IsFound self.old.names name.now found.now number → Knows self.new extended (first_free extended taken name.now ∷ taken)) }
     {
         self.names.add(found)?;
-        self.tried.set(name.copied()?, number)?;
-        Ok(())
+        self.tried.set(name.copied()?, number)
     }
 
     /// The name that a word gets; from now on it is taken.

@@ -111,8 +111,7 @@ fn name_parts(
 {
     name_declared(alloc, giver, &mut names.variables, params)?;
     name_declared(alloc, giver, &mut names.variables, variables)?;
-    name_statements(alloc, giver, &mut names.labels, body)?;
-    Ok(())
+    name_statements(alloc, giver, &mut names.labels, body)
 }
 
 // The names of a routine that has its own.
@@ -131,8 +130,13 @@ fn names_within(
         variables: Renamed::new(alloc),
         labels: Renamed::new(alloc),
     };
-    name_parts(alloc, giver, &mut names, params, variables, body)?;
-    Ok(names)
+    match name_parts(alloc, giver, &mut names, params, variables, body) {
+        Ok(()) => Ok(names),
+        Err(error) => {
+            drop(names);
+            Err(error)
+        }
+    }
 }
 
 /// The names of a procedure.

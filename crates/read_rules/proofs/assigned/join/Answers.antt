@@ -18,10 +18,10 @@ returns-in-None-second c =
     subst (λ (p : Option Assigned). LikeTrail q (joined (trail_of p) (trail_of c.args.second))) (sym c.in-Some.is)
     (subst (λ (p : Option Assigned). LikeTrail q (joined q (trail_of p))) (sym c.in-None-second.is) (λ f. refl))
 
-pub returns-in-Ok : goal.returns-in-Ok
-returns-in-Ok c =
+pub returns-in_ok-both-in-Some-second : goal.returns-in_ok-both-in-Some-second
+returns-in_ok-both-in-Some-second c =
     let a = c.in-Some.all in
-    let new = c.add_all-outcome.new.self in
+    let new = c.in_ok-both-in-Some-second.field-0 in
     let b = c.in-Some-second.more in
     subst (λ (p : Option Assigned). LikeTrail (trail_of (Some new)) (joined (trail_of p) (trail_of c.args.second))) (sym c.in-Some.is)
-    (subst (λ (p : Option Assigned). LikeTrail (trail_of (Some new)) (joined (trail_of (Some a)) (trail_of p))) (sym c.in-Some-second.is) (like_join a b new c.in-Ok.ensures))
+    (subst (λ (p : Option Assigned). LikeTrail (trail_of (Some new)) (joined (trail_of (Some a)) (trail_of p))) (sym c.in-Some-second.is) (like_join a b new c.in_ok-both-in-Some-second.ensures))
