@@ -149,7 +149,7 @@ module _ (f : Refusal → Bool) (m : Modules) (ms : List Word) (h : AreModules m
         )
     to_one p (either bs) k = let u = to_branches bs k in (u.0, ((tt, refl), u.1))
     to_one p (with bs b) k =
-        let s = every_split CleanPart (in_binds bs) (in_body b) k.1 in
+        let s = every_split CleanPart (in_binds bs) (in_body b) k.1.1 in
         let q = to_binds bs s.0 in
         let v = to_body false b s.1 in
         ((k.0, every_both CleanList (lists_in_binds bs) (lists_in_body b) q.0 v.0), ((q.1, refl), v.1))
@@ -215,7 +215,7 @@ module _ (f : Refusal → Bool) (m : Modules) (ms : List Word) (h : AreModules m
     of_one p (either bs) k = of_branches bs (k.0, k.1.1)
     of_one p (with bs b) k =
         let q = every_split CleanList (lists_in_binds bs) (lists_in_body b) k.0.1 in
-        (k.0.0, every_both CleanPart (in_binds bs) (in_body b) (of_binds bs q.0 k.1.0.0) (of_body false b (q.1, k.1.1)))
+        (k.0.0, (refl, every_both CleanPart (in_binds bs) (in_body b) (of_binds bs q.0 k.1.0.0) (of_body false b (q.1, k.1.1))))
     of_one p (while e b) k = let q = every_split CleanList (lists_in e) (lists_in_body b) k.0 in (of_tree e (q.0, k.1.0.0.0), of_body false b (q.1, k.1.1))
     of_one p (goto l) k = tt
     of_one p (macro x ts) k = of_trees ts k.0 k.1.0.0

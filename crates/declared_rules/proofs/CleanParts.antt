@@ -160,11 +160,11 @@ module _ (f : Refusal → Bool) (m : Modules) (ms : List Word) (h : AreModules m
         let r = every_split P (flat_map (definition_parts ts) a.definitions.items) _ q.1 in
         let s = every_split P (flat_map (macro_parts ts) a.macros.items) _ r.1 in
         let t = every_split P (flat_map (procedure_parts ts) a.procedures.items) (main_parts ts a.main) s.1 in (
-          each_to (declaration_at ts) (global_parts ts) CleanGlobal (λ d q. (q.0, start_to d.start q.1)) a.globals.items q.0,
+          each_to (declaration_at ts) (global_parts ts) CleanGlobal (λ d q. (q.0, start_to d.start q.1.1)) a.globals.items q.0,
           (
-            each_to (definition_at ts) (definition_parts ts) CleanDefinition (λ d q. (q.0, (q.1.0, to_tree f m ms h (at ts d.body) q.1.1.0))) a.definitions.items r.0,
+            each_to (definition_at ts) (definition_parts ts) CleanDefinition (λ d q. (q.0, (q.1.1.0, to_tree f m ms h (at ts d.body) q.1.1.1.1.0))) a.definitions.items r.0,
             (
-              each_to (macro_at ts) (macro_parts ts) CleanMacro (λ d q. (q.0, (q.1.0, to_body f m ms h false (statements_at ts d.body.items) q.1.1))) a.macros.items s.0,
+              each_to (macro_at ts) (macro_parts ts) CleanMacro (λ d q. (q.0, (q.1.0, to_body f m ms h false (statements_at ts d.body.items) q.1.1.1))) a.macros.items s.0,
               (each_to (procedure_at ts) (procedure_parts ts) CleanProcedure procedure_to a.procedures.items t.0, main_to a.main t.1),
             ),
           ),
@@ -172,10 +172,10 @@ module _ (f : Refusal → Bool) (m : Modules) (ms : List Word) (h : AreModules m
 
     pub algorithm_of : (a : code.Algorithm) → CleanAlgorithm (algorithm_at ts a) → AllByRecursion P (parts_of_algorithm ts a)
     algorithm_of a k =
-        every_both P (flat_map (global_parts ts) a.globals.items) _ (each_of (declaration_at ts) (global_parts ts) CleanGlobal (λ d q. (q.0, start_of d.start q.1)) a.globals.items k.0)
+        every_both P (flat_map (global_parts ts) a.globals.items) _ (each_of (declaration_at ts) (global_parts ts) CleanGlobal (λ d q. (q.0, (refl, start_of d.start q.1))) a.globals.items k.0)
         (every_both P (flat_map (definition_parts ts) a.definitions.items) _
-        (each_of (definition_at ts) (definition_parts ts) CleanDefinition (λ d q. (q.0, (q.1.0, (of_tree f m ms h (at ts d.body) q.1.1, tt)))) a.definitions.items k.1.0)
+        (each_of (definition_at ts) (definition_parts ts) CleanDefinition (λ d q. (q.0, (refl, (q.1.0, (refl, (of_tree f m ms h (at ts d.body) q.1.1, tt)))))) a.definitions.items k.1.0)
         (every_both P (flat_map (macro_parts ts) a.macros.items) _
-        (each_of (macro_at ts) (macro_parts ts) CleanMacro (λ d q. (q.0, (q.1.0, of_body f m ms h false (statements_at ts d.body.items) q.1.1))) a.macros.items k.1.1.0)
+        (each_of (macro_at ts) (macro_parts ts) CleanMacro (λ d q. (q.0, (q.1.0, (refl, of_body f m ms h false (statements_at ts d.body.items) q.1.1)))) a.macros.items k.1.1.0)
         (every_both P (flat_map (procedure_parts ts) a.procedures.items) (main_parts ts a.main)
         (each_of (procedure_at ts) (procedure_parts ts) CleanProcedure procedure_of a.procedures.items k.1.1.1.0) (main_of a.main k.1.1.1.1))))

@@ -1,5 +1,5 @@
 -- That offences are found part by part.
-use Rattle.std.proofs.Common.{◌≡◌, ℕ, zero, suc, ◌+◌, ◌<◌, ◌≤◌, List, [], ◌∷◌, ◌++◌, length, map, take, get_or, slice_index_or, set, Bool, true, false, ◌||◌, Option, Some, None, Result, Ok, Err, OnOk, cond, refl, sym, ap, subst, ◌∙◌, append-nil, append_assoc, arith}
+use Rattle.std.proofs.Common.{◌≡◌, ℕ, zero, suc, ◌+◌, ◌<◌, ◌≤◌, List, [], ◌∷◌, ◌++◌, length, map, take, get_or, slice_index_or, set, Bool, true, false, ◌||◌, Option, Result, Ok, Err, OnOk, cond, refl, sym, ap, subst, ◌∙◌, append-nil, append_assoc, arith}
 use Rattle.std.specs.List.{list_any, flat_map}
 use Rattle.std.proofs.lemmas.List.{take_more, take_all}
 use Rattle.std.proofs.lemmas.List.Folds.{list_any-append}
@@ -22,6 +22,10 @@ use Rattle.declared_rules.specs.Finding.{tree_offences, part_offences, parts_off
 pub on_ok : {A E P Q : Type 0} (r : Result A E) → (P → Q) → OnOk r P → OnOk r Q
 on_ok (Ok a) f h = f h
 on_ok (Err e) f h = tt
+
+pub on_ok_two : {A E P Q R : Type 0} (r : Result A E) → (P → Q → R) → OnOk r P → OnOk r Q → OnOk r R
+on_ok_two (Ok a) f h g = f h g
+on_ok_two (Err e) f h g = tt
 
 -- ---- offences after others
 

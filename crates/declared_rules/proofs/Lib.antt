@@ -27,6 +27,7 @@ pub mod ProcessLaws
 pub mod OutsideLaws
 pub mod WholeLaws
 pub mod MetWalks
+pub mod WalkLaws
 pub mod MetBodies
 pub mod MetSwept
 pub mod MetWords

@@ -1,6 +1,7 @@
 -- That names are added part by part.
-use Rattle.std.proofs.Common.{◌≡◌, ℕ, zero, suc, ◌+◌, ◌<◌, ◌≤◌, List, [], ◌∷◌, ◌++◌, length, map, take, get_or, slice_index_or, set, Bool, true, false, ◌&&◌, ◌||◌, bytes_eq, refl, sym, ap, subst, ◌∙◌, append-nil, arith}
+use Rattle.std.proofs.Common.{◌≡◌, ◌⊎◌, inl, inr, ℕ, zero, suc, ◌+◌, ◌<◌, ◌≤◌, List, [], ◌∷◌, ◌++◌, length, map, take, get_or, slice_index_or, set, Bool, true, false, ◌&&◌, ◌||◌, bytes_eq, refl, sym, ap, subst, ◌∙◌, append-nil, arith}
 use Rattle.std.specs.List.{flat_map}
+use Rattle.std.proofs.lemmas.Bool.{cases_lt}
 use Rattle.std.proofs.lemmas.List.{take_more, take_all}
 use Rattle.std.proofs.lemmas.List.Folds.{list_any-append}
 use Rattle.std.proofs.lemmas.Grind.{flat_map-append}
@@ -76,6 +77,20 @@ adds_marked ts j k e l n m = record {
       ∙ ap (λ b. is_among j.names w || b) (bound_marked ts j.marks.items e w l)
       ∙ sym (or_both (is_among j.names w) (bound_by ts j.marks.items w) (binds (at ts e) w));
 }
+
+-- a number past the pool is an expression without names
+past_pool : (ts : List Tree) (e : ℕ) → length ts ≤ e → expr_words ts e ≡ []
+past_pool [] e l = refl
+past_pool (t ∷ ts) zero l = absurd (omega (arith, l))
+past_pool (t ∷ ts) (suc e) l = past_pool ts e (omega (arith, l))
+
+-- where the pool has no more than there are marks
+pub marked_within : (ts : List Tree) (j k : Met) (e : ℕ) → (e < length j.marks.items → (us : List Tree) → Adds us j k (expr_words us e)) → (length j.marks.items ≤ e → k ≡ j) → length ts ≤ length j.marks.items → Adds ts j k (expr_words ts e)
+marked_within ts j k e g p less = by (cases_lt e (length j.marks.items))
+  where
+    by : (e < length j.marks.items) ⊎ (length j.marks.items ≤ e) → Adds ts j k (expr_words ts e)
+    by (inl h) = g h ts
+    by (inr h) = subst (λ (z : Met). Adds ts j z (expr_words ts e)) (sym (p h)) (adds_as ts j j _ _ (sym (past_pool ts e (omega (arith, h, less)))) (adds_none ts j))
 
 -- ---- one more in a loop
 

@@ -6,7 +6,6 @@ use Rattle.std.proofs.lemmas.Grind.{flat_map-append}
 use Rattle.tla_token.specs.declared.rule.Refusal.{Refusal}
 use Rattle.tla_tree.specs.Tree.{Name, Word, Tree}
 use Rattle.tla_value.specs.Outside as pure
-use Rattle.module_outside.specs.declared.passed.Passed.{Passed}
 use Rattle.module_outside.specs.Passing.{passed_seen}
 use Rattle.module_outside.specs.declared.definition.ReadDefinition.{ReadDefinition}
 use Rattle.module_outside.specs.declared.outside.Outside.{Outside}

@@ -1,7 +1,7 @@
 -- What is found in what a `with` names, and in statements.
 use Rattle.std.specs.Prelude.{◌≡◌, ℕ, List, [], ◌∷◌, ◌++◌}
 use Rattle.tla_token.specs.declared.rule.Refusal.{Refusal}
-use Rattle.tla_tree.specs.Tree.{Word, Name, Tree, words}
+use Rattle.tla_tree.specs.Tree.{Word, Tree, words}
 use Rattle.tla_tree.specs.Pool.{at}
 use Rattle.pcal_tree.specs.declared.algorithm.Bind.{Bind}
 use Rattle.pcal_tree.specs.declared.algorithm.Bind.TheVariants as bind

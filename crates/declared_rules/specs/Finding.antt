@@ -8,9 +8,6 @@ use Rattle.tla_token.specs.Signs.{is_among}
 use Rattle.tla_token.specs.Words.{is_own}
 use Rattle.tla_tree.specs.Tree.{Name, Word, Form, strings, strict, operator, Tree, node, Trees, no_trees, tree}
 use Rattle.tla_value.specs.StandardModules.{is_member, is_last}
-use Rattle.pcal_tree.specs.declared.algorithm.Stmt.{Stmt}
-use Rattle.pcal_tree.specs.Algorithm.{Statements}
-use Rattle.pcal_tree.specs.InMemory.{stmt_at}
 use Rattle.pcal_tree.specs.BoundNames.{lists_of}
 use Rattle.pcal_tree.specs.Offences.{offence_if, first}
 use Rattle.pcal_tree.specs.OffencesModules.{strings_offences}
@@ -19,7 +16,7 @@ use Rattle.module_outside.specs.declared.modules.Modules.{Modules}
 use Rattle.module_outside.specs.ModulesIn.{has_op, is_standard_in}
 use Rattle.module_outside.specs.SightIn.{Binds}
 use Rattle.declared_rules.specs.declared.found.Found.{Found}
-use Rattle.declared_rules.specs.Parts.{Part, expression, bound, declares, labels, prints, stacks, in_body}
+use Rattle.declared_rules.specs.Parts.{Part, expression, bound, takes, declares, labels, prints, stacks}
 
 -- ---- names, where these modules are extended
 
@@ -69,6 +66,7 @@ abbrev mutual
 abbrev pub part_offences : Modules → Part → List Refusal
 part_offences m (expression t) = tree_offences m false t
 part_offences m (bound ns) = list_offences m ns
+part_offences m (takes ns) = []
 part_offences m (declares n) = reserved_in m n
 part_offences m (labels n) = end_label n
 part_offences m (prints p) = offence_if (not m.tlc) NeedsModule p
@@ -95,12 +93,6 @@ pub record Joins (ts : List Tree) (old new : Found) (rs : List Refusal) : Type 0
 -- these parts were looked at
 pub record Adds (ts : List Tree) (old new : Found) (xs : List Part) : Type 0 where
   pub joins : Joins ts old new (parts_offences old.modules xs)
-
--- those of a statement were, which come before those of the rest of its list
-pub record AddsStmt (ts : List Tree) (s : Stmt) (old new : Found) : Type 0 where
-  pub these : List Part
-  pub ahead : (rest : Statements) → in_body (stmt_at ts s rest) ≡ these ++ in_body rest
-  pub adds : Adds ts old new these
 
 -- names of one list were, behind others that were seen
 pub record AddsNames (old new : Found) (ns : List Name) : Type 0 where

@@ -13,5 +13,6 @@ pub mod Processes
 pub mod OutsideWords
 pub mod Whole
 pub mod Met
+pub mod Walking
 pub mod UsesTold
 pub mod UsesSeen

@@ -1,4 +1,4 @@
--- The parts of an algorithm that rules on declared names and on modules look at, in the order of the text.
+-- The parts of an algorithm that rules on declared names and on modules look at, and names that are taken from the start, in the order of the text.
 use Rattle.std.specs.Prelude.{ℕ, List, [], ◌∷◌, ◌++◌, map}
 use Rattle.std.specs.List.{flat_map}
 use Rattle.tla_token.specs.declared.place.Place.{Place}
@@ -27,6 +27,7 @@ use Rattle.pcal_tree.specs.InMemory.{statements_at}
 pub data Part : Type 0 where
   expression : Tree → Part
   bound : List Name → Part  -- names of one list
+  takes : List Name → Part  -- names that are taken from the start
   declares : Name → Part
   labels : Name → Part
   prints : Place → Part  -- a statement that needs TLC
@@ -56,7 +57,7 @@ abbrev mutual
   in_one p skip = []
   in_one p (branch e a b) = expression e ∷ (in_body a ++ in_body b)
   in_one p (either bs) = in_branches bs
-  in_one p (with bs b) = bound (names_of_binds bs) ∷ (in_binds bs ++ in_body b)
+  in_one p (with bs b) = bound (names_of_binds bs) ∷ takes (names_of_binds bs) ∷ (in_binds bs ++ in_body b)
   in_one p (while e b) = expression e ∷ in_body b
   in_one p (goto l) = []
   in_one p (macro m ts) = in_trees ts
@@ -111,16 +112,16 @@ abbrev pub declaration_parts : List Tree → Declaration → List Part
 declaration_parts ts d = start_parts ts d.start
 
 abbrev pub global_parts : List Tree → Declaration → List Part
-global_parts ts d = declares d.name ∷ start_parts ts d.start
+global_parts ts d = declares d.name ∷ takes (d.name ∷ []) ∷ start_parts ts d.start
 
 abbrev pub declaration_names : List Declaration → List Name
 declaration_names ds = map (λ (d : Declaration). d.name) ds
 
 abbrev pub definition_parts : List Tree → Definition → List Part
-definition_parts ts d = declares d.name ∷ bound d.params.items ∷ expr_parts ts d.body
+definition_parts ts d = declares d.name ∷ takes (d.name ∷ []) ∷ bound d.params.items ∷ takes d.params.items ∷ expr_parts ts d.body
 
 abbrev pub macro_parts : List Tree → Macro → List Part
-macro_parts ts m = declares m.name ∷ bound m.params.items ∷ body_parts ts m.body.items
+macro_parts ts m = declares m.name ∷ bound m.params.items ∷ takes m.params.items ∷ body_parts ts m.body.items
 
 abbrev pub procedure_parts : List Tree → Procedure → List Part
 procedure_parts ts p =

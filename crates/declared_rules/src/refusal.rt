@@ -1,13 +1,18 @@
-//! By which offence an algorithm is refused, of those against the rules on declared names and on modules.
+//! What an algorithm declares: by which offence it is refused, of those against the rules on declared names and on modules, and the
+//! names that are taken from the start.
 
-ghost use Rattle.std.specs.Prelude.{◌≡◌, ◌≤◌, ℕ, length, replicate, false, None, IfOk};
+ghost use Rattle.std.specs.Prelude.{◌≡◌, ◌≤◌, ℕ, [], length, replicate, false, None, IfOk, OnOk};
 ghost use Rattle.pcal_tree.specs.InMemory.{past_algorithm, algorithm_at};
+ghost use Rattle.pcal_tree.specs.Names.{taken_at_start};
 ghost use Rattle.pcal_tree.specs.Offences.{first};
 ghost use Rattle.module_outside.specs.WholeAt.{outside_at};
+ghost use Rattle.written_names.specs.Giving.{SameNames};
 ghost use Rattle.declared_rules.specs.Refusal.{declared_offences, offences_found};
 
-use crate::found::Found;
+use crate::met::none_met;
 use crate::sweep::none_found;
+use crate::walk::Walked;
+use algorithm_limits::bound::Bound;
 use module_outside::modules::{Modules, modules_among};
 use module_outside::outside::Outside;
 use pcal_tree::algorithm::Algorithm;
@@ -15,58 +20,82 @@ use std::alloc::{AllocError, Global};
 use tla_pool::Pool;
 use tla_token::Refusal;
 
-impl Found {
-    // The first offence of all, where nothing was found yet.
+/// What an algorithm in a module declares.
+#[derive(Drop)]
+pub struct Declared {
+    /// The first offence against the rules on names that are declared twice, on reserved names, on what needs a module, and on
+    /// variables outside, if there is one.
+    pub refusal: Option<Refusal>,
+    /// The names that are taken from the start: those of units outside, those that definitions there bind, and those that the
+    /// algorithm keeps.
+    pub taken: Bound,
+}
+
+impl Walked {
+    // All that is looked at, where nothing was found and no name met.
     fn all(
         &mut self,
         pool: &Pool,
         algorithm: &Algorithm,
         outside: &Outside,
-    ) -> Result<Option<Refusal>, AllocError>
-        requires past { past_algorithm algorithm.now ≤ length self.old.marks.items }
-        requires marks { length self.old.marks.items ≤ length pool.now }
-        ensures { IfOk result (λ r. (n : ℕ) → self.old.first ≡ None → self.old.marks.items ≡ replicate n false → r ≡ first (offences_found self.old.modules pool.now algorithm.now (outside_at pool.now outside.now))) }
+    ) -> Result<(), AllocError>
+        requires past { past_algorithm algorithm.now ≤ length pool.now }
+        requires found { length self.old.found.marks.items ≡ length pool.now }
+        requires met { length self.old.met.marks.items ≡ length pool.now }
+        ensures first { OnOk result ((n : ℕ) → self.old.found.first ≡ None → self.old.found.marks.items ≡ replicate n false → self.new.found.first ≡ first (offences_found self.old.found.modules pool.now algorithm.now (outside_at pool.now outside.now))) }
+        ensures taken { OnOk result ((n : ℕ) → self.old.met.names ≡ [] → self.old.met.marks.items ≡ replicate n false → SameNames self.new.met.names (taken_at_start (algorithm_at pool.now algorithm.now) (outside_at pool.now outside.now))) }
     {
-        self.outside(outside);
-        self.titles(algorithm, outside)?;
+        self.found.outside(outside);
+        self.found.titles(algorithm, outside)?;
         self.algorithm(algorithm)?;
-        self.sweep(pool)?;
-        Ok(self.first)
+        self.found.sweep(pool)?;
+        self.met.all(pool, outside)
     }
 }
 
-// The first offence, where these modules are extended.
-fn first_found(
-    alloc: Global,
-    modules: Modules,
-    pool: &Pool,
-    algorithm: &Algorithm,
-    outside: &Outside,
-) -> Result<Option<Refusal>, AllocError>
-    requires { past_algorithm algorithm.now ≤ length pool.now }
-    ensures { IfOk result (λ r. r ≡ first (offences_found modules pool.now algorithm.now (outside_at pool.now outside.now))) }
+// Nothing was found and no name met, where these modules are extended; of so many expressions none is marked.
+fn none_walked(alloc: Global, modules: Modules, count: usize) -> Result<Walked, AllocError>
+    ensures found { IfOk result (λ k. (k.found.modules ≡ modules) × (k.found.first ≡ None) × (k.found.marks.items ≡ replicate count false)) }
+    ensures met { IfOk result (λ k. (k.met.names ≡ []) × (k.met.marks.items ≡ replicate count false)) }
 {
-    let mut found = none_found(alloc, modules, pool.len())?;
-    let first = found.all(pool, algorithm, outside);
-    drop(found);
-    first
+    let met = none_met(alloc, count)?;
+    match none_found(alloc, modules, count) {
+        Ok(found) => Ok(Walked { found, met }),
+        Err(error) => {
+            drop(met);
+            Err(error)
+        }
+    }
 }
 
-/// The first offence against the rules on names that are declared twice, on reserved names, on what needs a module, and on
-/// variables outside, if there is one.
+/// What an algorithm in a module declares: the first offence of some rules, and the names that are taken from the start.
 ///
 /// # Errors
 ///
 /// Only for want of memory.
-pub fn declared_refusal(
+pub fn declarations(
     alloc: Global,
     pool: &Pool,
     algorithm: &Algorithm,
     outside: &Outside,
-) -> Result<Option<Refusal>, AllocError>
+) -> Result<Declared, AllocError>
     requires { past_algorithm algorithm.now ≤ length pool.now }
-    ensures { IfOk result (λ r. r ≡ first (declared_offences (algorithm_at pool.now algorithm.now) (outside_at pool.now outside.now))) }
+    ensures refusal { IfOk result (λ d. d.refusal ≡ first (declared_offences (algorithm_at pool.now algorithm.now) (outside_at pool.now outside.now))) }
+    ensures taken { IfOk result (λ d. SameNames d.taken (taken_at_start (algorithm_at pool.now algorithm.now) (outside_at pool.now outside.now))) }
 {
     let modules = modules_among(&outside.extended);
-    first_found(alloc, modules, pool, algorithm, outside)
+    let mut walked = none_walked(alloc, modules, pool.len())?;
+    match walked.all(pool, algorithm, outside) {
+        Ok(()) => {
+            let Walked { found, met } = walked;
+            Ok(Declared {
+                refusal: found.first,
+                taken: met.names,
+            })
+        }
+        Err(error) => {
+            drop(walked);
+            Err(error)
+        }
+    }
 }

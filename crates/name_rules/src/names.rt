@@ -1,18 +1,20 @@
 //! The names that an algorithm in a module is written with, if it breaks no rule on names.
 
-ghost use Rattle.std.specs.Prelude.{◌≡◌, ◌≤◌, [], length, Err, Some, IfOk, OnOk};
+ghost use Rattle.std.specs.Prelude.{◌≡◌, ◌≤◌, List, [], length, Err, Some, IfOk, OnOk};
 ghost use Rattle.tla_token.specs.declared.rule.Refusal as refusals;
 ghost use Rattle.tla_token.specs.declared.rule.Stop.TheVariants as stop;
-ghost use Rattle.tla_tree.specs.Tree.{words};
+ghost use Rattle.tla_tree.specs.Tree.{Tree, words};
 ghost use Rattle.pcal_tree.specs.InMemory.{algorithm_at, past_algorithm};
-ghost use Rattle.pcal_tree.specs.Names.{naming};
+ghost use Rattle.pcal_tree.specs.Names.{naming, taken_at_start};
 ghost use Rattle.pcal_tree.specs.Offences.{first};
 ghost use Rattle.pcal_tree.specs.OffencesOfNames.{name_offences};
 ghost use Rattle.module_outside.specs.WholeAt.{outside_at};
+ghost use Rattle.written_names.specs.Giving.{SameNames};
 ghost use Rattle.written_names.specs.Units.{naming_of};
 
-use crate::refusal::name_refusal;
-use declared_rules::met::taken_in_all;
+use crate::refusal::checked_names;
+use algorithm_limits::bound::Bound;
+use declared_rules::refusal::Declared;
 use module_outside::outside::Outside;
 use pcal_tree::algorithm::Algorithm;
 use std::alloc::{AllocError, Global};
@@ -33,18 +35,16 @@ fn without_places(alloc: Global, names: &[PlacedName]) -> Result<Vec<Name>, Allo
     Ok(copies)
 }
 
-// The names that all is written with.
+// The names that all is written with, where these are taken from the start.
 fn written(
     alloc: Global,
-    pool: &Pool,
     algorithm: &Algorithm,
     outside: &Outside,
+    taken: Bound,
 ) -> Result<Naming, AllocError>
-    requires { past_algorithm algorithm.now ≤ length pool.now }
-    ensures { IfOk result (λ r. naming_of r ≡ naming (algorithm_at pool.now algorithm.now) (outside_at pool.now outside.now)) }
+    ensures { IfOk result (λ r. (ts : List Tree) → SameNames taken (taken_at_start (algorithm_at ts algorithm.now) (outside_at ts outside.now)) → naming_of r ≡ naming (algorithm_at ts algorithm.now) (outside_at ts outside.now)) }
 {
     let extended = without_places(alloc, &outside.extended)?;
-    let taken = taken_in_all(alloc, pool, algorithm, outside)?;
     name_units(alloc, algorithm, &extended, taken)
 }
 
@@ -64,8 +64,9 @@ pub fn name_all(
     ensures clean { OnOk result (name_offences (algorithm_at pool.now algorithm.now) (outside_at pool.now outside.now) ≡ []) }
     ensures refused { (r : refusals.Refusal) → result ≡ Err (stop.Refused r) → first (name_offences (algorithm_at pool.now algorithm.now) (outside_at pool.now outside.now)) ≡ Some r }
 {
-    match name_refusal(alloc, pool, algorithm, outside)? {
+    let Declared { refusal, taken } = checked_names(alloc, pool, algorithm, outside)?;
+    match refusal {
         Some(refusal) => Err(Stop::Refused(refusal)),
-        None => Ok(written(alloc, pool, algorithm, outside)?),
+        None => Ok(written(alloc, algorithm, outside, taken)?),
     }
 }

@@ -11,10 +11,9 @@ use Rattle.name_rules.proofs.names.written.Goals as goal
 
 pub returns : goal.returns
 returns c =
-    let ts = c.args.pool.now in
+    IfOk-weaker c.name_units.result _ _ (λ r h ts same.
     let a : tree.Algorithm = algorithm_at ts c.args.algorithm.now in
     let o : pure.Outside = outside_at ts c.args.outside.now in
-    IfOk-weaker c.name_units.result _ _ (λ r h.
-    h ts (taken_at_start a o) c.in_ok-taken.ensures
+    h ts (taken_at_start a o) same
     ∙ ap (λ (ws : List Word). naming_by (give ws (taken_at_start a o) (wanted a))) (c.deref-2.ensures.value ∙ c.in_ok-extended.ensures ∙ ap (λ (ns : List Name). words ns) c.deref.ensures.value))
     c.name_units.ensures

@@ -5,14 +5,15 @@ use Rattle.declared_rules.specs.Met.{expr_words}
 use Rattle.declared_rules.proofs.MetWalks.{past_item, adds_item, adds_all}
 use Rattle.declared_rules.proofs.met.Met.exprs.Goals as goal
 
-pub expr-requires : goal.expr-requires
-expr-requires c = let less = past_item past_number c.args.es.now c.loop-e.e-index 0 c.loop-e-test.true in omega (arith, less, c.requires, c.loop-e.invariant.many)
-
 pub loop-e-preserved : goal.loop-e-preserved
-loop-e-preserved c = record {
-  many = c.expr.ensures.many ∙ c.loop-e.invariant.many;
-  adds = λ ts. adds_item ts (expr_words ts) c.args.es.now c.args.self.now c.loop-e.self c.expr.new.self c.loop-e.e-index 0 c.loop-e-test.true (c.loop-e.invariant.adds ts) (c.expr.ensures.adds ts);
-}
+loop-e-preserved c =
+    let less = past_item past_number c.args.es.now c.loop-e.e-index 0 c.loop-e-test.true in
+    record {
+      many = c.mark.ensures.many ∙ c.loop-e.invariant.many;
+      adds = λ ts.
+          adds_item ts (expr_words ts) c.args.es.now c.args.self.now c.loop-e.self c.mark.new.self c.loop-e.e-index 0 c.loop-e-test.true (c.loop-e.invariant.adds ts)
+          (c.mark.ensures.adds (omega (arith, less, c.requires, c.loop-e.invariant.many)) ts);
+    }
 
 pub returns-clause-adds : goal.returns-clause-adds
 returns-clause-adds c = λ ts. adds_all ts (expr_words ts) c.args.es.now c.args.self.now c.loop-e.self c.loop-e.e-index c.loop-e-test.false (c.loop-e.invariant.adds ts)
