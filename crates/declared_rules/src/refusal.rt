@@ -20,11 +20,10 @@ use std::alloc::{AllocError, Global};
 use tla_pool::Pool;
 use tla_token::Refusal;
 
-/// What an algorithm in a module declares.
+/// What was found in an algorithm in a module.
 #[derive(Drop)]
 pub struct Declared {
-    /// The first offence against the rules on names that are declared twice, on reserved names, on what needs a module, and on
-    /// variables outside, if there is one.
+    /// The first offence against the rules that were looked at, if there is one.
     pub refusal: Option<Refusal>,
     /// The names that are taken from the start: those of units outside, those that definitions there bind, and those that the
     /// algorithm keeps.
@@ -68,7 +67,8 @@ fn none_walked(alloc: Global, modules: Modules, count: usize) -> Result<Walked, 
     }
 }
 
-/// What an algorithm in a module declares: the first offence of some rules, and the names that are taken from the start.
+/// What an algorithm in a module declares: the first offence against the rules on names that are declared twice, on reserved
+/// names, on what needs a module, and on variables outside; and the names that are taken from the start.
 ///
 /// # Errors
 ///

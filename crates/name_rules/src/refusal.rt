@@ -19,7 +19,8 @@ use read_rules::{read_refusal, self_refusal};
 use std::alloc::{AllocError, Global};
 use tla_pool::Pool;
 
-/// What an algorithm in a module declares; for its refusal, the least of all rules on names that it breaks, at its first place.
+/// The least of the rules on names that an algorithm in a module breaks, at its first place, if it breaks one; and the names that
+/// are taken from the start.
 ///
 /// # Errors
 ///
