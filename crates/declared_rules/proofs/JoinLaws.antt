@@ -1,13 +1,12 @@
 -- That offences are found part by part.
-use Rattle.std.proofs.Common.{◌≡◌, ℕ, zero, suc, ◌+◌, ◌<◌, ◌≤◌, List, [], ◌∷◌, ◌++◌, length, map, take, get_or, slice_index_or, set, Bool, true, false, ◌||◌, Option, Result, Ok, Err, OnOk, cond, refl, sym, ap, subst, ◌∙◌, append-nil, append_assoc, arith}
+use Rattle.std.proofs.Common.{◌≡◌, ℕ, zero, suc, ◌+◌, ◌<◌, ◌≤◌, List, [], ◌∷◌, ◌++◌, length, take, get_or, slice_index_or, set, Bool, true, false, ◌||◌, Option, Result, Ok, Err, OnOk, cond, refl, sym, ap, subst, ◌∙◌, append-nil, append_assoc, arith}
 use Rattle.std.specs.List.{list_any, flat_map}
-use Rattle.std.proofs.lemmas.List.{take_more, take_all}
+use Rattle.std.proofs.lemmas.List.{take_all}
 use Rattle.std.proofs.lemmas.List.Folds.{list_any-append}
 use Rattle.std.proofs.lemmas.Grind.{flat_map-append}
 use Rattle.tla_token.specs.declared.rule.Refusal.{Refusal}
 use Rattle.tla_tree.specs.Tree.{Tree}
 use Rattle.tla_tree.specs.Pool.{at}
-use Rattle.tla_tree.specs.Nesting.{greatest}
 use Rattle.pcal_tree.specs.Offences.{first}
 use Rattle.pcal_tree.proofs.SetLaws.{Same}
 use Rattle.pcal_tree.proofs.FirstLaws.{same_first}
@@ -17,6 +16,7 @@ use Rattle.module_outside.specs.declared.modules.Modules.{Modules}
 use Rattle.declared_rules.specs.declared.found.Found.{Found}
 use Rattle.declared_rules.specs.Parts.{Part, expr_parts}
 use Rattle.declared_rules.specs.Finding.{tree_offences, part_offences, parts_offences, marked, finding, Joins, Adds}
+use Rattle.declared_rules.proofs.ListLaws.{more_of, item_of}
 
 -- where there is memory
 pub on_ok : {A E P Q : Type 0} (r : Result A E) → (P → Q) → OnOk r P → OnOk r Q
@@ -120,23 +120,10 @@ adds_marked ts j k e l m f s = record {
 
 module _ (ts : List Tree) {A : Type 0} (f : A → List Part) (xs : List A) where
   pub adds_more : (j k l : Found) (i : ℕ) (x : A) → x ≡ get_or xs i x → i < length xs → Adds ts j k (flat_map f (take i xs)) → Adds ts k l (f x) → Adds ts j l (flat_map f (take (i + 1) xs))
-  adds_more j k l i x e less g h =
-      adds_as ts j l (flat_map f (take i xs) ++ f x) (flat_map f (take (i + 1) xs))
-      (ap (λ (y : A). flat_map f (take i xs) ++ f y) e
-      ∙ sym (ap (flat_map f) (take_more xs i x less) ∙ flat_map-append f (take i xs) (get_or xs i x ∷ []) ∙ ap (λ l. flat_map f (take i xs) ++ l) (append-nil (f (get_or xs i x)))))
-      (adds_then ts j k l (flat_map f (take i xs)) (f x) g h)
+  adds_more j k l i x e less g h = adds_as ts j l _ _ (more_of f xs i x e less) (adds_then ts j k l (flat_map f (take i xs)) (f x) g h)
 
   pub adds_all : (j k : Found) (i : ℕ) → length xs ≤ i → Adds ts j k (flat_map f (take i xs)) → Adds ts j k (flat_map f xs)
   adds_all j k i less g = adds_as ts j k _ _ (ap (flat_map f) (take_all i xs less)) g
 
   pub adds_item : (j k l : Found) (i : ℕ) (d : A) → i < length xs → Adds ts j k (flat_map f (take i xs)) → Adds ts k l (f (slice_index_or xs i d)) → Adds ts j l (flat_map f (take (i + 1) xs))
-  adds_item j k l i d less g h =
-      adds_as ts j l (flat_map f (take i xs) ++ f (slice_index_or xs i d)) (flat_map f (take (i + 1) xs))
-      (sym (ap (flat_map f) (take_more xs i d less) ∙ flat_map-append f (take i xs) (get_or xs i d ∷ []) ∙ ap (λ l. flat_map f (take i xs) ++ l) (append-nil (f (get_or xs i d)))))
-      (adds_then ts j k l (flat_map f (take i xs)) (f (slice_index_or xs i d)) g h)
-
--- one of a list is past no number that the list is
-pub past_item : {A : Type 0} (f : A → ℕ) (xs : List A) (i : ℕ) (d : A) → i < length xs → f (slice_index_or xs i d) ≤ greatest (map f xs)
-past_item f [] i d less = absurd (omega (arith, less))
-past_item f (x ∷ xs) zero d less = omega arith
-past_item f (x ∷ xs) (suc i) d less = let h = past_item f xs i d (omega (arith, less)) in omega (arith, h)
+  adds_item j k l i d less g h = adds_as ts j l _ _ (item_of f xs i d less) (adds_then ts j k l (flat_map f (take i xs)) (f (slice_index_or xs i d)) g h)

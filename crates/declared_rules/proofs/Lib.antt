@@ -1,4 +1,5 @@
 -- That offences are found as they are defined.
+pub mod ListLaws
 pub mod JoinLaws
 pub mod NameLaws
 pub mod BodyLaws

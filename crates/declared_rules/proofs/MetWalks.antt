@@ -1,19 +1,18 @@
 -- That names are added part by part.
-use Rattle.std.proofs.Common.{◌≡◌, ◌⊎◌, inl, inr, ℕ, zero, suc, ◌+◌, ◌<◌, ◌≤◌, List, [], ◌∷◌, ◌++◌, length, map, take, get_or, slice_index_or, set, Bool, true, false, ◌&&◌, ◌||◌, bytes_eq, refl, sym, ap, subst, ◌∙◌, append-nil, arith}
+use Rattle.std.proofs.Common.{◌≡◌, ◌⊎◌, inl, inr, ℕ, zero, suc, ◌+◌, ◌<◌, ◌≤◌, List, [], ◌∷◌, ◌++◌, length, take, get_or, slice_index_or, set, Bool, true, false, ◌&&◌, ◌||◌, bytes_eq, refl, sym, ap, subst, ◌∙◌, arith}
 use Rattle.std.specs.List.{flat_map}
 use Rattle.std.proofs.lemmas.Bool.{cases_lt}
-use Rattle.std.proofs.lemmas.List.{take_more, take_all}
+use Rattle.std.proofs.lemmas.List.{take_all}
 use Rattle.std.proofs.lemmas.List.Folds.{list_any-append}
-use Rattle.std.proofs.lemmas.Grind.{flat_map-append}
 use Rattle.tla_token.specs.Signs.{is_among}
 use Rattle.tla_tree.specs.Tree.{Word, Tree}
 use Rattle.tla_tree.specs.Pool.{at}
-use Rattle.tla_tree.specs.Nesting.{greatest}
 use Rattle.pcal_tree.proofs.SetLaws.{or_both}
 use Rattle.algorithm_limits.specs.DepthsIn.{Hides}
 use Rattle.declared_rules.specs.declared.met.Met.{Met}
 use Rattle.declared_rules.specs.Met.{binds, bound_by, holds, Adds, expr_words}
 use Rattle.written_names.proofs.Steps.{has_is}
+use Rattle.declared_rules.proofs.ListLaws.{more_of, item_of}
 
 pub among_both : (xs ys : List Word) (w : Word) → is_among (xs ++ ys) w ≡ (is_among xs w || is_among ys w)
 among_both xs ys w = list_any-append (λ v. bytes_eq v w) xs ys
@@ -96,23 +95,10 @@ marked_within ts j k e g p less = by (cases_lt e (length j.marks.items))
 
 module _ (ts : List Tree) {A : Type 0} (f : A → List Word) (xs : List A) where
   pub adds_more : (j k l : Met) (i : ℕ) (x : A) → x ≡ get_or xs i x → i < length xs → Adds ts j k (flat_map f (take i xs)) → Adds ts k l (f x) → Adds ts j l (flat_map f (take (i + 1) xs))
-  adds_more j k l i x e less g h =
-      adds_as ts j l (flat_map f (take i xs) ++ f x) (flat_map f (take (i + 1) xs))
-      (ap (λ (y : A). flat_map f (take i xs) ++ f y) e
-      ∙ sym (ap (flat_map f) (take_more xs i x less) ∙ flat_map-append f (take i xs) (get_or xs i x ∷ []) ∙ ap (λ l. flat_map f (take i xs) ++ l) (append-nil (f (get_or xs i x)))))
-      (adds_then ts j k l (flat_map f (take i xs)) (f x) g h)
+  adds_more j k l i x e less g h = adds_as ts j l _ _ (more_of f xs i x e less) (adds_then ts j k l (flat_map f (take i xs)) (f x) g h)
 
   pub adds_all : (j k : Met) (i : ℕ) → length xs ≤ i → Adds ts j k (flat_map f (take i xs)) → Adds ts j k (flat_map f xs)
   adds_all j k i less g = adds_as ts j k _ _ (ap (flat_map f) (take_all i xs less)) g
 
   pub adds_item : (j k l : Met) (i : ℕ) (d : A) → i < length xs → Adds ts j k (flat_map f (take i xs)) → Adds ts k l (f (slice_index_or xs i d)) → Adds ts j l (flat_map f (take (i + 1) xs))
-  adds_item j k l i d less g h =
-      adds_as ts j l (flat_map f (take i xs) ++ f (slice_index_or xs i d)) (flat_map f (take (i + 1) xs))
-      (sym (ap (flat_map f) (take_more xs i d less) ∙ flat_map-append f (take i xs) (get_or xs i d ∷ []) ∙ ap (λ l. flat_map f (take i xs) ++ l) (append-nil (f (get_or xs i d)))))
-      (adds_then ts j k l (flat_map f (take i xs)) (f (slice_index_or xs i d)) g h)
-
--- one of a list is past no number that the list is
-pub past_item : {A : Type 0} (f : A → ℕ) (xs : List A) (i : ℕ) (d : A) → i < length xs → f (slice_index_or xs i d) ≤ greatest (map f xs)
-past_item f [] i d less = absurd (omega (arith, less))
-past_item f (x ∷ xs) zero d less = omega arith
-past_item f (x ∷ xs) (suc i) d less = let h = past_item f xs i d (omega (arith, less)) in omega (arith, h)
+  adds_item j k l i d less g h = adds_as ts j l _ _ (item_of f xs i d less) (adds_then ts j k l (flat_map f (take i xs)) (f (slice_index_or xs i d)) g h)

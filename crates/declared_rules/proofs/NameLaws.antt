@@ -3,8 +3,7 @@ use Rattle.std.proofs.Common.{◌≡◌, ℕ, ◌+◌, ◌<◌, ◌≤◌, List,
 use Rattle.std.specs.List.{list_any, flat_map}
 use Rattle.std.specs.Cmp.Lexicographic.{pointwise}
 use Rattle.std.specs.Prelude.{◌==◌}
-use Rattle.std.proofs.lemmas.List.{take_more, take_all}
-use Rattle.std.proofs.lemmas.Grind.{flat_map-append}
+use Rattle.std.proofs.lemmas.List.{take_all}
 use Rattle.tla_token.specs.Signs.{is_among}
 use Rattle.tla_token.specs.declared.rule.Rule.TheVariants.{Duplicate}
 use Rattle.tla_token.specs.declared.rule.Refusal.{Refusal}
@@ -21,6 +20,7 @@ use Rattle.declared_rules.specs.declared.found.Found.{Found}
 use Rattle.declared_rules.specs.Parts.{bound, declares}
 use Rattle.declared_rules.specs.Finding.{reserved_in, seen_offences, seen_after, Joins, Adds, AddsNames}
 use Rattle.declared_rules.proofs.JoinLaws.{joins_none, joins_then, joins_as, adds_one}
+use Rattle.declared_rules.proofs.ListLaws.{more_of}
 
 -- ---- one name
 
@@ -75,11 +75,7 @@ names_as j k xs ys e g = subst (λ (l : List Name). AddsNames j k l) e g
 
 module _ {A : Type 0} (f : A → List Name) (xs : List A) where
   pub names_more : (j k l : Found) (i : ℕ) (x : A) → x ≡ get_or xs i x → i < length xs → AddsNames j k (flat_map f (take i xs)) → AddsNames k l (f x) → AddsNames j l (flat_map f (take (i + 1) xs))
-  names_more j k l i x e less g h =
-      names_as j l (flat_map f (take i xs) ++ f x) (flat_map f (take (i + 1) xs))
-      (ap (λ (y : A). flat_map f (take i xs) ++ f y) e
-      ∙ sym (ap (flat_map f) (take_more xs i x less) ∙ flat_map-append f (take i xs) (get_or xs i x ∷ []) ∙ ap (λ l. flat_map f (take i xs) ++ l) (append-nil (f (get_or xs i x)))))
-      (names_then j k l (flat_map f (take i xs)) (f x) g h)
+  names_more j k l i x e less g h = names_as j l _ _ (more_of f xs i x e less) (names_then j k l (flat_map f (take i xs)) (f x) g h)
 
   pub names_all : (j k : Found) (i : ℕ) → length xs ≤ i → AddsNames j k (flat_map f (take i xs)) → AddsNames j k (flat_map f xs)
   names_all j k i less g = names_as j k _ _ (ap (flat_map f) (take_all i xs less)) g

@@ -1,8 +1,7 @@
 -- Names of units outside are bound one after another.
-use Rattle.std.proofs.Common.{◌≡◌, ℕ, ◌+◌, ◌<◌, ◌≤◌, List, [], ◌∷◌, ◌++◌, length, take, map, get_or, refl, sym, ap, ◌∙◌, append-nil}
+use Rattle.std.proofs.Common.{◌≡◌, ℕ, ◌+◌, ◌<◌, ◌≤◌, List, [], ◌∷◌, ◌++◌, length, take, map, get_or, refl, ap}
 use Rattle.std.specs.List.{flat_map}
-use Rattle.std.proofs.lemmas.List.{take_more, take_all}
-use Rattle.std.proofs.lemmas.Grind.{flat_map-append}
+use Rattle.std.proofs.lemmas.List.{take_all}
 use Rattle.tla_tree.specs.Tree.{Word, Tree}
 use Rattle.tla_value.specs.Outside as pure
 use Rattle.algorithm_limits.specs.DepthsIn.{Hides}
@@ -12,12 +11,11 @@ use Rattle.module_outside.specs.OutsideAt.{definition_seen}
 use Rattle.module_outside.specs.declared.passed.Passed.{Passed}
 use Rattle.module_outside.specs.Passing.{passed_seen}
 use Rattle.declared_rules.specs.OutsideWords.{read_words, passed_words}
+use Rattle.declared_rules.proofs.ListLaws.{more_of}
 
 module _ {A : Type 0} (f : A → List Word) (xs : List A) where
   pub hides_more : (a b c : List Word) (i : ℕ) (x : A) → x ≡ get_or xs i x → i < length xs → Hides a b (flat_map f (take i xs)) → Hides b c (f x) → Hides a c (flat_map f (take (i + 1) xs))
-  hides_more a b c i x e less g h =
-      hides_as a c _ _ (sym (ap (flat_map f) (take_more xs i x less ∙ ap (λ (z : A). take i xs ++ z ∷ []) (sym e)) ∙ flat_map-append f (take i xs) (x ∷ []) ∙ ap (λ (ws : List Word). flat_map f (take i xs) ++ ws) (append-nil (f x))))
-      (hides_then a b c (flat_map f (take i xs)) (f x) g h)
+  hides_more a b c i x e less g h = hides_as a c _ _ (more_of f xs i x e less) (hides_then a b c (flat_map f (take i xs)) (f x) g h)
 
   pub hides_all : (a b : List Word) (i : ℕ) → length xs ≤ i → Hides a b (flat_map f (take i xs)) → Hides a b (flat_map f xs)
   hides_all a b i less g = hides_as a b _ _ (ap (flat_map f) (take_all i xs less)) g

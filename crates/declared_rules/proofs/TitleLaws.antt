@@ -1,8 +1,7 @@
 -- That titles are looked at, and what is outside.
-use Rattle.std.proofs.Common.{◌≡◌, ℕ, ◌+◌, ◌<◌, ◌≤◌, List, [], ◌∷◌, ◌++◌, length, map, take, get_or, refl, sym, ap, subst, ◌∙◌, append-nil}
+use Rattle.std.proofs.Common.{◌≡◌, ℕ, ◌+◌, ◌<◌, ◌≤◌, List, [], ◌∷◌, ◌++◌, length, map, take, get_or, refl, sym, ap, subst, ◌∙◌}
 use Rattle.std.specs.List.{flat_map}
-use Rattle.std.proofs.lemmas.List.{take_more, take_all}
-use Rattle.std.proofs.lemmas.Grind.{flat_map-append}
+use Rattle.std.proofs.lemmas.List.{take_all}
 use Rattle.tla_token.specs.declared.rule.Refusal.{Refusal}
 use Rattle.tla_tree.specs.Tree.{Name, Word, Tree}
 use Rattle.tla_value.specs.Outside as pure
@@ -20,13 +19,9 @@ use Rattle.declared_rules.specs.Finding.{reserved_in, parts_offences, seen_offen
 use Rattle.declared_rules.specs.Titles.{constant_parts, read_parts, pure_title, unit_offences, outside_offences, title_offences}
 use Rattle.declared_rules.proofs.JoinLaws.{joins_then, joins_as}
 use Rattle.declared_rules.proofs.NameLaws.{with_seen, names_then}
+use Rattle.declared_rules.proofs.ListLaws.{more_of}
 
 -- ---- one more in a loop
-
-more_of : {A B : Type 0} (f : A → List B) (xs : List A) (i : ℕ) (x : A) → x ≡ get_or xs i x → i < length xs → flat_map f (take i xs) ++ f x ≡ flat_map f (take (i + 1) xs)
-more_of {B = B} f xs i x e less =
-    ap (λ y. flat_map f (take i xs) ++ f y) e
-    ∙ sym (ap (flat_map f) (take_more xs i x less) ∙ flat_map-append f (take i xs) (get_or xs i x ∷ []) ∙ ap (λ (l : List B). flat_map f (take i xs) ++ l) (append-nil (f (get_or xs i x))))
 
 module _ (ts : List Tree) {A : Type 0} (f : A → List Refusal) (xs : List A) where
   pub joins_more : (j k l : Found) (i : ℕ) (x : A) → x ≡ get_or xs i x → i < length xs → Joins ts j k (flat_map f (take i xs)) → Joins ts k l (f x) → Joins ts j l (flat_map f (take (i + 1) xs))

@@ -1,7 +1,7 @@
 -- That a walk looks at parts and keeps their names, one part after another.
 use Rattle.std.proofs.Common.{◌≡◌, ℕ, ◌+◌, ◌<◌, ◌≤◌, List, [], ◌∷◌, ◌++◌, length, take, get_or, slice_index_or, refl, sym, ap, subst, ◌∙◌, append-nil}
 use Rattle.std.specs.List.{flat_map}
-use Rattle.std.proofs.lemmas.List.{take_more, take_all}
+use Rattle.std.proofs.lemmas.List.{take_all}
 use Rattle.std.proofs.lemmas.Grind.{flat_map-append}
 use Rattle.tla_tree.specs.Tree.{Name, Tree, words}
 use Rattle.declared_rules.specs.declared.walk.Walked.{Walked}
@@ -12,7 +12,7 @@ use Rattle.declared_rules.specs.Met as met
 use Rattle.declared_rules.specs.Walking.{Adds}
 use Rattle.declared_rules.proofs.JoinLaws as join
 use Rattle.declared_rules.proofs.MetWalks as words
-pub use Rattle.declared_rules.proofs.JoinLaws.{past_item}
+use Rattle.declared_rules.proofs.ListLaws.{more_of, item_of}
 
 pub words_both : (xs ys : List Part) → met.parts_words xs ++ met.parts_words ys ≡ met.parts_words (xs ++ ys)
 words_both xs ys = sym (flat_map-append met.part_words xs ys)
@@ -60,17 +60,10 @@ adds_marked ts j k e f n g p = record {
 
 module _ (ts : List Tree) {A : Type 0} (f : A → List Part) (xs : List A) where
   pub adds_more : (j k l : Walked) (i : ℕ) (x : A) → x ≡ get_or xs i x → i < length xs → Adds ts j k (flat_map f (take i xs)) → Adds ts k l (f x) → Adds ts j l (flat_map f (take (i + 1) xs))
-  adds_more j k l i x e less g h =
-      adds_as ts j l (flat_map f (take i xs) ++ f x) (flat_map f (take (i + 1) xs))
-      (ap (λ (y : A). flat_map f (take i xs) ++ f y) e
-      ∙ sym (ap (flat_map f) (take_more xs i x less) ∙ flat_map-append f (take i xs) (get_or xs i x ∷ []) ∙ ap (λ l. flat_map f (take i xs) ++ l) (append-nil (f (get_or xs i x)))))
-      (adds_then ts j k l (flat_map f (take i xs)) (f x) g h)
+  adds_more j k l i x e less g h = adds_as ts j l _ _ (more_of f xs i x e less) (adds_then ts j k l (flat_map f (take i xs)) (f x) g h)
 
   pub adds_all : (j k : Walked) (i : ℕ) → length xs ≤ i → Adds ts j k (flat_map f (take i xs)) → Adds ts j k (flat_map f xs)
   adds_all j k i less g = adds_as ts j k _ _ (ap (flat_map f) (take_all i xs less)) g
 
   pub adds_item : (j k l : Walked) (i : ℕ) (d : A) → i < length xs → Adds ts j k (flat_map f (take i xs)) → Adds ts k l (f (slice_index_or xs i d)) → Adds ts j l (flat_map f (take (i + 1) xs))
-  adds_item j k l i d less g h =
-      adds_as ts j l (flat_map f (take i xs) ++ f (slice_index_or xs i d)) (flat_map f (take (i + 1) xs))
-      (sym (ap (flat_map f) (take_more xs i d less) ∙ flat_map-append f (take i xs) (get_or xs i d ∷ []) ∙ ap (λ l. flat_map f (take i xs) ++ l) (append-nil (f (get_or xs i d)))))
-      (adds_then ts j k l (flat_map f (take i xs)) (f (slice_index_or xs i d)) g h)
+  adds_item j k l i d less g h = adds_as ts j l _ _ (item_of f xs i d less) (adds_then ts j k l (flat_map f (take i xs)) (f (slice_index_or xs i d)) g h)

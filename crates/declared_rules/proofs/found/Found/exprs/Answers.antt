@@ -2,7 +2,8 @@
 use Rattle.std.proofs.Common.{arith, ◌∙◌}
 use Rattle.pcal_tree.specs.InMemory.{past_number}
 use Rattle.declared_rules.specs.Parts.{expr_parts}
-use Rattle.declared_rules.proofs.JoinLaws.{past_item, adds_item, adds_all}
+use Rattle.declared_rules.proofs.ListLaws.{past_item}
+use Rattle.declared_rules.proofs.JoinLaws.{adds_item, adds_all}
 use Rattle.declared_rules.proofs.found.Found.exprs.Goals as goal
 
 pub expr-requires : goal.expr-requires

@@ -2,7 +2,7 @@
 use Rattle.std.proofs.Common.{arith, ◌∙◌}
 use Rattle.pcal_tree.specs.InMemory.{past_number}
 use Rattle.pcal_tree.proofs.InMemoryEach.{all_below_past}
-use Rattle.declared_rules.proofs.JoinLaws.{past_item}
+use Rattle.declared_rules.proofs.ListLaws.{past_item}
 use Rattle.declared_rules.proofs.SweepLaws.{parts_then, parts_over}
 use Rattle.declared_rules.proofs.found.Found.parts.Goals as goal
 

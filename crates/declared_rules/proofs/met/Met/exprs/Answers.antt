@@ -2,7 +2,8 @@
 use Rattle.std.proofs.Common.{arith, ◌∙◌}
 use Rattle.pcal_tree.specs.InMemory.{past_number}
 use Rattle.declared_rules.specs.Met.{expr_words}
-use Rattle.declared_rules.proofs.MetWalks.{past_item, adds_item, adds_all}
+use Rattle.declared_rules.proofs.ListLaws.{past_item}
+use Rattle.declared_rules.proofs.MetWalks.{adds_item, adds_all}
 use Rattle.declared_rules.proofs.met.Met.exprs.Goals as goal
 
 pub loop-e-preserved : goal.loop-e-preserved

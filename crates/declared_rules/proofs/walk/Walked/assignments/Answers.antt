@@ -2,7 +2,8 @@
 use Rattle.std.proofs.Common.{arith, ◌∙◌}
 use Rattle.pcal_tree.specs.InMemory.{past_assignment}
 use Rattle.declared_rules.specs.Parts.{assignment_parts}
-use Rattle.declared_rules.proofs.WalkLaws.{past_item, adds_then, adds_item, adds_all}
+use Rattle.declared_rules.proofs.ListLaws.{past_item}
+use Rattle.declared_rules.proofs.WalkLaws.{adds_then, adds_item, adds_all}
 use Rattle.declared_rules.proofs.walk.Walked.assignments.Goals as goal
 
 pub expr-requires : goal.expr-requires
