@@ -1,11 +1,10 @@
 -- A use tells what the same use does that doesn't come before it.
-use Rattle.std.proofs.Common.{◌≡◌, ℕ, ◌+◌, ◌<◌, List, ◌∷◌, ◌++◌, length, take, drop, get_or, Bool, true, false, ◌&&◌, ◌||◌, not, nat_eq, cond, Option, Some, None, refl, sym, ap, ◌∙◌, subst, le-ltb, arith}
+use Rattle.std.proofs.Common.{◌≡◌, ℕ, ◌<◌, List, ◌++◌, length, get_or, Bool, true, false, ◌&&◌, not, nat_eq, Option, Some, None, refl, ap, ◌∙◌, subst}
 use Rattle.std.specs.List.{flat_map}
 use Rattle.tla_token.specs.declared.place.Place.{Place}
-use Rattle.tla_token.specs.declared.rule.Rule.{Rule}
 use Rattle.tla_token.specs.declared.rule.Rule.TheVariants.{Unknown, Arity, NotVariable, NeedsModule, OpaqueUnit, Infinite}
 use Rattle.tla_token.specs.declared.rule.Refusal.{Refusal}
-use Rattle.pcal_tree.specs.Offences.{offence_if, is_before, is_sooner, first}
+use Rattle.pcal_tree.specs.Offences.{offence_if, is_before, first}
 use Rattle.tla_tree.specs.Tree.{Word}
 use Rattle.pcal_tree.specs.NameUses.{Use, Sight, use_of, takes, variable, argument, standard, unread, use_offences, module_offences, infinite_offences, applied_offences, left_offences, handed_use}
 use Rattle.algorithm_answer.specs.Joined.{joined}

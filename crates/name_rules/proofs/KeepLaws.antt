@@ -1,10 +1,8 @@
 -- What is kept of macros and procedures, as more of them are known.
-use Rattle.std.proofs.Common.{◌≡◌, ℕ, suc, ◌+◌, ◌-◌, ◌<◌, ◌≤◌, Bool, true, false, List, [], ◌∷◌, ◌++◌, length, take, drop, map, get_or, reverse, cond, bytes_eq, Option, Some, None, refl, sym, ap, ◌∙◌, subst, arith, true≢false}
-use Rattle.std.specs.Prelude.{if◌then◌else◌}
+use Rattle.std.proofs.Common.{◌≡◌, ℕ, suc, ◌+◌, ◌-◌, ◌<◌, ◌≤◌, Bool, true, false, List, [], ◌∷◌, ◌++◌, length, take, drop, map, get_or, reverse, cond, bytes_eq, Option, Some, None, sym, ap, ◌∙◌, subst, arith}
 use Rattle.std.specs.List.{flat_map}
 use Rattle.std.specs.Map.{lookup}
 use Rattle.std.proofs.lemmas.List.{drop_more, drop_all, take_more, take_all, map-append, length-map, reverse-append}
-use Rattle.std.proofs.lemmas.Slice.Eq.{bytes_eq-Decides}
 use Rattle.indexmap.specs.IndexMap.{insert_entry}
 use Rattle.tla_token.specs.declared.place.Place.{Place}
 use Rattle.tla_token.specs.declared.rule.Refusal.{Refusal}
@@ -19,7 +17,7 @@ use Rattle.pcal_tree.specs.OffencesNames.{count, call_offences, in_body, macro_o
 use Rattle.algorithm_answer.specs.Joined.{joined}
 use Rattle.algorithm_answer.proofs.Joins.{first_append}
 use Rattle.algorithm_limits.specs.Numbers.{Numbers, number_of, with_number}
-use Rattle.algorithm_limits.proofs.Tables.{equal, equal_is, same_test, number_of_with}
+use Rattle.algorithm_limits.proofs.Tables.{equal, number_of_with}
 use Rattle.name_rules.specs.declared.found.Found.{Found}
 use Rattle.name_rules.specs.declared.macros.MacroUses.{MacroUses}
 use Rattle.name_rules.specs.declared.macros.Callees.{Callees}

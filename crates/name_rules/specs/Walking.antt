@@ -1,9 +1,7 @@
 -- What is found in what a `with` names, and in statements.
-use Rattle.std.specs.Prelude.{◌≡◌, ℕ, List, ◌++◌}
-use Rattle.tla_tree.specs.Tree.{Word, Name, Tree}
+use Rattle.std.specs.Prelude.{◌≡◌, List, ◌++◌}
+use Rattle.tla_tree.specs.Tree.{Word, Tree}
 use Rattle.tla_token.specs.declared.rule.Refusal.{Refusal}
-use Rattle.pcal_tree.specs.declared.algorithm.Bind.{Bind}
-use Rattle.pcal_tree.specs.declared.algorithm.Bind.TheVariants as bind
 use Rattle.pcal_tree.specs.declared.algorithm.Stmt.{Stmt}
 use Rattle.pcal_tree.specs.Algorithm.{Binds, Statements, Procedure}
 use Rattle.pcal_tree.specs.InMemory.{stmt_at}

@@ -16,5 +16,5 @@ returns-clause-refusal c =
     let last = c.least.ensures ∙ (λ i. joined (c.in_ok-stale.ensures i) (c.in_ok-selves.ensures i)) in
     let late = c.least-late.ensures ∙ (λ i. joined (c.in_ok-rebound.ensures i) (last i)) in
     let reads = c.least-2.ensures ∙ (λ i. joined (c.in_ok-read.ensures i) (late i)) in
-    let more = c.least-3.ensures ∙ (λ i. joined (c.in_ok-declarations.ensures.refusal i) (reads i)) in
-    c.least-4.ensures ∙ (λ i. joined (c.in_ok-used.ensures i) (more i)) ∙ all_joined a o
+    let more = c.least-3.ensures ∙ (λ i. joined (c.in_ok-declared.ensures.refusal i) (reads i)) in
+    c.least-refusal.ensures ∙ (λ i. joined (c.in_ok-used.ensures i) (more i)) ∙ all_joined a o
