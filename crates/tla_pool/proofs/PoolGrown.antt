@@ -1,9 +1,11 @@
 -- The trees of nodes, as nodes are added.
-use Rattle.std.proofs.Common.{◌≡◌, ℕ, suc, zero, ◌+◌, ◌<◌, Bool, true, false, cond, List, [], ◌∷◌, ◌++◌, length, refl, sym, ap, ◌∙◌, subst, arith, length-append, append_assoc, get_or, Some, ltb, true≢false, ◌≢◌}
-use Rattle.std.specs.Prelude.{slice_get}
+use Rattle.std.proofs.Common.{◌≡◌, ℕ, suc, zero, ◌+◌, ◌<◌, ◌≤◌, Bool, true, false, cond, List, [], ◌∷◌, ◌++◌, length, refl, sym, ap, ◌∙◌, subst, arith, length-append, append_assoc, get_or, Option, Some, None, IfSome, IfNone, ltb, true≢false, ◌≢◌}
+use Rattle.std.specs.Prelude.{slice_get, unwrap_or}
+use Rattle.std.specs.Borrow.{Bor}
+use Rattle.std.specs.Option.{option_copied}
 use Rattle.std.specs.List.{list_any, IsDistinct, AllPairs}
 use Rattle.std.proofs.lemmas.List.{get_or_append_left}
-use Rattle.std.proofs.lemmas.Option.{get_or_from_slice_get}
+use Rattle.std.proofs.lemmas.Option.{get_or_from_slice_get, slice_get_past, slice_get_within, unwrap_or-slice_get}
 use Rattle.std.proofs.lemmas.Bool.Decides.{Decides-ltb}
 use Rattle.std.proofs.lemmas.Map.Made.{AllPairs-from_IsDistinct}
 use Rattle.std.proofs.Math.Seq.{get_or-append_seam}
@@ -170,3 +172,28 @@ pub got-shaped : (ns : List Entry) (i : ℕ) (k : Entry) → AreShaped ns → sl
 got-shaped [] i k h e = cc
 got-shaped (n ∷ ns) zero k h e = let p : n ≡ k = cc in subst (λ (m : Entry). Shaped m.form (length m.parts)) p h.0
 got-shaped (n ∷ ns) (suc i) k h e = got-shaped ns i k h.1 e
+
+-- ---- what is found of a number, if there is a node
+pub some_tree : (ns : List Entry) (i : ℕ) (o : Option (Bor Entry)) → AreOlder 0 ns → option_copied o ≡ slice_get ns i → IfSome o (λ n. at (grown [] ns) i ≡ tree_in (grown [] ns) n.now)
+some_tree ns i None h e = tt
+some_tree ns i (Some n) h e = got-tree ns i n.now h (slice_get_within ns i n.now (sym e)) (sym e)
+
+pub some_older : (ns : List Entry) (i : ℕ) (o : Option (Bor Entry)) → AreOlder 0 ns → option_copied o ≡ slice_get ns i → IfSome o (λ n. AllBelow i n.now.parts)
+some_older ns i None h e = tt
+some_older ns i (Some n) h e = got-below ns i n.now h (slice_get_within ns i n.now (sym e)) (sym e)
+
+pub some_shaped : (ns : List Entry) (i : ℕ) (o : Option (Bor Entry)) → AreShaped ns → option_copied o ≡ slice_get ns i → IfSome o (λ n. Shaped n.now.form (length n.now.parts))
+some_shaped ns i None h e = tt
+some_shaped ns i (Some n) h e = got-shaped ns i n.now h (sym e)
+
+past_grown : (ns : List Entry) (i : ℕ) → length ns ≤ i → at (grown [] ns) i ≡ nothing
+past_grown ns i l = sym (unwrap_or-slice_get (grown [] ns) i nothing) ∙ ap (λ (o : Option Tree). unwrap_or o nothing) (slice_get_past (grown [] ns) i (omega (arith, l, length-grown [] ns)))
+
+pub none_tree : (ns : List Entry) (i : ℕ) (o : Option (Bor Entry)) → option_copied o ≡ slice_get ns i → IfNone o (at (grown [] ns) i ≡ nothing)
+none_tree ns i None e = past_grown ns i (none_past ns i (sym e))
+  where
+    none_past : (ms : List Entry) (j : ℕ) → slice_get ms j ≡ None → length ms ≤ j
+    none_past [] j n = omega arith
+    none_past (m ∷ ms) zero n = cc
+    none_past (m ∷ ms) (suc j) n = let l = none_past ms j n in omega (arith, l)
+none_tree ns i (Some n) e = tt

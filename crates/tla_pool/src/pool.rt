@@ -1,9 +1,9 @@
 //! The pool: expressions as numbered nodes, each node once.
 
-ghost use Rattle.std.specs.Prelude.{◌≡◌, ◌<◌, ℕ, [], length, IfOk, OnErr};
-ghost use Rattle.tla_tree.specs.Tree.{node};
+ghost use Rattle.std.specs.Prelude.{◌≡◌, ◌<◌, ℕ, [], length, IfOk, IfNone, IfSome, OnErr};
+ghost use Rattle.tla_tree.specs.Tree.{node, root_place};
 ghost use Rattle.tla_pool.specs.FormOf.{form_of};
-ghost use Rattle.tla_tree.specs.Pool.{at, trees_at, AllBelow, Keeps, Differ};
+ghost use Rattle.tla_tree.specs.Pool.{at, nothing, trees_at, AllBelow, Keeps, Differ};
 ghost use Rattle.tla_tree.specs.Shapes.{Shaped};
 
 use crate::form::Form;
@@ -95,6 +95,26 @@ impl Pool {
         ensures shaped { Shaped result.now.form (length result.now.parts) }
     {
         self.nodes.get_index(id).unwrap()
+    }
+
+    /// The node of a number, if there is one.
+    pub fn get(&self, id: NodeId) -> Option<&Node>
+        ensures some { IfSome result (λ n. at self.now id ≡ node n.now.form n.now.place (trees_at self.now n.now.parts)) }
+        ensures none { IfNone result (at self.now id ≡ nothing) }
+        ensures older { IfSome result (λ n. AllBelow id n.now.parts) }
+        ensures shaped { IfSome result (λ n. Shaped n.now.form (length n.now.parts)) }
+    {
+        self.nodes.get_index(id)
+    }
+
+    /// Where the node of a number begins: on line 0 if there is none.
+    pub fn place(&self, id: NodeId) -> Place
+        ensures { result ≡ root_place (at self.now id) }
+    {
+        match self.get(id) {
+            Some(node) => node.place,
+            None => Place { line: 0, col: 0 },
+        }
     }
 
     /// Different numbers have different trees.
