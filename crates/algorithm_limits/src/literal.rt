@@ -1,7 +1,7 @@
 //! Literals, in which no name is used and none is bound.
 
-ghost use Rattle.std.specs.Prelude.{◌≡◌, ◌<◌, ◌≤◌, ◌+◌, true, IsTrue, drop, length};
-ghost use Rattle.tla_tree.specs.Pool.{trees_at, AllBelow};
+ghost use Rattle.std.specs.Prelude.{◌≡◌, ◌<◌, ◌+◌, true, IsTrue, drop, length};
+ghost use Rattle.tla_tree.specs.Pool.{trees_at};
 ghost use Rattle.tla_pool.specs.FormOf.{form_of};
 ghost use Rattle.algorithm_limits.specs.Literals as meant;
 ghost use Rattle.algorithm_limits.specs.Literals.{are_literals};
@@ -21,15 +21,15 @@ fn is_literal(form: &Form) -> bool
 }
 
 /// Whether all that follows the part of this number is one more part, a literal: what is bound around it doesn't matter.
-pub fn ends_in_literal(pool: &Pool, parts: &[NodeId], part: usize, past: NodeId) -> bool
-    requires there { AllBelow past parts.now }
-    requires inside { past ≤ length pool.now }
-    requires within { part < length parts.now }
+pub fn ends_in_literal(pool: &Pool, parts: &[NodeId], part: usize) -> bool
+    requires { part < length parts.now }
     ensures { IsTrue result → are_literals (trees_at pool.now (drop (part + 1) parts.now)) ≡ true }
 {
     if parts.len() - part != 2 {
         return false;
     }
-    let node = pool.node(parts[part + 1]);
+    let Some(node) = pool.get(parts[part + 1]) else {
+        return false;
+    };
     node.parts.len() == 0 && is_literal(&node.form)
 }
