@@ -1,9 +1,11 @@
 -- That offences are found part by part.
-use Rattle.std.proofs.Common.{◌≡◌, ℕ, zero, suc, ◌+◌, ◌<◌, ◌≤◌, List, [], ◌∷◌, ◌++◌, length, take, get_or, slice_index_or, set, Bool, true, false, ◌||◌, Option, Result, Ok, Err, OnOk, cond, refl, sym, ap, subst, ◌∙◌, append-nil, append_assoc, arith}
+use Rattle.std.proofs.Common.{◌≡◌, ◌⊎◌, inl, inr, ℕ, zero, suc, Vec, Global, ◌+◌, ◌<◌, ◌≤◌, List, [], ◌∷◌, ◌++◌, length, take, get_or, slice_index_or, set, Bool, true, false, ◌||◌, Option, Result, Ok, Err, OnOk, cond, refl, sym, ap, subst, ◌∙◌, append-nil, append_assoc, arith}
 use Rattle.std.specs.List.{list_any, flat_map}
-use Rattle.std.proofs.lemmas.List.{take_all}
+use Rattle.std.proofs.lemmas.Bool.{cases_lt}
+use Rattle.std.proofs.lemmas.List.{take_all, length-set}
 use Rattle.std.proofs.lemmas.List.Folds.{list_any-append}
 use Rattle.std.proofs.lemmas.Grind.{flat_map-append}
+use Rattle.std.proofs.Math.Bool.{or_comm}
 use Rattle.tla_token.specs.declared.rule.Refusal.{Refusal}
 use Rattle.tla_tree.specs.Tree.{Tree}
 use Rattle.tla_tree.specs.Pool.{at}
@@ -30,11 +32,12 @@ on_ok_two (Err e) f h g = tt
 -- ---- offences after others
 
 pub joins_none : (ts : List Tree) (k : Found) → Joins ts k k []
-joins_none ts k = record { modules = refl; value = sym (joined_none (finding ts k)) }
+joins_none ts k = record { modules = refl; many = refl; value = sym (joined_none (finding ts k)) }
 
 pub joins_then : (ts : List Tree) (j k l : Found) (rs qs : List Refusal) → Joins ts j k rs → Joins ts k l qs → Joins ts j l (rs ++ qs)
 joins_then ts j k l rs qs g h = record {
   modules = h.modules ∙ g.modules;
+  many = h.many ∙ g.many;
   value =
       h.value ∙ ap (λ (o : Option Refusal). joined o (first qs)) g.value ∙ joined_assoc (finding ts j) (first rs) (first qs)
       ∙ ap (joined (finding ts j)) (sym (first_append rs qs));
@@ -65,6 +68,7 @@ adds_one ts j k x g = record { joins = joins_as ts j k _ _ (sym (append-nil (par
 pub joins_first : (ts : List Tree) (j k : Found) (rs : List Refusal) → k.modules ≡ j.modules → k.marks ≡ j.marks → k.first ≡ joined j.first (first rs) → Joins ts j k rs
 joins_first ts j k rs m e f = record {
   modules = m;
+  many = ap (λ (v : Vec Bool Global). length v.items) e;
   value =
       (λ i. joined (f i) (first (marked (m i) ts (e i).items))) ∙ joined_swapped j.first (first rs) (first (marked j.modules ts j.marks.items));
 }
@@ -86,15 +90,9 @@ one_more_mark m (t ∷ ts) (b ∷ bs) zero l f =
     again false true = refl
     again false false = refl
 
-    turned : (a b : Bool) → (a || b) ≡ (b || a)
-    turned true true = refl
-    turned true false = refl
-    turned false true = refl
-    turned false false = refl
-
     by : (b : Bool) → (list_any f own || list_any f rest) ≡ (list_any f (cond b own [] ++ rest) || list_any f own)
     by true = again (list_any f own) (list_any f rest) ∙ ap (λ (c : Bool). c || list_any f own) (sym (list_any-append f own rest))
-    by false = turned (list_any f own) (list_any f rest)
+    by false = or_comm (list_any f own) (list_any f rest)
 one_more_mark m (t ∷ ts) (b ∷ bs) (suc e) l f =
     list_any-append f (cond b (tree_offences m false t) []) (marked m ts (set bs e true))
     ∙ ap (λ (c : Bool). list_any f (cond b (tree_offences m false t) []) || c) (one_more_mark m ts bs e (omega (arith, l)) f)
@@ -105,6 +103,7 @@ pub adds_marked : (ts : List Tree) (j k : Found) (e : ℕ) → e < length j.mark
 adds_marked ts j k e l m f s = record {
   joins = record {
     modules = m;
+    many = ap (λ (bs : List Bool). length bs) s ∙ length-set j.marks.items e true;
     value =
         (λ i. joined (f i) (first (marked (m i) ts (s i))))
         ∙ ap (joined j.first) (same_first (marked j.modules ts (set j.marks.items e true)) (marked j.modules ts j.marks.items ++ own) (one_more_mark j.modules ts j.marks.items e l) ∙ first_append (marked j.modules ts j.marks.items) own)
@@ -115,6 +114,28 @@ adds_marked ts j k e l m f s = record {
   where
     own : List Refusal
     own = tree_offences j.modules false (at ts e)
+
+-- a number past the pool is an expression without offences
+past_pool : (m : Modules) (ts : List Tree) (e : ℕ) → length ts ≤ e → parts_offences m (expr_parts ts e) ≡ []
+past_pool m [] e l = refl
+past_pool m (t ∷ ts) zero l = absurd (omega (arith, l))
+past_pool m (t ∷ ts) (suc e) l = past_pool m ts e (omega (arith, l))
+
+-- where the pool has no more than there are marks
+pub marked_within : (ts : List Tree) (j k : Found) (e : ℕ) → (e < length j.marks.items → (us : List Tree) → Adds us j k (expr_parts us e)) → (length j.marks.items ≤ e → k ≡ j) → length ts ≤ length j.marks.items → Adds ts j k (expr_parts ts e)
+marked_within ts j k e g p less = by (cases_lt e (length j.marks.items))
+  where
+    by : (e < length j.marks.items) ⊎ (length j.marks.items ≤ e) → Adds ts j k (expr_parts ts e)
+    by (inl h) = g h ts
+    by (inr h) = subst (λ (z : Found). Adds ts j z (expr_parts ts e)) (sym (p h)) (record { joins = joins_as ts j j _ _ (sym (past_pool j.modules ts e (omega (arith, h, less)))) (joins_none ts j) })
+
+-- as many marks, whether there is one for the number or not
+pub many_marked : (j k : Found) (e : ℕ) → (e < length j.marks.items → (us : List Tree) → Adds us j k (expr_parts us e)) → (length j.marks.items ≤ e → k ≡ j) → length k.marks.items ≡ length j.marks.items
+many_marked j k e g p = by (cases_lt e (length j.marks.items))
+  where
+    by : (e < length j.marks.items) ⊎ (length j.marks.items ≤ e) → length k.marks.items ≡ length j.marks.items
+    by (inl h) = (g h []).joins.many
+    by (inr h) = ap (λ (z : Found). length z.marks.items) (p h)
 
 -- ---- one more in a loop
 

@@ -1,9 +1,10 @@
 -- What is kept of macros one after another, and of procedures from the last one on.
-use Rattle.std.proofs.Common.{◌≡◌, ℕ, zero, suc, ◌+◌, ◌-◌, ◌<◌, Bool, true, false, ◌||◌, List, [], ◌∷◌, ◌++◌, length, take, drop, map, reverse, get_or, refl, sym, ap, ◌∙◌, subst, arith, cond, bytes_eq}
+use Rattle.std.proofs.Common.{◌≡◌, ℕ, zero, suc, ◌+◌, ◌-◌, ◌<◌, Bool, true, false, List, [], ◌∷◌, ◌++◌, length, take, drop, map, reverse, get_or, refl, sym, ap, ◌∙◌, subst, arith, cond, bytes_eq}
 use Rattle.std.specs.List.{list_any}
 use Rattle.std.proofs.lemmas.List.{drop_more, drop_all, take_more, map-append, reverse-append}
 use Rattle.std.proofs.lemmas.List.Folds.{list_any-append}
 use Rattle.std.proofs.lemmas.Bool.{or_left, or_right}
+use Rattle.std.proofs.Math.Bool.{or_comm}
 use Rattle.indexmap.specs.IndexMap.{insert_entry}
 use Rattle.tla_token.specs.declared.rule.Refusal.{Refusal}
 use Rattle.tla_token.specs.Signs.{is_among}
@@ -44,13 +45,7 @@ lets_naming P (y ∷ ys) r l x = by (bytes_eq y x) (is_among P x) (lets_naming P
     by false c h = h
 
 pub first_swapped : (a b : List Refusal) → first (a ++ b) ≡ first (b ++ a)
-first_swapped a b = same_first (a ++ b) (b ++ a) (λ f. list_any-append f a b ∙ turned (list_any f a) (list_any f b) ∙ sym (list_any-append f b a))
-  where
-    turned : (x y : Bool) → (x || y) ≡ (y || x)
-    turned true true = refl
-    turned true false = refl
-    turned false true = refl
-    turned false false = refl
+first_swapped a b = same_first (a ++ b) (b ++ a) (λ f. list_any-append f a b ∙ or_comm (list_any f a) (list_any f b) ∙ sym (list_any-append f b a))
 
 pub adds_first : (g : Sight) (K : Word → Bool) (j k : Walk) (f h : List Word → Standings → List Refusal) → Adds g K j k f → ((ms : List Word) (s r : Standings) → Seen g K j ms s r → first (f ms r) ≡ first (h ms r)) → Adds g K j k h
 adds_first g K j k f h a e = record { bound = a.bound; tells = λ ms s r q. a.tells ms s r q ∙ first_same_before (told ms j s) (f ms r) (h ms r) (e ms s r q) }

@@ -2,6 +2,7 @@
 use Rattle.std.proofs.Common.{◌≡◌, ℕ, zero, suc, ◌<◌, ◌≤◌, List, [], ◌∷◌, ◌++◌, length, replicate, Bool, true, false, ◌&&◌, ◌||◌, refl, sym, ap, ◌∙◌, arith, append-nil}
 use Rattle.std.specs.List.{flat_map}
 use Rattle.std.proofs.lemmas.List.{map-append}
+use Rattle.std.proofs.Math.Bool.{or_comm}
 use Rattle.tla_token.specs.Signs.{is_among}
 use Rattle.tla_token.specs.declared.place.Place.{Place}
 use Rattle.tla_tree.specs.declared.op.Binder.{Binder}
@@ -89,16 +90,10 @@ unmarked (t ∷ ts) (suc n) w = unmarked ts n w
 pub all_taken : (ts : List Tree) (i j : Met) (n : ℕ) (outside own : List Word) (names : List Word) → i.names ≡ [] → i.marks.items ≡ replicate n false → Adds ts i j own
     → ((w : Word) → is_among names w ≡ (holds ts j w || is_among outside w)) → SameNames names (outside ++ own)
 all_taken ts i j n outside own names e f g last w =
-    last w ∙ ap (λ b. b || is_among outside w) (g.names w ∙ ap (λ b. b || is_among own w) none) ∙ turned (is_among own w) (is_among outside w) ∙ sym (among_both outside own w)
+    last w ∙ ap (λ b. b || is_among outside w) (g.names w ∙ ap (λ b. b || is_among own w) none) ∙ or_comm (is_among own w) (is_among outside w) ∙ sym (among_both outside own w)
   where
     none : holds ts i w ≡ false
     none = (λ t. is_among (e t) w || bound_by ts (f t) w) ∙ unmarked ts n w
-
-    turned : (a b : Bool) → (a || b) ≡ (b || a)
-    turned true true = refl
-    turned true false = refl
-    turned false true = refl
-    turned false false = refl
 
 -- ---- lists of marks
 

@@ -1,8 +1,8 @@
 -- That names are added part by part.
-use Rattle.std.proofs.Common.{◌≡◌, ◌⊎◌, inl, inr, ℕ, zero, suc, ◌+◌, ◌<◌, ◌≤◌, List, [], ◌∷◌, ◌++◌, length, take, get_or, slice_index_or, set, Bool, true, false, ◌&&◌, ◌||◌, bytes_eq, refl, sym, ap, subst, ◌∙◌, arith}
+use Rattle.std.proofs.Common.{◌≡◌, ◌⊎◌, inl, inr, Vec, Global, ℕ, zero, suc, ◌+◌, ◌<◌, ◌≤◌, List, [], ◌∷◌, ◌++◌, length, take, get_or, slice_index_or, set, Bool, true, false, ◌&&◌, ◌||◌, bytes_eq, refl, sym, ap, subst, ◌∙◌, arith}
 use Rattle.std.specs.List.{flat_map}
 use Rattle.std.proofs.lemmas.Bool.{cases_lt}
-use Rattle.std.proofs.lemmas.List.{take_all}
+use Rattle.std.proofs.lemmas.List.{take_all, length-set}
 use Rattle.std.proofs.lemmas.List.Folds.{list_any-append}
 use Rattle.tla_token.specs.Signs.{is_among}
 use Rattle.tla_tree.specs.Tree.{Word, Tree}
@@ -22,10 +22,11 @@ or_nothing true = refl
 or_nothing false = refl
 
 pub adds_none : (ts : List Tree) (k : Met) → Adds ts k k []
-adds_none ts k = record { names = λ w. or_nothing (holds ts k w) }
+adds_none ts k = record { many = refl; names = λ w. or_nothing (holds ts k w) }
 
 pub adds_then : (ts : List Tree) (j k l : Met) (xs ys : List Word) → Adds ts j k xs → Adds ts k l ys → Adds ts j l (xs ++ ys)
 adds_then ts j k l xs ys g h = record {
+  many = h.many ∙ g.many;
   names = λ w.
       h.names w ∙ ap (λ b. b || is_among ys w) (g.names w) ∙ or_both (holds ts j w) (is_among xs w) (is_among ys w)
       ∙ ap (λ b. holds ts j w || b) (sym (among_both xs ys w));
@@ -38,6 +39,7 @@ adds_as ts j k xs ys e g = subst (λ l. Adds ts j k l) e g
 
 pub adds_hidden : (ts : List Tree) (j k : Met) (xs : List Word) → Hides j.names k.names xs → j.marks ≡ k.marks → Adds ts j k xs
 adds_hidden ts j k xs h e = record {
+  many = ap (λ (v : Vec Bool Global). length v.items) (sym e);
   names = λ w.
       (λ i. among w i || bound_by ts (sym e i).items w)
       ∙ turned (is_among j.names w) (is_among xs w) (bound_by ts j.marks.items w);
@@ -71,6 +73,7 @@ bound_marked (t ∷ ts) (m ∷ ms) (suc e) w l =
 
 pub adds_marked : (ts : List Tree) (j k : Met) (e : ℕ) → e < length j.marks.items → k.names ≡ j.names → k.marks.items ≡ set j.marks.items e true → Adds ts j k (expr_words ts e)
 adds_marked ts j k e l n m = record {
+  many = ap (λ (bs : List Bool). length bs) m ∙ length-set j.marks.items e true;
   names = λ w.
       (λ i. is_among (n i) w || bound_by ts (m i) w)
       ∙ ap (λ b. is_among j.names w || b) (bound_marked ts j.marks.items e w l)
@@ -90,6 +93,14 @@ marked_within ts j k e g p less = by (cases_lt e (length j.marks.items))
     by : (e < length j.marks.items) ⊎ (length j.marks.items ≤ e) → Adds ts j k (expr_words ts e)
     by (inl h) = g h ts
     by (inr h) = subst (λ (z : Met). Adds ts j z (expr_words ts e)) (sym (p h)) (adds_as ts j j _ _ (sym (past_pool ts e (omega (arith, h, less)))) (adds_none ts j))
+
+-- as many marks, whether there is one for the number or not
+pub many_marked : (j k : Met) (e : ℕ) → (e < length j.marks.items → (us : List Tree) → Adds us j k (expr_words us e)) → (length j.marks.items ≤ e → k ≡ j) → length k.marks.items ≡ length j.marks.items
+many_marked j k e g p = by (cases_lt e (length j.marks.items))
+  where
+    by : (e < length j.marks.items) ⊎ (length j.marks.items ≤ e) → length k.marks.items ≡ length j.marks.items
+    by (inl h) = (g h []).many
+    by (inr h) = ap (λ (z : Met). length z.marks.items) (p h)
 
 -- ---- one more in a loop
 

@@ -29,7 +29,7 @@ abbrev pub with_seen : Found → List Word → Found
 with_seen l z = record { modules = l.modules; first = l.first; marks = l.marks; seen = z }
 
 pub joins_seen : (ts : List Tree) (k l : Found) (z : List Word) (rs : List Refusal) → Joins ts k l rs → Joins ts k (with_seen l z) rs
-joins_seen ts k l z rs h = record { modules = h.modules; value = h.value }
+joins_seen ts k l z rs h = record { modules = h.modules; many = h.many; value = h.value }
 
 pub once_adds : (j k l : Found) (z : List Word) (n : Name) (x : Word) (p : Place) (b : Bool) → record { word = x; place = p } ≡ n → ((ts : List Tree) → Adds ts j k (declares n ∷ [])) → k.seen ≡ j.seen
     → b ≡ list_any (pointwise ◌==◌ x) k.seen → ((ts : List Tree) → Joins ts k l (offence_if b Duplicate p)) → l.seen ≡ k.seen → Hides l.seen z (x ∷ []) → AddsNames j (with_seen l z) (n ∷ [])
@@ -96,7 +96,7 @@ each_group (g ∷ gs) = ap (λ (l : List Name). g.items ++ l) (each_group gs)
 
 pub list_adds : (j k : Found) (z : List Word) (ns : List Name) → z ≡ [] → AddsNames (with_seen j z) k ns → (ts : List Tree) → Adds ts j k (bound ns ∷ [])
 list_adds j k z ns e g ts =
-    adds_one ts j k (bound ns) (let h = g.adds ts [] (subst (λ (ws : List Word). Binds ws []) (sym e) none_bound) in record { modules = h.modules; value = h.value })
+    adds_one ts j k (bound ns) (let h = g.adds ts [] (subst (λ (ws : List Word). Binds ws []) (sym e) none_bound) in record { modules = h.modules; many = h.many; value = h.value })
 
 -- ---- a list of one name
 

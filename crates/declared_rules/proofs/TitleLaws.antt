@@ -59,9 +59,9 @@ pub titles_joined : (j k l n : Found) (y z : List Word) (kept others : List Name
 titles_joined j k l n y z kept others ws e g h d c ts =
     joins_then ts j l n _ _ first
     (subst (λ (m : Modules). Joins ts l n (seen_offences m (ws ts) kept)) first.modules
-    (let q = c.adds ts (ws ts) (binds_all z (ws ts) (d ts)) in record { modules = q.modules; value = q.value }))
+    (let q = c.adds ts (ws ts) (binds_all z (ws ts) (d ts)) in record { modules = q.modules; many = q.many; value = q.value }))
   where
     first : Joins ts j l (seen_offences j.modules [] (kept ++ others))
     first =
         let q = (names_then (with_seen j y) k l kept others g h).adds ts [] (subst (λ (x : List Word). Binds x []) (sym e) none_bound) in
-        record { modules = q.modules; value = q.value }
+        record { modules = q.modules; many = q.many; value = q.value }

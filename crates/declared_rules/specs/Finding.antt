@@ -1,5 +1,5 @@
 -- The first offence that was found, with those of the expressions whose numbers are still marked.
-use Rattle.std.specs.Prelude.{◌≡◌, List, [], ◌∷◌, ◌++◌, Bool, true, false, ◌&&◌, ◌||◌, not, cond, codes, Option}
+use Rattle.std.specs.Prelude.{◌≡◌, List, [], ◌∷◌, ◌++◌, length, Bool, true, false, ◌&&◌, ◌||◌, not, cond, codes, Option}
 use Rattle.std.specs.List.{flat_map}
 use Rattle.tla_token.specs.declared.place.Place.{Place}
 use Rattle.tla_token.specs.declared.rule.Rule.TheVariants.{Duplicate, Reserved, NeedsModule}
@@ -85,9 +85,10 @@ marked m (t ∷ ts) (b ∷ bs) = cond b (tree_offences m false t) [] ++ marked m
 abbrev pub finding : List Tree → Found → Option Refusal
 finding ts k = joined k.first (first (marked k.modules ts k.marks.items))
 
--- these offences were found
+-- these offences were found, and there are as many marks as before
 pub record Joins (ts : List Tree) (old new : Found) (rs : List Refusal) : Type 0 where
   pub modules : new.modules ≡ old.modules
+  pub many : length new.marks.items ≡ length old.marks.items
   pub value : finding ts new ≡ joined (finding ts old) (first rs)
 
 -- these parts were looked at

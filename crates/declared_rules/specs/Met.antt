@@ -1,5 +1,5 @@
 -- Names that are taken from the start: those that were met, and those that are bound in the expressions whose numbers are marked.
-use Rattle.std.specs.Prelude.{◌≡◌, ℕ, List, [], ◌∷◌, ◌++◌, Bool, false, ◌&&◌, ◌||◌}
+use Rattle.std.specs.Prelude.{◌≡◌, ℕ, List, [], ◌∷◌, ◌++◌, length, Bool, false, ◌&&◌, ◌||◌}
 use Rattle.std.specs.List.{flat_map}
 use Rattle.tla_token.specs.Signs.{is_among}
 use Rattle.tla_tree.specs.Tree.{Word, Tree, words}
@@ -25,8 +25,9 @@ bound_by (t ∷ ts) (m ∷ ms) w = (m && binds t w) || bound_by ts ms w
 abbrev pub holds : List Tree → Met → Word → Bool
 holds ts k w = is_among k.names w || bound_by ts k.marks.items w
 
--- these names were added
+-- these names were added, and there are as many marks as before
 pub record Adds (ts : List Tree) (old new : Met) (ws : List Word) : Type 0 where
+  pub many : length new.marks.items ≡ length old.marks.items
   pub names : (w : Word) → holds ts new w ≡ (holds ts old w || is_among ws w)
 
 -- ---- the names of parts

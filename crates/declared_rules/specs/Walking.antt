@@ -9,10 +9,15 @@ use Rattle.declared_rules.specs.Parts.{Part, in_body}
 use Rattle.declared_rules.specs.Finding as finding
 use Rattle.declared_rules.specs.Met as met
 
--- these parts were looked at, and their names were added
+-- there are as many marks as before
+pub record SameMarks (old new : Walked) : Type 0 where
+  pub found : length new.found.marks.items ≡ length old.found.marks.items
+  pub met : length new.met.marks.items ≡ length old.met.marks.items
+
+-- these parts were looked at, and their names were added, where there is a mark for each tree
 pub record Adds (ts : List Tree) (old new : Walked) (xs : List Part) : Type 0 where
-  pub found : finding.Adds ts old.found new.found xs
-  pub many : length new.met.marks.items ≡ length old.met.marks.items
+  pub marks : SameMarks old new
+  pub found : length ts ≤ length old.found.marks.items → finding.Adds ts old.found new.found xs
   pub met : length ts ≤ length old.met.marks.items → met.Adds ts old.met new.met (met.parts_words xs)
 
 -- those of a statement were, which come before those of the rest of its list

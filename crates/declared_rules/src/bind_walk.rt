@@ -1,6 +1,6 @@
 //! What was found in a text that was gone through: the first offence, and what may offend where the text is put in.
 
-ghost use Rattle.std.specs.Prelude.{◌≡◌, IsTrue, ◌<◌, ◌≤◌, ◌∷◌, ◌++◌, [], List, Bool, map, cond, length, codes, OnOk};
+ghost use Rattle.std.specs.Prelude.{IsTrue, ◌∷◌, [], Bool, map, cond, OnOk};
 ghost use Rattle.std.specs.List.{flat_map};
 ghost use Rattle.tla_token.specs.declared.rule.Rule.TheVariants as rule;
 ghost use Rattle.tla_tree.specs.Tree.{Word};

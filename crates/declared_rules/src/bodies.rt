@@ -1,13 +1,11 @@
 //! Names that statements bind, and names for which other text may be put in.
 
-ghost use Rattle.std.specs.Prelude.{◌≡◌, ◌≤◌, ◌++◌, List, Bool, length, map, OnOk};
+ghost use Rattle.std.specs.Prelude.{◌≡◌, ◌++◌, List, Bool, map, OnOk};
 ghost use Rattle.tla_tree.specs.Tree.{Word};
-ghost use Rattle.tla_tree.specs.Nesting.{greatest};
 ghost use Rattle.tla_tree.specs.Pool.{trees_at};
 ghost use Rattle.pcal_tree.specs.Algorithm.{Procedure as PureProcedure};
-ghost use Rattle.pcal_tree.specs.BoundNames.{names_of_binds};
-ghost use Rattle.pcal_tree.specs.InMemory.{assignments_at, binds_at, simple_at, statements_at, branches_at, past_assignment, past_bind, past_simple, past_stmt, past_statements, past_branches, start_at, declarations_at, past_declaration, past_numbers};
-ghost use Rattle.pcal_tree.specs.OffencesRebind.{any_name, rebound, rebound_all, Calls as PureCalls, start_rebinds, starts_rebind, jump_rebinds, assignments_rebind, each_rebinds, one_rebinds, body_rebinds, branches_rebind};
+ghost use Rattle.pcal_tree.specs.InMemory.{assignments_at, simple_at, statements_at, branches_at, declarations_at};
+ghost use Rattle.pcal_tree.specs.OffencesRebind.{any_name, rebound_all, Calls as PureCalls, starts_rebind, assignments_rebind, each_rebinds, one_rebinds, body_rebinds, branches_rebind};
 ghost use Rattle.declared_rules.specs.Telling.{Adds};
 ghost use Rattle.declared_rules.specs.Keeping.{KnowsCalls};
 ghost use Rattle.declared_rules.specs.Parts.{bind_name};
@@ -54,7 +52,6 @@ impl Walk {
         pool: &Pool,
         list: &[Declaration],
     ) -> Result<(), AllocError>
-        requires { greatest (map past_declaration list.now) ≤ length pool.now }
         ensures { OnOk result ((K : Word → Bool) → Adds sight.now K self.old self.new (λ ms r. starts_rebind ms K (declarations_at pool.now list.now) r)) }
     {
         for i in 0..list.len() {
@@ -74,7 +71,6 @@ impl Walk {
         pool: &Pool,
         list: &[Assignment],
     ) -> Result<(), AllocError>
-        requires { greatest (map past_assignment list.now) ≤ length pool.now }
         ensures { OnOk result (Adds sight.now any_name self.old self.new (λ ms r. assignments_rebind ms (assignments_at pool.now list.now) r)) }
     {
         for assignment in list {
@@ -96,7 +92,6 @@ impl Walk {
 
     // All that a `with` names, each seen by those after it: its expression, and then it is bound.
     fn binds(&mut self, sight: &Sight, pool: &Pool, list: &[Bind]) -> Result<(), AllocError>
-        requires { greatest (map past_bind list.now) ≤ length pool.now }
         ensures { OnOk result (AddsBinds sight.now pool.now list.now self.old self.new) }
     {
         for bind in list {
@@ -116,7 +111,6 @@ impl Walk {
         name: &Name,
         es: &[NodeId],
     ) -> Result<(), AllocError>
-        requires { past_numbers es.now ≤ length pool.now }
         ensures { OnOk result ((C : List Word → PureCalls) (ps : List PureProcedure) → KnowsCalls sight.now calls.now C ps → Adds sight.now any_name self.old self.new (λ ms r. C ms r name.now (trees_at pool.now es.now) ++ each_rebinds ms (trees_at pool.now es.now) r)) }
     {
         let args = each_brings(calls.alloc, pool, es)?;
@@ -132,7 +126,6 @@ impl Walk {
         pool: &Pool,
         simple: &Simple,
     ) -> Result<(), AllocError>
-        requires { past_simple simple.now ≤ length pool.now }
         ensures { OnOk result ((C : List Word → PureCalls) (ps : List PureProcedure) → KnowsCalls sight.now calls.now C ps → Adds sight.now any_name self.old self.new (λ ms r. one_rebinds ms ps (C ms) (simple_at pool.now simple.now) r)) }
     {
         match simple {
@@ -161,7 +154,6 @@ impl Walk {
         pool: &Pool,
         stmt: &Stmt,
     ) -> Result<(), AllocError>
-        requires { past_stmt stmt.now ≤ length pool.now }
         ensures { OnOk result ((C : List Word → PureCalls) (ps : List PureProcedure) → KnowsCalls sight.now calls.now C ps → AddsStmt sight.now C ps pool.now stmt.now self.old self.new) }
     {
         match stmt {
@@ -197,7 +189,6 @@ impl Walk {
         pool: &Pool,
         list: &[Vec<Stmt>],
     ) -> Result<(), AllocError>
-        requires { past_branches list.now ≤ length pool.now }
         ensures { OnOk result ((C : List Word → PureCalls) (ps : List PureProcedure) → KnowsCalls sight.now calls.now C ps → Adds sight.now any_name self.old self.new (λ ms r. branches_rebind ms ps (C ms) (branches_at pool.now list.now) r)) }
     {
         for i in 0..list.len() {
@@ -219,7 +210,6 @@ impl Walk {
         pool: &Pool,
         stmts: &[Stmt],
     ) -> Result<(), AllocError>
-        requires { past_statements stmts.now ≤ length pool.now }
         ensures { OnOk result ((C : List Word → PureCalls) (ps : List PureProcedure) → KnowsCalls sight.now calls.now C ps → Adds sight.now any_name self.old self.new (λ ms r. body_rebinds ms ps (C ms) (statements_at pool.now stmts.now) r)) }
     {
         for stmt in stmts {

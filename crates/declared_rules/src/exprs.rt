@@ -1,12 +1,11 @@
 //! Names that expressions bind, and names for which other text may be put in.
 
-ghost use Rattle.std.specs.Prelude.{◌≡◌, ◌<◌, ◌≤◌, List, Bool, length, OnOk};
+ghost use Rattle.std.specs.Prelude.{Bool, length, OnOk};
 ghost use Rattle.tla_tree.specs.Tree.{Word, seen_names};
 ghost use Rattle.tla_tree.specs.Shapes.{Shaped};
 ghost use Rattle.tla_tree.specs.Pool.{at, trees_at, AllBelow};
 ghost use Rattle.tla_pool.specs.FormOf.{groups_of, form_of};
 ghost use Rattle.pcal_tree.specs.BoundNames.{all_of};
-ghost use Rattle.pcal_tree.specs.InMemory.{past_numbers};
 ghost use Rattle.pcal_tree.specs.OffencesRebind.{rebound_all, form_rebinds, tree_rebinds, parts_rebind, any_name, each_rebinds};
 ghost use Rattle.declared_rules.specs.Telling.{Adds, AddsParts};
 
@@ -49,10 +48,11 @@ impl Walk {
     /// Only for want of memory.
     #[cycle(exprs)]
     pub fn expr(&mut self, sight: &Sight, pool: &Pool, e: NodeId) -> Result<(), AllocError>
-        requires { e < length pool.now }
         ensures { OnOk result ((K : Word → Bool) → Adds sight.now K self.old self.new (λ ms r. tree_rebinds ms K (at pool.now e) r)) }
     {
-        let node = pool.node(e);
+        let Some(node) = pool.get(e) else {
+            return Ok(());
+        };
         self.form(sight, &node.form)?;
         let around = self.bound.len();
         self.parts(sight, pool, &node.form, &node.parts, e)?;
@@ -71,13 +71,12 @@ impl Walk {
         past: NodeId,
     ) -> Result<(), AllocError>
         requires there { AllBelow past parts.now }
-        requires inside { past ≤ length pool.now }
         requires shaped { Shaped (form_of form.now) (length parts.now) }
         ensures { OnOk result ((K : Word → Bool) → AddsParts sight.now K self.old self.new (λ ms r. parts_rebind ms K (seen_names (form_of form.now)) (trees_at pool.now parts.now) r)) }
     {
         for i in 0..parts.len() {
             self.expr(sight, pool, parts[i])?;
-            if ends_in_literal(pool, parts, i, past) {
+            if ends_in_literal(pool, parts, i) {
                 return Ok(());
             }
             self.bound.add_next(form, i)?;
@@ -91,7 +90,6 @@ impl Walk {
     ///
     /// Only for want of memory.
     pub fn exprs(&mut self, sight: &Sight, pool: &Pool, es: &[NodeId]) -> Result<(), AllocError>
-        requires { past_numbers es.now ≤ length pool.now }
         ensures { OnOk result (Adds sight.now any_name self.old self.new (λ ms r. each_rebinds ms (trees_at pool.now es.now) r)) }
     {
         for i in 0..es.len() {

@@ -1,14 +1,14 @@
 //! The first offence that was found, and marks of the expressions that are still to be looked at.
 
-ghost use Rattle.std.specs.Prelude.{◌≡◌, ◌<◌, ◌≤◌, ◌∷◌, ◌++◌, ℕ, List, [], length, map, false, OnOk, IfSome};
+ghost use Rattle.std.specs.Prelude.{◌≡◌, ◌<◌, ◌≤◌, ◌∷◌, ◌++◌, List, [], length, map, OnOk, IfSome};
 ghost use Rattle.std.specs.List.{flat_map};
-ghost use Rattle.tla_tree.specs.Tree.{Tree, Name as PureName};
-ghost use Rattle.pcal_tree.specs.BoundNames.{all_of, lists_of};
+ghost use Rattle.tla_tree.specs.Tree.{Tree};
+ghost use Rattle.pcal_tree.specs.BoundNames.{all_of};
 ghost use Rattle.pcal_tree.specs.InMemory.{past_numbers};
 ghost use Rattle.pcal_tree.specs.Offences.{offence_if};
-ghost use Rattle.tla_pool.specs.FormOf.{groups_of, form_of};
+ghost use Rattle.tla_pool.specs.FormOf.{groups_of};
 ghost use Rattle.declared_rules.specs.Parts.{bound, declares, labels, bind_name, declaration_names, expr_parts};
-ghost use Rattle.declared_rules.specs.Finding.{Joins, Adds, AddsNames, node_offences};
+ghost use Rattle.declared_rules.specs.Finding.{Joins, Adds, AddsNames};
 
 use crate::own::{is_end, is_reserved};
 use algorithm_limits::bound::Bound;
@@ -47,7 +47,6 @@ impl Found {
     /// An offence of this rule, at a place, if it is one.
     pub fn offence(&mut self, is_offence: bool, rule: Rule, place: Place)
         ensures joins { (ts : List Tree) → Joins ts self.old self.new (offence_if is_offence rule place) }
-        ensures many { length self.new.marks.items ≡ length self.old.marks.items }
         ensures seen { self.new.seen ≡ self.old.seen }
     {
         self.first = or_offence(self.first, is_offence, rule, place);
@@ -56,7 +55,6 @@ impl Found {
     /// A name that is declared.
     pub fn declares(&mut self, name: &PlacedName)
         ensures adds { (ts : List Tree) → Adds ts self.old self.new (declares name.now ∷ []) }
-        ensures many { length self.new.marks.items ≡ length self.old.marks.items }
         ensures seen { self.new.seen ≡ self.old.seen }
     {
         let reserved = is_reserved(self.modules, name.name.bytes());
@@ -65,8 +63,7 @@ impl Found {
 
     /// A label.
     pub fn label(&mut self, name: &PlacedName)
-        ensures adds { (ts : List Tree) → Adds ts self.old self.new (labels name.now ∷ []) }
-        ensures many { length self.new.marks.items ≡ length self.old.marks.items }
+        ensures { (ts : List Tree) → Adds ts self.old self.new (labels name.now ∷ []) }
     {
         self.offence(is_end(name.name.bytes()), Rule::Reserved, name.place);
     }
@@ -77,8 +74,7 @@ impl Found {
     ///
     /// Only for want of memory.
     pub fn once(&mut self, name: &PlacedName) -> Result<(), AllocError>
-        ensures adds { OnOk result (AddsNames self.old self.new (name.now ∷ [])) }
-        ensures many { OnOk result (length self.new.marks.items ≡ length self.old.marks.items) }
+        ensures { OnOk result (AddsNames self.old self.new (name.now ∷ [])) }
     {
         self.declares(name);
         let repeated = self.seen.has(&name.name);
@@ -88,8 +84,7 @@ impl Found {
 
     // More of them.
     fn names(&mut self, names: &[PlacedName]) -> Result<(), AllocError>
-        ensures adds { OnOk result (AddsNames self.old self.new names.now) }
-        ensures many { OnOk result (length self.new.marks.items ≡ length self.old.marks.items) }
+        ensures { OnOk result (AddsNames self.old self.new names.now) }
     {
         for name in names {
             self.once(name)?;
@@ -99,8 +94,7 @@ impl Found {
 
     // Those of these groups.
     fn groups(&mut self, groups: &[Vec<PlacedName>]) -> Result<(), AllocError>
-        ensures adds { OnOk result (AddsNames self.old self.new (all_of (groups_of groups.now))) }
-        ensures many { OnOk result (length self.new.marks.items ≡ length self.old.marks.items) }
+        ensures { OnOk result (AddsNames self.old self.new (all_of (groups_of groups.now))) }
     {
         for i in 0..groups.len() {
             self.names(&groups[i])?;
@@ -110,8 +104,7 @@ impl Found {
 
     // One that a `with` names.
     fn bind_name(&mut self, bind: &Bind) -> Result<(), AllocError>
-        ensures adds { OnOk result (AddsNames self.old self.new (bind_name bind.now ∷ [])) }
-        ensures many { OnOk result (length self.new.marks.items ≡ length self.old.marks.items) }
+        ensures { OnOk result (AddsNames self.old self.new (bind_name bind.now ∷ [])) }
     {
         match bind {
             Bind::Among(name, _) => self.once(name),
@@ -121,8 +114,7 @@ impl Found {
 
     // Those that a `with` names.
     fn bind_names(&mut self, binds: &[Bind]) -> Result<(), AllocError>
-        ensures adds { OnOk result (AddsNames self.old self.new (map bind_name binds.now)) }
-        ensures many { OnOk result (length self.new.marks.items ≡ length self.old.marks.items) }
+        ensures { OnOk result (AddsNames self.old self.new (map bind_name binds.now)) }
     {
         for bind in binds {
             self.bind_name(bind)?;
@@ -136,8 +128,7 @@ impl Found {
     ///
     /// Only for want of memory.
     pub fn declared(&mut self, declarations: &[Declaration]) -> Result<(), AllocError>
-        ensures adds { OnOk result (AddsNames self.old self.new (declaration_names declarations.now)) }
-        ensures many { OnOk result (length self.new.marks.items ≡ length self.old.marks.items) }
+        ensures { OnOk result (AddsNames self.old self.new (declaration_names declarations.now)) }
     {
         for declaration in declarations {
             self.once(&declaration.name)?;
@@ -151,8 +142,7 @@ impl Found {
     ///
     /// Only for want of memory.
     pub fn list(&mut self, names: &[PlacedName]) -> Result<(), AllocError>
-        ensures adds { OnOk result ((ts : List Tree) → Adds ts self.old self.new (bound names.now ∷ [])) }
-        ensures many { OnOk result (length self.new.marks.items ≡ length self.old.marks.items) }
+        ensures { OnOk result ((ts : List Tree) → Adds ts self.old self.new (bound names.now ∷ [])) }
     {
         self.seen.truncate(0);
         self.names(names)
@@ -164,8 +154,7 @@ impl Found {
     ///
     /// Only for want of memory.
     pub fn group_list(&mut self, groups: &[Vec<PlacedName>]) -> Result<(), AllocError>
-        ensures adds { OnOk result ((ts : List Tree) → Adds ts self.old self.new (bound (all_of (groups_of groups.now)) ∷ [])) }
-        ensures many { OnOk result (length self.new.marks.items ≡ length self.old.marks.items) }
+        ensures { OnOk result ((ts : List Tree) → Adds ts self.old self.new (bound (all_of (groups_of groups.now)) ∷ [])) }
     {
         if let Some(name) = only_name(groups) {
             self.declares(name);
@@ -181,8 +170,7 @@ impl Found {
     ///
     /// Only for want of memory.
     pub fn bind_list(&mut self, binds: &[Bind]) -> Result<(), AllocError>
-        ensures adds { OnOk result ((ts : List Tree) → Adds ts self.old self.new (bound (map bind_name binds.now) ∷ [])) }
-        ensures many { OnOk result (length self.new.marks.items ≡ length self.old.marks.items) }
+        ensures { OnOk result ((ts : List Tree) → Adds ts self.old self.new (bound (map bind_name binds.now) ∷ [])) }
     {
         self.seen.truncate(0);
         self.bind_names(binds)
@@ -198,28 +186,27 @@ impl Found {
         params: &[Declaration],
         variables: &[Declaration],
     ) -> Result<(), AllocError>
-        ensures adds { OnOk result ((ts : List Tree) → Adds ts self.old self.new (bound (declaration_names params.now ++ declaration_names variables.now) ∷ [])) }
-        ensures many { OnOk result (length self.new.marks.items ≡ length self.old.marks.items) }
+        ensures { OnOk result ((ts : List Tree) → Adds ts self.old self.new (bound (declaration_names params.now ++ declaration_names variables.now) ∷ [])) }
     {
         self.seen.truncate(0);
         self.declared(params)?;
         self.declared(variables)
     }
 
-    /// An expression.
+    /// An expression; nothing is added for a number past the marks.
     pub fn expr(&mut self, e: NodeId)
-        requires { e < length self.old.marks.items }
-        ensures adds { (ts : List Tree) → Adds ts self.old self.new (expr_parts ts e) }
-        ensures many { length self.new.marks.items ≡ length self.old.marks.items }
+        ensures adds { e < length self.old.marks.items → (ts : List Tree) → Adds ts self.old self.new (expr_parts ts e) }
+        ensures past { length self.old.marks.items ≤ e → self.new ≡ self.old }
     {
-        self.marks[e] = true;
+        if e < self.marks.len() {
+            self.marks[e] = true;
+        }
     }
 
     /// Expressions.
     pub fn exprs(&mut self, es: &[NodeId])
         requires { past_numbers es.now ≤ length self.old.marks.items }
-        ensures adds { (ts : List Tree) → Adds ts self.old self.new (flat_map (expr_parts ts) es.now) }
-        ensures many { length self.new.marks.items ≡ length self.old.marks.items }
+        ensures { (ts : List Tree) → Adds ts self.old self.new (flat_map (expr_parts ts) es.now) }
     {
         for e in es {
             self.expr(*e);

@@ -1,11 +1,10 @@
 //! What is kept of macros and procedures, and macros' own texts.
 
-ghost use Rattle.std.specs.Prelude.{◌≡◌, ◌≤◌, ◌++◌, [], List, Bool, length, map, reverse, OnOk};
+ghost use Rattle.std.specs.Prelude.{◌≡◌, ◌++◌, [], List, map, reverse, OnOk};
 ghost use Rattle.tla_token.specs.Signs.{is_among};
 ghost use Rattle.tla_tree.specs.Tree.{Word, words};
-ghost use Rattle.tla_tree.specs.Nesting.{greatest};
 ghost use Rattle.pcal_tree.specs.Algorithm.{Procedure as PureProcedure};
-ghost use Rattle.pcal_tree.specs.InMemory.{statements_at, macro_at, procedure_at, past_macro, past_procedure};
+ghost use Rattle.pcal_tree.specs.InMemory.{statements_at, macro_at, procedure_at};
 ghost use Rattle.pcal_tree.specs.OffencesRebind.{any_name, naming, rebound_all, self_alone, Calls as PureCalls, body_rebinds, call_rebinds, macro_rebinds};
 ghost use Rattle.declared_rules.specs.Telling.{told, Adds};
 ghost use Rattle.declared_rules.specs.Keeping.{Means, KnowsCalls};
@@ -56,7 +55,6 @@ impl Walk {
         one: &Macro,
         kept: &mut Kept,
     ) -> Result<(), AllocError>
-        requires { past_macro one.now ≤ length pool.now }
         ensures params { OnOk result (kept.old.params.items ≡ [] → kept.new.params.items ≡ one.now.params.items) }
         ensures found { OnOk result ((C : List Word → PureCalls) (ps : List PureProcedure) → KnowsCalls far.now calls.now C ps → Adds far.now any_name kept.old.found kept.new.found (λ ms r. body_rebinds ms ps (C ms) (statements_at pool.now one.now.body.items) r)) }
         ensures text { OnOk result (Adds near.now any_name self.old self.new (λ ms r. rebound_all ms r kept.new.params.items ++ told ms kept.new.found (naming (words kept.new.params.items) r))) }
@@ -75,7 +73,6 @@ impl Walk {
         pool: &Pool,
         one: &Macro,
     ) -> Result<(), AllocError>
-        requires { past_macro one.now ≤ length pool.now }
         ensures { OnOk result (MacroKept near.now far.now pool.now one.now self.old self.new calls.old calls.new) }
     {
         let mut kept = Kept::new(calls.alloc);
@@ -101,7 +98,6 @@ impl Walk {
         pool: &Pool,
         list: &[Macro],
     ) -> Result<(), AllocError>
-        requires { greatest (map past_macro list.now) ≤ length pool.now }
         ensures { OnOk result ((ps : List PureProcedure) → Ready near.now far.now calls.old ps (macro_names list.now) → Means far.now far.now.stands calls.old.macros (λ ms. macro_rebinds ms ps []) → MacrosAt near.now far.now ps self.old self.new calls.old calls.new (reverse (map (macro_at pool.now) list.now))) }
     {
         for i in 0..list.len() {
@@ -120,7 +116,6 @@ impl Keeps {
         pool: &Pool,
         procedure: &Procedure,
     ) -> Result<(), AllocError>
-        requires { past_procedure procedure.now ≤ length pool.now }
         ensures { OnOk result (ProcedureKept sight.now pool.now procedure.now self.old self.new) }
     {
         let mut kept = Kept::new(alloc);
@@ -145,7 +140,6 @@ impl Keeps {
         pool: &Pool,
         list: &[Procedure],
     ) -> Result<(), AllocError>
-        requires { greatest (map past_procedure list.now) ≤ length pool.now }
         ensures { OnOk result ((P : List Word) → self.old.kept.entries ≡ [] → ((x : Word) → is_among sight.now.stands x ≡ self_alone x) → Means sight.now P self.new (λ ms s x ts. call_rebinds ms (map (procedure_at pool.now) list.now) x s)) }
     {
         let count = list.len();

@@ -37,8 +37,7 @@ impl Met {
     ///
     /// Only for want of memory.
     pub fn name(&mut self, name: &Name) -> Result<(), AllocError>
-        ensures adds { OnOk result ((ts : List Tree) → Adds ts self.old self.new (name.now ∷ [])) }
-        ensures many { OnOk result (length self.new.marks.items ≡ length self.old.marks.items) }
+        ensures { OnOk result ((ts : List Tree) → Adds ts self.old self.new (name.now ∷ [])) }
     {
         self.names.add(name)
     }
@@ -49,8 +48,7 @@ impl Met {
     ///
     /// Only for want of memory.
     pub fn names(&mut self, names: &[PlacedName]) -> Result<(), AllocError>
-        ensures adds { OnOk result ((ts : List Tree) → Adds ts self.old self.new (words names.now)) }
-        ensures many { OnOk result (length self.new.marks.items ≡ length self.old.marks.items) }
+        ensures { OnOk result ((ts : List Tree) → Adds ts self.old self.new (words names.now)) }
     {
         self.names.add_all(names)
     }
@@ -61,8 +59,7 @@ impl Met {
     ///
     /// Only for want of memory.
     pub fn bind_names(&mut self, binds: &[Bind]) -> Result<(), AllocError>
-        ensures adds { OnOk result ((ts : List Tree) → Adds ts self.old self.new (words (map bind_name binds.now))) }
-        ensures many { OnOk result (length self.new.marks.items ≡ length self.old.marks.items) }
+        ensures { OnOk result ((ts : List Tree) → Adds ts self.old self.new (words (map bind_name binds.now))) }
     {
         for bind in binds {
             match bind {
@@ -76,7 +73,6 @@ impl Met {
     pub fn mark(&mut self, e: NodeId)
         ensures adds { e < length self.old.marks.items → (ts : List Tree) → Adds ts self.old self.new (expr_words ts e) }
         ensures past { length self.old.marks.items ≤ e → self.new ≡ self.old }
-        ensures many { length self.new.marks.items ≡ length self.old.marks.items }
     {
         if e < self.marks.len() {
             self.marks[e] = true;
@@ -86,8 +82,7 @@ impl Met {
     // Expressions.
     fn exprs(&mut self, es: &[NodeId])
         requires { past_numbers es.now ≤ length self.old.marks.items }
-        ensures adds { (ts : List Tree) → Adds ts self.old self.new (flat_map (expr_words ts) es.now) }
-        ensures many { length self.new.marks.items ≡ length self.old.marks.items }
+        ensures { (ts : List Tree) → Adds ts self.old self.new (flat_map (expr_words ts) es.now) }
     {
         for e in es {
             self.mark(*e);
@@ -96,8 +91,7 @@ impl Met {
 
     // The names that a form binds.
     fn form(&mut self, form: &Form) -> Result<(), AllocError>
-        ensures adds { OnOk result ((ts : List Tree) → Adds ts self.old self.new (bound_words (lists_of (form_of form.now)))) }
-        ensures many { OnOk result (length self.new.marks.items ≡ length self.old.marks.items) }
+        ensures { OnOk result ((ts : List Tree) → Adds ts self.old self.new (bound_words (lists_of (form_of form.now)))) }
     {
         match form {
             Form::Binding(_, groups) => self.names.add_groups(groups),
@@ -108,12 +102,12 @@ impl Met {
 
     // The names of an expression: those of its form, and its parts are marked, which have smaller numbers.
     fn open(&mut self, pool: &Pool, e: NodeId) -> Result<(), AllocError>
-        requires there { e < length pool.now }
-        requires next { length self.old.marks.items ≡ e }
-        ensures adds { OnOk result (Adds pool.now self.old self.new (expr_words pool.now e)) }
-        ensures many { OnOk result (length self.new.marks.items ≡ length self.old.marks.items) }
+        requires { length self.old.marks.items ≡ e }
+        ensures { OnOk result (Adds pool.now self.old self.new (expr_words pool.now e)) }
     {
-        let node = pool.node(e);
+        let Some(node) = pool.get(e) else {
+            return Ok(());
+        };
         self.form(&node.form)?;
         self.exprs(&node.parts);
         Ok(())
@@ -135,8 +129,7 @@ impl Met {
 
     // The parameters of a definition outside, and its body; a number past the marks has no names.
     fn read(&mut self, definition: &ReadDefinition) -> Result<(), AllocError>
-        ensures adds { OnOk result ((ts : List Tree) → length ts ≤ length self.old.marks.items → Adds ts self.old self.new (words_within ts definition.now)) }
-        ensures many { OnOk result (length self.new.marks.items ≡ length self.old.marks.items) }
+        ensures { OnOk result ((ts : List Tree) → length ts ≤ length self.old.marks.items → Adds ts self.old self.new (words_within ts definition.now)) }
     {
         self.names(&definition.params)?;
         self.mark(definition.body);
@@ -145,8 +138,7 @@ impl Met {
 
     // Definitions that were read outside.
     fn reads(&mut self, list: &[ReadDefinition]) -> Result<(), AllocError>
-        ensures adds { OnOk result ((ts : List Tree) → length ts ≤ length self.old.marks.items → Adds ts self.old self.new (flat_map (words_within ts) list.now)) }
-        ensures many { OnOk result (length self.new.marks.items ≡ length self.old.marks.items) }
+        ensures { OnOk result ((ts : List Tree) → length ts ≤ length self.old.marks.items → Adds ts self.old self.new (flat_map (words_within ts) list.now)) }
     {
         for definition in list {
             self.read(definition)?;
@@ -156,8 +148,7 @@ impl Met {
 
     // What is outside.
     fn outside(&mut self, outside: &Outside) -> Result<(), AllocError>
-        ensures adds { OnOk result ((ts : List Tree) → length ts ≤ length self.old.marks.items → Adds ts self.old self.new (taken_outside (outside_at ts outside.now))) }
-        ensures many { OnOk result (length self.new.marks.items ≡ length self.old.marks.items) }
+        ensures { OnOk result ((ts : List Tree) → length ts ≤ length self.old.marks.items → Adds ts self.old self.new (taken_outside (outside_at ts outside.now))) }
     {
         bind_units(&mut self.names, outside)?;
         self.reads(&outside.definitions)

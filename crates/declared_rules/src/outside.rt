@@ -1,9 +1,9 @@
 //! What is outside: reserved names there, variables that are declared there, and names that those of the algorithm may not be.
 
-ghost use Rattle.std.specs.Prelude.{◌≡◌, ◌∷◌, ◌++◌, [], List, length, map, codes, OnOk};
+ghost use Rattle.std.specs.Prelude.{◌≡◌, ◌∷◌, [], List, map, codes, OnOk};
 ghost use Rattle.std.specs.List.{flat_map};
 ghost use Rattle.tla_token.specs.Signs.{is_among as is_among_of};
-ghost use Rattle.tla_tree.specs.Tree.{Tree, words};
+ghost use Rattle.tla_tree.specs.Tree.{Tree};
 ghost use Rattle.pcal_tree.specs.Outside.{unit_names};
 ghost use Rattle.module_outside.specs.Passing.{passed_seen};
 ghost use Rattle.module_outside.specs.WholeAt.{outside_at};
@@ -35,16 +35,14 @@ fn is_declaring(word: &[u8]) -> bool
 impl Found {
     // A name of a unit that is passed on.
     fn passed_name(&mut self, name: &Name, place: Place)
-        ensures joins { (ts : List Tree) → Joins ts self.old self.new (passed_offences place name.now) }
-        ensures many { length self.new.marks.items ≡ length self.old.marks.items }
+        ensures { (ts : List Tree) → Joins ts self.old self.new (passed_offences place name.now) }
     {
         self.offence(is_own(name.bytes()), Rule::Reserved, place);
     }
 
     // All of them.
     fn passed_names(&mut self, names: &[Name], place: Place)
-        ensures joins { (ts : List Tree) → Joins ts self.old self.new (flat_map (passed_offences place) names.now) }
-        ensures many { length self.new.marks.items ≡ length self.old.marks.items }
+        ensures { (ts : List Tree) → Joins ts self.old self.new (flat_map (passed_offences place) names.now) }
     {
         for name in names {
             self.passed_name(name, place);
@@ -53,8 +51,7 @@ impl Found {
 
     // A unit that is passed on.
     fn unit(&mut self, unit: &Passed)
-        ensures joins { (ts : List Tree) → Joins ts self.old self.new (unit_offences (passed_seen unit.now)) }
-        ensures many { length self.new.marks.items ≡ length self.old.marks.items }
+        ensures { (ts : List Tree) → Joins ts self.old self.new (unit_offences (passed_seen unit.now)) }
     {
         self.passed_names(&unit.names, unit.place);
         self.offence(
@@ -66,8 +63,7 @@ impl Found {
 
     // Units that are passed on.
     fn units(&mut self, list: &[Passed])
-        ensures joins { (ts : List Tree) → Joins ts self.old self.new (flat_map unit_offences (map passed_seen list.now)) }
-        ensures many { length self.new.marks.items ≡ length self.old.marks.items }
+        ensures { (ts : List Tree) → Joins ts self.old self.new (flat_map unit_offences (map passed_seen list.now)) }
     {
         for unit in list {
             self.unit(unit);
@@ -76,8 +72,7 @@ impl Found {
 
     // Constants.
     fn constants(&mut self, names: &[PlacedName])
-        ensures adds { (ts : List Tree) → Adds ts self.old self.new (flat_map constant_parts names.now) }
-        ensures many { length self.new.marks.items ≡ length self.old.marks.items }
+        ensures { (ts : List Tree) → Adds ts self.old self.new (flat_map constant_parts names.now) }
     {
         for name in names {
             self.declares(name);
@@ -86,8 +81,7 @@ impl Found {
 
     // Definitions that were read.
     fn read_titles(&mut self, list: &[ReadDefinition])
-        ensures adds { (ts : List Tree) → Adds ts self.old self.new (flat_map read_parts list.now) }
-        ensures many { length self.new.marks.items ≡ length self.old.marks.items }
+        ensures { (ts : List Tree) → Adds ts self.old self.new (flat_map read_parts list.now) }
     {
         for definition in list {
             self.declares(&definition.title);
@@ -98,8 +92,7 @@ impl Found {
 
     // The names of definitions.
     fn defined(&mut self, list: &[Definition]) -> Result<(), AllocError>
-        ensures adds { OnOk result (AddsNames self.old self.new (defined_names list.now)) }
-        ensures many { OnOk result (length self.new.marks.items ≡ length self.old.marks.items) }
+        ensures { OnOk result (AddsNames self.old self.new (defined_names list.now)) }
     {
         for definition in list {
             self.once(&definition.name)?;
@@ -109,8 +102,7 @@ impl Found {
 
     // Those of macros.
     fn macro_titles(&mut self, list: &[Macro]) -> Result<(), AllocError>
-        ensures adds { OnOk result (AddsNames self.old self.new (macro_names list.now)) }
-        ensures many { OnOk result (length self.new.marks.items ≡ length self.old.marks.items) }
+        ensures { OnOk result (AddsNames self.old self.new (macro_names list.now)) }
     {
         for one in list {
             self.once(&one.name)?;
@@ -120,8 +112,7 @@ impl Found {
 
     // Those of procedures.
     fn procedure_titles(&mut self, list: &[Procedure]) -> Result<(), AllocError>
-        ensures adds { OnOk result (AddsNames self.old self.new (procedure_names list.now)) }
-        ensures many { OnOk result (length self.new.marks.items ≡ length self.old.marks.items) }
+        ensures { OnOk result (AddsNames self.old self.new (procedure_names list.now)) }
     {
         for procedure in list {
             self.once(&procedure.name)?;
@@ -131,8 +122,7 @@ impl Found {
 
     // Those of processes.
     fn process_titles(&mut self, list: &[Process]) -> Result<(), AllocError>
-        ensures adds { OnOk result (AddsNames self.old self.new (process_names list.now)) }
-        ensures many { OnOk result (length self.new.marks.items ≡ length self.old.marks.items) }
+        ensures { OnOk result (AddsNames self.old self.new (process_names list.now)) }
     {
         for process in list {
             self.once(&process.name)?;
@@ -142,8 +132,7 @@ impl Found {
 
     // Those of what runs.
     fn main_titles(&mut self, main: &Main) -> Result<(), AllocError>
-        ensures adds { OnOk result (AddsNames self.old self.new (main_names main.now)) }
-        ensures many { OnOk result (length self.new.marks.items ≡ length self.old.marks.items) }
+        ensures { OnOk result (AddsNames self.old self.new (main_names main.now)) }
     {
         match main {
             Main::Alone(_) => Ok(()),
@@ -153,8 +142,7 @@ impl Found {
 
     // Those of globals and definitions.
     fn kept(&mut self, algorithm: &Algorithm) -> Result<(), AllocError>
-        ensures adds { OnOk result (AddsNames self.old self.new (kept_titles algorithm.now)) }
-        ensures many { OnOk result (length self.new.marks.items ≡ length self.old.marks.items) }
+        ensures { OnOk result (AddsNames self.old self.new (kept_titles algorithm.now)) }
     {
         self.declared(&algorithm.globals)?;
         self.defined(&algorithm.definitions)
@@ -162,8 +150,7 @@ impl Found {
 
     // Those of macros, procedures and processes.
     fn others(&mut self, algorithm: &Algorithm) -> Result<(), AllocError>
-        ensures adds { OnOk result (AddsNames self.old self.new (other_titles algorithm.now)) }
-        ensures many { OnOk result (length self.new.marks.items ≡ length self.old.marks.items) }
+        ensures { OnOk result (AddsNames self.old self.new (other_titles algorithm.now)) }
     {
         self.macro_titles(&algorithm.macros)?;
         self.procedure_titles(&algorithm.procedures)?;
@@ -176,8 +163,7 @@ impl Found {
     ///
     /// Only for want of memory.
     pub fn titles(&mut self, algorithm: &Algorithm, outside: &Outside) -> Result<(), AllocError>
-        ensures joins { OnOk result ((ts : List Tree) → Joins ts self.old self.new (title_offences self.old.modules (unit_names (outside_at ts outside.now)) (kept_titles algorithm.now) (other_titles algorithm.now))) }
-        ensures many { OnOk result (length self.new.marks.items ≡ length self.old.marks.items) }
+        ensures { OnOk result ((ts : List Tree) → Joins ts self.old self.new (title_offences self.old.modules (unit_names (outside_at ts outside.now)) (kept_titles algorithm.now) (other_titles algorithm.now))) }
     {
         self.seen.truncate(0);
         self.kept(algorithm)?;
@@ -189,8 +175,7 @@ impl Found {
 
     /// What is outside.
     pub fn outside(&mut self, outside: &Outside)
-        ensures joins { (ts : List Tree) → Joins ts self.old self.new (outside_offences self.old.modules (outside_at ts outside.now)) }
-        ensures many { length self.new.marks.items ≡ length self.old.marks.items }
+        ensures { (ts : List Tree) → Joins ts self.old self.new (outside_offences self.old.modules (outside_at ts outside.now)) }
     {
         self.constants(&outside.constants);
         self.read_titles(&outside.definitions);

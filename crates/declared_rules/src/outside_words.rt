@@ -1,7 +1,7 @@
 //! Names that are in scope outside the algorithm.
 
 ghost use Rattle.std.specs.Prelude.{List, OnOk};
-ghost use Rattle.tla_tree.specs.Tree.{Tree, words};
+ghost use Rattle.tla_tree.specs.Tree.{Tree};
 ghost use Rattle.pcal_tree.specs.Outside.{unit_names};
 ghost use Rattle.algorithm_limits.specs.DepthsIn.{Hides};
 ghost use Rattle.module_outside.specs.WholeAt.{outside_at};

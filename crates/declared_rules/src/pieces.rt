@@ -1,12 +1,11 @@
 //! What a tree brings to where it is put in: the names that it binds, and those that are free in it.
 
-ghost use Rattle.std.specs.Prelude.{◌≡◌, ◌<◌, ◌≤◌, ◌∷◌, [], List, length, map, IfOk, OnOk};
-ghost use Rattle.tla_tree.specs.Tree.{Word, seen_names};
+ghost use Rattle.std.specs.Prelude.{◌≡◌, [], length, map, IfOk, OnOk};
+ghost use Rattle.tla_tree.specs.Tree.{seen_names};
 ghost use Rattle.tla_tree.specs.Shapes.{Shaped};
 ghost use Rattle.tla_tree.specs.Pool.{at, trees_at, AllBelow};
 ghost use Rattle.tla_pool.specs.FormOf.{groups_of, form_of};
 ghost use Rattle.pcal_tree.specs.BoundNames.{all_of};
-ghost use Rattle.pcal_tree.specs.InMemory.{past_numbers};
 ghost use Rattle.pcal_tree.specs.OffencesRebind.{binds, pieces, pieces_in};
 ghost use Rattle.declared_rules.specs.Gathering.{list_of, lists_of, each_pieces, form_pieces, own_pieces, Gathers, GathersParts};
 
@@ -79,10 +78,11 @@ impl Pieces {
     // A tree. It calls itself as deep as forms are in forms.
     #[cycle(pieces)]
     fn expr(&mut self, pool: &Pool, e: NodeId) -> Result<(), AllocError>
-        requires { e < length pool.now }
         ensures { OnOk result (Gathers self.old self.new (pieces (at pool.now e))) }
     {
-        let node = pool.node(e);
+        let Some(node) = pool.get(e) else {
+            return Ok(());
+        };
         self.form(&node.form)?;
         let around = self.bound.len();
         self.parts(pool, &node.form, &node.parts, e)?;
@@ -100,7 +100,6 @@ impl Pieces {
         past: NodeId,
     ) -> Result<(), AllocError>
         requires there { AllBelow past parts.now }
-        requires inside { past ≤ length pool.now }
         requires shaped { Shaped (form_of form.now) (length parts.now) }
         ensures { OnOk result (GathersParts self.old self.new (pieces_in (seen_names (form_of form.now)) (trees_at pool.now parts.now))) }
     {
@@ -118,7 +117,6 @@ impl Pieces {
 ///
 /// Only for want of memory.
 pub fn pieces_of(alloc: Global, pool: &Pool, e: NodeId) -> Result<Vec<Piece>, AllocError>
-    requires { e < length pool.now }
     ensures { IfOk result (λ r. list_of r.items ≡ pieces (at pool.now e) []) }
 {
     let mut found = Pieces {
@@ -144,7 +142,6 @@ pub fn pieces_of(alloc: Global, pool: &Pool, e: NodeId) -> Result<Vec<Piece>, Al
 ///
 /// Only for want of memory.
 pub fn each_brings(alloc: Global, pool: &Pool, es: &[NodeId]) -> Result<Vec<Vec<Piece>>, AllocError>
-    requires { past_numbers es.now ≤ length pool.now }
     ensures { IfOk result (λ r. lists_of r.items ≡ each_pieces (trees_at pool.now es.now)) }
 {
     let mut lists = Vec::new(alloc);

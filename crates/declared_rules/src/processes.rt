@@ -1,12 +1,11 @@
 //! Processes, and what runs.
 
-ghost use Rattle.std.specs.Prelude.{◌≤◌, Bool, false, List, length, map, OnOk};
+ghost use Rattle.std.specs.Prelude.{false, List, map, OnOk};
 ghost use Rattle.std.specs.List.{flat_map};
 ghost use Rattle.tla_tree.specs.Tree.{Word};
-ghost use Rattle.tla_tree.specs.Nesting.{greatest};
 ghost use Rattle.tla_tree.specs.Pool.{at};
 ghost use Rattle.pcal_tree.specs.Algorithm.{Procedure as PureProcedure};
-ghost use Rattle.pcal_tree.specs.InMemory.{statements_at, process_at, main_at, past_process, past_main};
+ghost use Rattle.pcal_tree.specs.InMemory.{statements_at, process_at, main_at};
 ghost use Rattle.pcal_tree.specs.OffencesRebind.{any_name, body_rebinds, Calls as PureCalls, process_rebinds, main_rebinds};
 ghost use Rattle.declared_rules.specs.Telling.{IsNew, Adds};
 ghost use Rattle.declared_rules.specs.Keeping.{KnowsCalls};
@@ -33,7 +32,6 @@ impl Walk {
         process: &Process,
         found: &mut Walk,
     ) -> Result<(), AllocError>
-        requires { past_process process.now ≤ length pool.now }
         ensures { OnOk result ((C : List Word → PureCalls) (ps : List PureProcedure) → IsNew found.old → Singles near.now own.now → KnowsCalls own.now calls.now C ps → Adds near.now any_name self.old self.new (λ ms r. body_rebinds ms ps (C ms) (statements_at pool.now process.now.body.items) (body_scope false (at pool.now process.now.identity) r))) }
     {
         found.body(own, calls, pool, &process.body)?;
@@ -58,7 +56,6 @@ impl Walk {
         pool: &Pool,
         process: &Process,
     ) -> Result<(), AllocError>
-        requires { past_process process.now ≤ length pool.now }
         ensures { OnOk result ((C : List Word → PureCalls) (ps : List PureProcedure) → Singles near.now own.now → KnowsCalls near.now calls.now C ps → KnowsCalls own.now calls.now C ps → Adds near.now any_name self.old self.new (λ ms r. body_rebinds ms ps (C ms) (statements_at pool.now process.now.body.items) (body_scope process.now.several (at pool.now process.now.identity) r))) }
     {
         if process.several {
@@ -79,7 +76,6 @@ impl Walk {
         pool: &Pool,
         list: &[Process],
     ) -> Result<(), AllocError>
-        requires { greatest (map past_process list.now) ≤ length pool.now }
         ensures { OnOk result ((C : List Word → PureCalls) (ps : List PureProcedure) → Singles near.now own.now → KnowsCalls near.now calls.now C ps → KnowsCalls own.now calls.now C ps → Adds near.now any_name self.old self.new (λ ms r. flat_map (process_rebinds ms ps (C ms) r) (map (process_at pool.now) list.now))) }
     {
         for i in 0..list.len() {
@@ -106,7 +102,6 @@ impl Walk {
         pool: &Pool,
         main: &Main,
     ) -> Result<(), AllocError>
-        requires { past_main main.now ≤ length pool.now }
         ensures { OnOk result ((C : List Word → PureCalls) (ps : List PureProcedure) → Singles near.now own.now → KnowsCalls near.now calls.now C ps → KnowsCalls own.now calls.now C ps → Adds near.now any_name self.old self.new (λ ms r. main_rebinds ms ps (C ms) r (main_at pool.now main.now))) }
     {
         match main {

@@ -1,9 +1,9 @@
 //! What a call offends, by what is kept of what is called.
 
-ghost use Rattle.std.specs.Prelude.{◌≡◌, ◌≤◌, ◌∷◌, [], List, Some, None, length, map, OnOk, IfSome, IfNone};
+ghost use Rattle.std.specs.Prelude.{◌≡◌, ◌∷◌, [], List, Some, None, OnOk, IfSome, IfNone};
 ghost use Rattle.std.specs.List.{flat_map};
 ghost use Rattle.tla_tree.specs.Tree.{Word, Trees};
-ghost use Rattle.pcal_tree.specs.OffencesRebind.{Standings, naming, brought, rebound_all, any_name, piece_names, Calls as PureCalls, putting_in};
+ghost use Rattle.pcal_tree.specs.OffencesRebind.{naming, rebound_all, any_name, piece_names, Calls as PureCalls, putting_in};
 ghost use Rattle.pcal_tree.specs.laws.MacroBindings.{offences_where};
 ghost use Rattle.declared_rules.specs.Telling.{binding_of, told, Adds};
 ghost use Rattle.declared_rules.specs.Gathering.{list_of, lists_of, each_pieces};

@@ -1,10 +1,10 @@
 //! Names that are bound or declared where they are in scope already, in an algorithm.
 
-ghost use Rattle.std.specs.Prelude.{◌≡◌, ◌≤◌, ◌∷◌, [], length, codes, IfOk, OnOk};
+ghost use Rattle.std.specs.Prelude.{◌≡◌, ◌∷◌, [], codes, IfOk, OnOk};
 ghost use Rattle.tla_tree.specs.Tree.{words};
 ghost use Rattle.algorithm_limits.specs.DepthsIn.{Hides};
 ghost use Rattle.module_outside.specs.ModulesIn.{AreModules};
-ghost use Rattle.pcal_tree.specs.InMemory.{algorithm_at, past_algorithm};
+ghost use Rattle.pcal_tree.specs.InMemory.{algorithm_at};
 ghost use Rattle.pcal_tree.specs.Offences.{first};
 ghost use Rattle.pcal_tree.specs.OffencesRebind.{any_name, rebind_offences_of};
 ghost use Rattle.module_outside.specs.WholeAt.{outside_at};
@@ -66,7 +66,6 @@ impl Walk {
         pool: &Pool,
         algorithm: &Algorithm,
     ) -> Result<(), AllocError>
-        requires { past_algorithm algorithm.now ≤ length pool.now }
         ensures { OnOk result (Begins sights.now pool.now algorithm.now calls.old → Adds sights.now.near any_name self.old self.new (λ ms r. insides ms (algorithm_at pool.now algorithm.now) r)) }
     {
         self.starts(&sights.near, pool, &algorithm.globals)?;
@@ -127,7 +126,6 @@ fn first_offence(
     algorithm: &Algorithm,
     outside: &Outside,
 ) -> Result<Option<Refusal>, AllocError>
-    requires { past_algorithm algorithm.now ≤ length pool.now }
     ensures { IfOk result (λ f. (m : Modules) → AreModules m (words outside.now.extended.items) → AreAlone m sights.old → AreNone calls.old → IsNew walk.old → f ≡ first (rebind_offences_of (algorithm_at pool.now algorithm.now) (outside_at pool.now outside.now))) }
 {
     let alloc = calls.alloc;
@@ -151,7 +149,6 @@ fn with_calls(
     algorithm: &Algorithm,
     outside: &Outside,
 ) -> Result<Option<Refusal>, AllocError>
-    requires { past_algorithm algorithm.now ≤ length pool.now }
     ensures { IfOk result (λ f. (m : Modules) → AreModules m (words outside.now.extended.items) → AreAlone m sights.old → AreNone calls.old → f ≡ first (rebind_offences_of (algorithm_at pool.now algorithm.now) (outside_at pool.now outside.now))) }
 {
     let mut walk = Walk::new(alloc);
@@ -168,7 +165,6 @@ fn with_sights(
     algorithm: &Algorithm,
     outside: &Outside,
 ) -> Result<Option<Refusal>, AllocError>
-    requires { past_algorithm algorithm.now ≤ length pool.now }
     ensures { IfOk result (λ f. (m : Modules) → AreModules m (words outside.now.extended.items) → AreAlone m sights.old → f ≡ first (rebind_offences_of (algorithm_at pool.now algorithm.now) (outside_at pool.now outside.now))) }
 {
     let process = Vec::from_slice(alloc, b"self")?;
@@ -190,7 +186,6 @@ pub fn rebind_refusal(
     algorithm: &Algorithm,
     outside: &Outside,
 ) -> Result<Option<Refusal>, AllocError>
-    requires { past_algorithm algorithm.now ≤ length pool.now }
     ensures { IfOk result (λ r. r ≡ first (rebind_offences_of (algorithm_at pool.now algorithm.now) (outside_at pool.now outside.now))) }
 {
     let modules = modules_among(&outside.extended);

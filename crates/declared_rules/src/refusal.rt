@@ -1,8 +1,8 @@
 //! What an algorithm declares: by which offence it is refused, of those against the rules on declared names and on modules, and the
 //! names that are taken from the start.
 
-ghost use Rattle.std.specs.Prelude.{◌≡◌, ◌≤◌, ℕ, [], length, replicate, false, None, IfOk, OnOk};
-ghost use Rattle.pcal_tree.specs.InMemory.{past_algorithm, algorithm_at};
+ghost use Rattle.std.specs.Prelude.{◌≡◌, ℕ, [], length, replicate, false, None, IfOk, OnOk};
+ghost use Rattle.pcal_tree.specs.InMemory.{algorithm_at};
 ghost use Rattle.pcal_tree.specs.Names.{taken_at_start};
 ghost use Rattle.pcal_tree.specs.Offences.{first};
 ghost use Rattle.module_outside.specs.WholeAt.{outside_at};
@@ -38,7 +38,6 @@ impl Walked {
         algorithm: &Algorithm,
         outside: &Outside,
     ) -> Result<(), AllocError>
-        requires past { past_algorithm algorithm.now ≤ length pool.now }
         requires found { length self.old.found.marks.items ≡ length pool.now }
         requires met { length self.old.met.marks.items ≡ length pool.now }
         ensures first { OnOk result ((n : ℕ) → self.old.found.first ≡ None → self.old.found.marks.items ≡ replicate n false → self.new.found.first ≡ first (offences_found self.old.found.modules pool.now algorithm.now (outside_at pool.now outside.now))) }
@@ -79,7 +78,6 @@ pub fn declarations(
     algorithm: &Algorithm,
     outside: &Outside,
 ) -> Result<Declared, AllocError>
-    requires { past_algorithm algorithm.now ≤ length pool.now }
     ensures refusal { IfOk result (λ d. d.refusal ≡ first (declared_offences (algorithm_at pool.now algorithm.now) (outside_at pool.now outside.now))) }
     ensures taken { IfOk result (λ d. SameNames d.taken (taken_at_start (algorithm_at pool.now algorithm.now) (outside_at pool.now outside.now))) }
 {

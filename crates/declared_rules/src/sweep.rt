@@ -4,8 +4,6 @@
 ghost use Rattle.std.specs.Prelude.{◌≡◌, ◌+◌, ◌&&◌, nat_eq, ◌<◌, ◌≤◌, List, length, replicate, false, None, IfOk, OnOk};
 ghost use Rattle.tla_tree.specs.Tree.{Tree, strict as strict_form};
 ghost use Rattle.tla_tree.specs.Pool.{at, trees_at, AllBelow};
-ghost use Rattle.tla_value.specs.StandardModules.{is_member as is_member_of};
-ghost use Rattle.pcal_tree.specs.BoundNames.{lists_of};
 ghost use Rattle.tla_pool.specs.FormOf.{strict_of, form_of};
 ghost use Rattle.declared_rules.specs.Finding.{Joins, Adds, finding, is_strings_of, sign_in, node_offences, tree_offences, trees_offences};
 ghost use Rattle.declared_rules.specs.Parts.{expr_parts};
@@ -38,8 +36,7 @@ fn is_right(member: bool, part: usize, parts: usize) -> bool
 impl Found {
     // A sign at a place.
     fn sign(&mut self, strict: &Strict, place: Place)
-        ensures adds { (ts : List Tree) → Joins ts self.old self.new (sign_in self.old.modules (strict_form (strict_of strict.now)) place) }
-        ensures many { length self.new.marks.items ≡ length self.old.marks.items }
+        ensures { (ts : List Tree) → Joins ts self.old self.new (sign_in self.old.modules (strict_form (strict_of strict.now)) place) }
     {
         match strict {
             Strict::Operator(op) => {
@@ -51,8 +48,7 @@ impl Found {
 
     // A form at a place, its parts aside, elsewhere than directly right of `\in` or `\notin`.
     fn form(&mut self, form: &Form, place: Place) -> Result<(), AllocError>
-        ensures adds { OnOk result ((ts : List Tree) → Joins ts self.old self.new (node_offences self.old.modules false (form_of form.now) place)) }
-        ensures many { OnOk result (length self.new.marks.items ≡ length self.old.marks.items) }
+        ensures { OnOk result ((ts : List Tree) → Joins ts self.old self.new (node_offences self.old.modules false (form_of form.now) place)) }
     {
         match form {
             Form::Binding(_, groups) => self.group_list(groups),
@@ -71,12 +67,12 @@ impl Found {
 
     // A part, which may be directly right of `\in` or `\notin`: the set of all strings may be there.
     fn part(&mut self, pool: &Pool, right: bool, e: NodeId)
-        requires there { e < length pool.now }
-        requires marked { e < length self.old.marks.items }
-        ensures adds { Joins pool.now self.old self.new (tree_offences self.old.modules right (at pool.now e)) }
-        ensures many { length self.new.marks.items ≡ length self.old.marks.items }
+        requires { e < length self.old.marks.items }
+        ensures { Joins pool.now self.old self.new (tree_offences self.old.modules right (at pool.now e)) }
     {
-        let node = pool.node(e);
+        let Some(node) = pool.get(e) else {
+            return;
+        };
         if right && is_strings(&node.form) {
             self.exprs(&node.parts);
         } else {
@@ -87,10 +83,8 @@ impl Found {
     // The parts of a form, the last one directly right of it.
     fn parts(&mut self, pool: &Pool, member: bool, parts: &[NodeId], past: NodeId)
         requires below { AllBelow past parts.now }
-        requires there { past ≤ length pool.now }
         requires marked { past ≤ length self.old.marks.items }
-        ensures adds { Joins pool.now self.old self.new (trees_offences self.old.modules member (trees_at pool.now parts.now)) }
-        ensures many { length self.new.marks.items ≡ length self.old.marks.items }
+        ensures { Joins pool.now self.old self.new (trees_offences self.old.modules member (trees_at pool.now parts.now)) }
     {
         for i in 0..parts.len() {
             self.part(pool, is_right(member, i, parts.len()), parts[i]);
@@ -99,12 +93,12 @@ impl Found {
 
     // An expression: its form, and its parts, which have smaller numbers, are still to be looked at.
     fn open(&mut self, pool: &Pool, e: NodeId) -> Result<(), AllocError>
-        requires there { e < length pool.now }
-        requires next { length self.old.marks.items ≡ e }
-        ensures adds { OnOk result (Adds pool.now self.old self.new (expr_parts pool.now e)) }
-        ensures many { OnOk result (length self.new.marks.items ≡ length self.old.marks.items) }
+        requires { length self.old.marks.items ≡ e }
+        ensures { OnOk result (Adds pool.now self.old self.new (expr_parts pool.now e)) }
     {
-        let node = pool.node(e);
+        let Some(node) = pool.get(e) else {
+            return Ok(());
+        };
         self.form(&node.form, node.place)?;
         self.parts(pool, is_member(&node.form), &node.parts, e);
         Ok(())

@@ -1,13 +1,11 @@
 //! What is declared and defined, and bodies where they stand.
 
-ghost use Rattle.std.specs.Prelude.{◌<◌, ◌≤◌, ◌∷◌, ◌++◌, [], List, length, map, OnOk};
+ghost use Rattle.std.specs.Prelude.{◌++◌, List, map, OnOk};
 ghost use Rattle.std.specs.List.{flat_map};
 ghost use Rattle.tla_tree.specs.Tree.{Word, words};
-ghost use Rattle.tla_tree.specs.Nesting.{greatest};
-ghost use Rattle.tla_tree.specs.Pool.{at};
 ghost use Rattle.pcal_tree.specs.Algorithm.{Procedure as PureProcedure};
-ghost use Rattle.pcal_tree.specs.InMemory.{declarations_at, definitions_at, procedure_at, past_declaration, past_definition, past_procedure};
-ghost use Rattle.pcal_tree.specs.OffencesRebind.{any_name, rebound, rebound_all, naming, whole_rebinds, Calls as PureCalls, definitions_rebind, locals_rebind, procedure_rebinds};
+ghost use Rattle.pcal_tree.specs.InMemory.{declarations_at, definitions_at, procedure_at};
+ghost use Rattle.pcal_tree.specs.OffencesRebind.{any_name, rebound_all, Calls as PureCalls, definitions_rebind, locals_rebind, procedure_rebinds};
 ghost use Rattle.declared_rules.specs.Telling.{Adds, AddsNaming};
 ghost use Rattle.declared_rules.specs.Keeping.{KnowsCalls};
 ghost use Rattle.declared_rules.specs.Units.{declared_names};
@@ -44,8 +42,6 @@ impl Walk {
         params: &[Declaration],
         variables: &[Declaration],
     ) -> Result<(), AllocError>
-        requires params { greatest (map past_declaration params.now) ≤ length pool.now }
-        requires variables { greatest (map past_declaration variables.now) ≤ length pool.now }
         ensures { OnOk result (AddsNaming sight.now any_name self.old self.new (words (declared_names params.now) ++ words (declared_names variables.now)) (λ ms r. locals_rebind ms (declarations_at pool.now params.now ++ declarations_at pool.now variables.now) r)) }
     {
         self.declared(sight, params)?;
@@ -67,7 +63,6 @@ impl Walk {
         pool: &Pool,
         list: &[Definition],
     ) -> Result<(), AllocError>
-        requires { greatest (map past_definition list.now) ≤ length pool.now }
         ensures { OnOk result (AddsNaming sight.now any_name self.old self.new (map (λ d. d.name.word) (definitions_at pool.now list.now)) (λ ms r. definitions_rebind ms (definitions_at pool.now list.now) r)) }
     {
         for i in 0..list.len() {
@@ -94,7 +89,6 @@ impl Walk {
         pool: &Pool,
         list: &[Procedure],
     ) -> Result<(), AllocError>
-        requires { greatest (map past_procedure list.now) ≤ length pool.now }
         ensures { OnOk result ((C : List Word → PureCalls) (ps : List PureProcedure) → KnowsCalls sight.now calls.now C ps → Adds sight.now any_name self.old self.new (λ ms r. flat_map (procedure_rebinds ms ps (C ms) r) (map (procedure_at pool.now) list.now))) }
     {
         for i in 0..list.len() {

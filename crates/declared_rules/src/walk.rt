@@ -1,10 +1,9 @@
 //! A walk through an algorithm: each part is looked at, each expression is marked, and names that are taken from the start are kept.
 
-ghost use Rattle.std.specs.Prelude.{◌≡◌, ◌<◌, ◌≤◌, ◌∷◌, ◌++◌, [], List, length, map, OnOk};
+ghost use Rattle.std.specs.Prelude.{◌∷◌, ◌++◌, [], List, map, OnOk};
 ghost use Rattle.std.specs.List.{flat_map};
 ghost use Rattle.tla_tree.specs.Tree.{Tree};
-ghost use Rattle.tla_tree.specs.Nesting.{greatest};
-ghost use Rattle.pcal_tree.specs.InMemory.{branches_at, past_numbers, past_assignment, past_bind, past_simple, past_stmt, past_statements, past_branches, past_start, past_declaration, past_definition, past_macro, past_procedure, past_process, past_main, past_algorithm};
+ghost use Rattle.pcal_tree.specs.InMemory.{branches_at};
 ghost use Rattle.declared_rules.specs.Parts.{bound, takes, declares, labels, prints, stacks, bind_name, declaration_names, in_branches, expr_parts, assignment_parts, bind_parts, simple_parts, body_parts, start_parts, declaration_parts, global_parts, definition_parts, macro_parts, procedure_parts, process_parts, main_parts, parts_of_algorithm};
 ghost use Rattle.declared_rules.specs.Walking.{Adds, AddsStmt};
 
@@ -28,16 +27,14 @@ pub struct Walked {
 impl Walked {
     // A name that is declared.
     fn declares(&mut self, name: &PlacedName)
-        ensures adds { (ts : List Tree) → Adds ts self.old self.new (declares name.now ∷ []) }
-        ensures many { length self.new.found.marks.items ≡ length self.old.found.marks.items }
+        ensures { (ts : List Tree) → Adds ts self.old self.new (declares name.now ∷ []) }
     {
         self.found.declares(name);
     }
 
     // One that is taken from the start too.
     fn keeps(&mut self, name: &PlacedName) -> Result<(), AllocError>
-        ensures adds { OnOk result ((ts : List Tree) → Adds ts self.old self.new (declares name.now ∷ takes (name.now ∷ []) ∷ [])) }
-        ensures many { OnOk result (length self.new.found.marks.items ≡ length self.old.found.marks.items) }
+        ensures { OnOk result ((ts : List Tree) → Adds ts self.old self.new (declares name.now ∷ takes (name.now ∷ []) ∷ [])) }
     {
         self.found.declares(name);
         self.met.name(&name.name)
@@ -45,16 +42,14 @@ impl Walked {
 
     // A label.
     fn label(&mut self, name: &PlacedName)
-        ensures adds { (ts : List Tree) → Adds ts self.old self.new (labels name.now ∷ []) }
-        ensures many { length self.new.found.marks.items ≡ length self.old.found.marks.items }
+        ensures { (ts : List Tree) → Adds ts self.old self.new (labels name.now ∷ []) }
     {
         self.found.label(name);
     }
 
     // The names of a list, which are taken from the start.
     fn params(&mut self, names: &[PlacedName]) -> Result<(), AllocError>
-        ensures adds { OnOk result ((ts : List Tree) → Adds ts self.old self.new (bound names.now ∷ takes names.now ∷ [])) }
-        ensures many { OnOk result (length self.new.found.marks.items ≡ length self.old.found.marks.items) }
+        ensures { OnOk result ((ts : List Tree) → Adds ts self.old self.new (bound names.now ∷ takes names.now ∷ [])) }
     {
         self.found.list(names)?;
         self.met.names(names)
@@ -62,8 +57,7 @@ impl Walked {
 
     // Those of a `with`, which are too.
     fn bind_list(&mut self, binds: &[Bind]) -> Result<(), AllocError>
-        ensures adds { OnOk result ((ts : List Tree) → Adds ts self.old self.new (bound (map bind_name binds.now) ∷ takes (map bind_name binds.now) ∷ [])) }
-        ensures many { OnOk result (length self.new.found.marks.items ≡ length self.old.found.marks.items) }
+        ensures { OnOk result ((ts : List Tree) → Adds ts self.old self.new (bound (map bind_name binds.now) ∷ takes (map bind_name binds.now) ∷ [])) }
     {
         self.found.bind_list(binds)?;
         self.met.bind_names(binds)
@@ -75,17 +69,14 @@ impl Walked {
         params: &[Declaration],
         variables: &[Declaration],
     ) -> Result<(), AllocError>
-        ensures adds { OnOk result ((ts : List Tree) → Adds ts self.old self.new (bound (declaration_names params.now ++ declaration_names variables.now) ∷ [])) }
-        ensures many { OnOk result (length self.new.found.marks.items ≡ length self.old.found.marks.items) }
+        ensures { OnOk result ((ts : List Tree) → Adds ts self.old self.new (bound (declaration_names params.now ++ declaration_names variables.now) ∷ [])) }
     {
         self.found.declared_list(params, variables)
     }
 
     // An expression.
     fn expr(&mut self, e: NodeId)
-        requires { e < length self.old.found.marks.items }
-        ensures adds { (ts : List Tree) → Adds ts self.old self.new (expr_parts ts e) }
-        ensures many { length self.new.found.marks.items ≡ length self.old.found.marks.items }
+        ensures { (ts : List Tree) → Adds ts self.old self.new (expr_parts ts e) }
     {
         self.found.expr(e);
         self.met.mark(e);
@@ -93,9 +84,7 @@ impl Walked {
 
     // Expressions.
     fn exprs(&mut self, es: &[NodeId])
-        requires { past_numbers es.now ≤ length self.old.found.marks.items }
-        ensures adds { (ts : List Tree) → Adds ts self.old self.new (flat_map (expr_parts ts) es.now) }
-        ensures many { length self.new.found.marks.items ≡ length self.old.found.marks.items }
+        ensures { (ts : List Tree) → Adds ts self.old self.new (flat_map (expr_parts ts) es.now) }
     {
         for e in es {
             self.expr(*e);
@@ -104,9 +93,7 @@ impl Walked {
 
     // Left and right sides.
     fn assignments(&mut self, list: &[Assignment])
-        requires { greatest (map past_assignment list.now) ≤ length self.old.found.marks.items }
-        ensures adds { (ts : List Tree) → Adds ts self.old self.new (flat_map (assignment_parts ts) list.now) }
-        ensures many { length self.new.found.marks.items ≡ length self.old.found.marks.items }
+        ensures { (ts : List Tree) → Adds ts self.old self.new (flat_map (assignment_parts ts) list.now) }
     {
         for assignment in list {
             self.expr(assignment.left);
@@ -116,9 +103,7 @@ impl Walked {
 
     // The expression of one that a `with` names.
     fn bind(&mut self, bind: &Bind)
-        requires { past_bind bind.now ≤ length self.old.found.marks.items }
-        ensures adds { (ts : List Tree) → Adds ts self.old self.new (bind_parts ts bind.now) }
-        ensures many { length self.new.found.marks.items ≡ length self.old.found.marks.items }
+        ensures { (ts : List Tree) → Adds ts self.old self.new (bind_parts ts bind.now) }
     {
         match bind {
             Bind::Among(_, e) => self.expr(*e),
@@ -128,9 +113,7 @@ impl Walked {
 
     // Those of all that a `with` names.
     fn binds(&mut self, list: &[Bind])
-        requires { greatest (map past_bind list.now) ≤ length self.old.found.marks.items }
-        ensures adds { (ts : List Tree) → Adds ts self.old self.new (flat_map (bind_parts ts) list.now) }
-        ensures many { length self.new.found.marks.items ≡ length self.old.found.marks.items }
+        ensures { (ts : List Tree) → Adds ts self.old self.new (flat_map (bind_parts ts) list.now) }
     {
         for bind in list {
             self.bind(bind);
@@ -139,8 +122,7 @@ impl Walked {
 
     // A statement that needs TLC.
     fn prints(&mut self, place: Place)
-        ensures adds { (ts : List Tree) → Adds ts self.old self.new (prints place ∷ []) }
-        ensures many { length self.new.found.marks.items ≡ length self.old.found.marks.items }
+        ensures { (ts : List Tree) → Adds ts self.old self.new (prints place ∷ []) }
     {
         let extended = self.found.modules.tlc;
         self.found.offence(!extended, Rule::NeedsModule, place);
@@ -148,8 +130,7 @@ impl Walked {
 
     // A procedure, which needs a stack.
     fn stacks(&mut self, place: Place)
-        ensures adds { (ts : List Tree) → Adds ts self.old self.new (stacks place ∷ []) }
-        ensures many { length self.new.found.marks.items ≡ length self.old.found.marks.items }
+        ensures { (ts : List Tree) → Adds ts self.old self.new (stacks place ∷ []) }
     {
         let extended = self.found.modules.sequences;
         self.found.offence(!extended, Rule::NeedsModule, place);
@@ -157,8 +138,7 @@ impl Walked {
 
     // The name of a procedure.
     fn stacked(&mut self, name: &PlacedName)
-        ensures adds { (ts : List Tree) → Adds ts self.old self.new (declares name.now ∷ stacks name.now.place ∷ []) }
-        ensures many { length self.new.found.marks.items ≡ length self.old.found.marks.items }
+        ensures { (ts : List Tree) → Adds ts self.old self.new (declares name.now ∷ stacks name.now.place ∷ []) }
     {
         self.declares(name);
         self.stacks(name.place);
@@ -166,9 +146,7 @@ impl Walked {
 
     // A statement with none in it, at its place.
     fn simple(&mut self, place: Place, simple: &Simple)
-        requires { past_simple simple.now ≤ length self.old.found.marks.items }
-        ensures adds { (ts : List Tree) → Adds ts self.old self.new (simple_parts ts place simple.now) }
-        ensures many { length self.new.found.marks.items ≡ length self.old.found.marks.items }
+        ensures { (ts : List Tree) → Adds ts self.old self.new (simple_parts ts place simple.now) }
     {
         match simple {
             Simple::Assign(list) => self.assignments(list),
@@ -191,9 +169,7 @@ impl Walked {
 
     // A first value.
     fn start(&mut self, start: &Start)
-        requires { past_start start.now ≤ length self.old.found.marks.items }
-        ensures adds { (ts : List Tree) → Adds ts self.old self.new (start_parts ts start.now) }
-        ensures many { length self.new.found.marks.items ≡ length self.old.found.marks.items }
+        ensures { (ts : List Tree) → Adds ts self.old self.new (start_parts ts start.now) }
     {
         match start {
             Start::Unset => {}
@@ -205,9 +181,7 @@ impl Walked {
     // A label or a statement.
     #[cycle(bodies)]
     fn stmt(&mut self, stmt: &Stmt) -> Result<(), AllocError>
-        requires { past_stmt stmt.now ≤ length self.old.found.marks.items }
-        ensures adds { OnOk result ((ts : List Tree) → AddsStmt ts stmt.now self.old self.new) }
-        ensures many { OnOk result (length self.new.found.marks.items ≡ length self.old.found.marks.items) }
+        ensures { OnOk result ((ts : List Tree) → AddsStmt ts stmt.now self.old self.new) }
     {
         match stmt {
             Stmt::Label(name, _) => {
@@ -239,9 +213,7 @@ impl Walked {
     // Branches.
     #[cycle(bodies)]
     fn branches(&mut self, list: &[Vec<Stmt>]) -> Result<(), AllocError>
-        requires { past_branches list.now ≤ length self.old.found.marks.items }
-        ensures adds { OnOk result ((ts : List Tree) → Adds ts self.old self.new (in_branches (branches_at ts list.now))) }
-        ensures many { OnOk result (length self.new.found.marks.items ≡ length self.old.found.marks.items) }
+        ensures { OnOk result ((ts : List Tree) → Adds ts self.old self.new (in_branches (branches_at ts list.now))) }
     {
         for i in 0..list.len() {
             self.body(&list[i])?;
@@ -252,9 +224,7 @@ impl Walked {
     // A list of statements. It calls itself as deep as statements are in statements.
     #[cycle(bodies)]
     fn body(&mut self, stmts: &[Stmt]) -> Result<(), AllocError>
-        requires { past_statements stmts.now ≤ length self.old.found.marks.items }
-        ensures adds { OnOk result ((ts : List Tree) → Adds ts self.old self.new (body_parts ts stmts.now)) }
-        ensures many { OnOk result (length self.new.found.marks.items ≡ length self.old.found.marks.items) }
+        ensures { OnOk result ((ts : List Tree) → Adds ts self.old self.new (body_parts ts stmts.now)) }
     {
         for stmt in stmts {
             self.stmt(stmt)?;
@@ -264,9 +234,7 @@ impl Walked {
 
     // First values of variables and parameters.
     fn starts(&mut self, list: &[Declaration])
-        requires { greatest (map past_declaration list.now) ≤ length self.old.found.marks.items }
-        ensures adds { (ts : List Tree) → Adds ts self.old self.new (flat_map (declaration_parts ts) list.now) }
-        ensures many { length self.new.found.marks.items ≡ length self.old.found.marks.items }
+        ensures { (ts : List Tree) → Adds ts self.old self.new (flat_map (declaration_parts ts) list.now) }
     {
         for declaration in list {
             self.start(&declaration.start);
@@ -275,9 +243,7 @@ impl Walked {
 
     // Globals.
     fn globals(&mut self, list: &[Declaration]) -> Result<(), AllocError>
-        requires { greatest (map past_declaration list.now) ≤ length self.old.found.marks.items }
-        ensures adds { OnOk result ((ts : List Tree) → Adds ts self.old self.new (flat_map (global_parts ts) list.now)) }
-        ensures many { OnOk result (length self.new.found.marks.items ≡ length self.old.found.marks.items) }
+        ensures { OnOk result ((ts : List Tree) → Adds ts self.old self.new (flat_map (global_parts ts) list.now)) }
     {
         for declaration in list {
             self.keeps(&declaration.name)?;
@@ -288,9 +254,7 @@ impl Walked {
 
     // Definitions.
     fn definitions(&mut self, list: &[Definition]) -> Result<(), AllocError>
-        requires { greatest (map past_definition list.now) ≤ length self.old.found.marks.items }
-        ensures adds { OnOk result ((ts : List Tree) → Adds ts self.old self.new (flat_map (definition_parts ts) list.now)) }
-        ensures many { OnOk result (length self.new.found.marks.items ≡ length self.old.found.marks.items) }
+        ensures { OnOk result ((ts : List Tree) → Adds ts self.old self.new (flat_map (definition_parts ts) list.now)) }
     {
         for definition in list {
             self.keeps(&definition.name)?;
@@ -302,9 +266,7 @@ impl Walked {
 
     // Macros.
     fn macros(&mut self, list: &[Macro]) -> Result<(), AllocError>
-        requires { greatest (map past_macro list.now) ≤ length self.old.found.marks.items }
-        ensures adds { OnOk result ((ts : List Tree) → Adds ts self.old self.new (flat_map (macro_parts ts) list.now)) }
-        ensures many { OnOk result (length self.new.found.marks.items ≡ length self.old.found.marks.items) }
+        ensures { OnOk result ((ts : List Tree) → Adds ts self.old self.new (flat_map (macro_parts ts) list.now)) }
     {
         for one in list {
             self.declares(&one.name);
@@ -316,9 +278,7 @@ impl Walked {
 
     // A procedure.
     fn procedure(&mut self, procedure: &Procedure) -> Result<(), AllocError>
-        requires { past_procedure procedure.now ≤ length self.old.found.marks.items }
-        ensures adds { OnOk result ((ts : List Tree) → Adds ts self.old self.new (procedure_parts ts procedure.now)) }
-        ensures many { OnOk result (length self.new.found.marks.items ≡ length self.old.found.marks.items) }
+        ensures { OnOk result ((ts : List Tree) → Adds ts self.old self.new (procedure_parts ts procedure.now)) }
     {
         self.stacked(&procedure.name);
         self.declared_list(&procedure.params, &procedure.variables)?;
@@ -329,9 +289,7 @@ impl Walked {
 
     // Procedures.
     fn procedures(&mut self, list: &[Procedure]) -> Result<(), AllocError>
-        requires { greatest (map past_procedure list.now) ≤ length self.old.found.marks.items }
-        ensures adds { OnOk result ((ts : List Tree) → Adds ts self.old self.new (flat_map (procedure_parts ts) list.now)) }
-        ensures many { OnOk result (length self.new.found.marks.items ≡ length self.old.found.marks.items) }
+        ensures { OnOk result ((ts : List Tree) → Adds ts self.old self.new (flat_map (procedure_parts ts) list.now)) }
     {
         for procedure in list {
             self.procedure(procedure)?;
@@ -341,9 +299,7 @@ impl Walked {
 
     // A process.
     fn process(&mut self, process: &Process) -> Result<(), AllocError>
-        requires { past_process process.now ≤ length self.old.found.marks.items }
-        ensures adds { OnOk result ((ts : List Tree) → Adds ts self.old self.new (process_parts ts process.now)) }
-        ensures many { OnOk result (length self.new.found.marks.items ≡ length self.old.found.marks.items) }
+        ensures { OnOk result ((ts : List Tree) → Adds ts self.old self.new (process_parts ts process.now)) }
     {
         self.declares(&process.name);
         self.declared_list(&process.variables, &[])?;
@@ -354,9 +310,7 @@ impl Walked {
 
     // Processes.
     fn processes(&mut self, list: &[Process]) -> Result<(), AllocError>
-        requires { greatest (map past_process list.now) ≤ length self.old.found.marks.items }
-        ensures adds { OnOk result ((ts : List Tree) → Adds ts self.old self.new (flat_map (process_parts ts) list.now)) }
-        ensures many { OnOk result (length self.new.found.marks.items ≡ length self.old.found.marks.items) }
+        ensures { OnOk result ((ts : List Tree) → Adds ts self.old self.new (flat_map (process_parts ts) list.now)) }
     {
         for process in list {
             self.process(process)?;
@@ -366,9 +320,7 @@ impl Walked {
 
     // What runs.
     fn main(&mut self, main: &Main) -> Result<(), AllocError>
-        requires { past_main main.now ≤ length self.old.found.marks.items }
-        ensures adds { OnOk result ((ts : List Tree) → Adds ts self.old self.new (main_parts ts main.now)) }
-        ensures many { OnOk result (length self.new.found.marks.items ≡ length self.old.found.marks.items) }
+        ensures { OnOk result ((ts : List Tree) → Adds ts self.old self.new (main_parts ts main.now)) }
     {
         match main {
             Main::Alone(body) => self.body(body),
@@ -382,9 +334,7 @@ impl Walked {
     ///
     /// Only for want of memory.
     pub fn algorithm(&mut self, algorithm: &Algorithm) -> Result<(), AllocError>
-        requires { past_algorithm algorithm.now ≤ length self.old.found.marks.items }
-        ensures adds { OnOk result ((ts : List Tree) → Adds ts self.old self.new (parts_of_algorithm ts algorithm.now)) }
-        ensures many { OnOk result (length self.new.found.marks.items ≡ length self.old.found.marks.items) }
+        ensures { OnOk result ((ts : List Tree) → Adds ts self.old self.new (parts_of_algorithm ts algorithm.now)) }
     {
         self.globals(&algorithm.globals)?;
         self.definitions(&algorithm.definitions)?;

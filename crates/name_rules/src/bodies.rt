@@ -1,9 +1,8 @@
 //! What is found in statements.
 
-ghost use Rattle.std.specs.Prelude.{◌≡◌, ◌≤◌, List, length, map, OnOk};
-ghost use Rattle.tla_tree.specs.Nesting.{greatest};
+ghost use Rattle.std.specs.Prelude.{List, OnOk};
 ghost use Rattle.pcal_tree.specs.Algorithm.{Procedure};
-ghost use Rattle.pcal_tree.specs.InMemory.{assignments_at, binds_at, simple_at, statements_at, branches_at, past_assignment, past_bind, past_simple, past_stmt, past_statements, past_branches};
+ghost use Rattle.pcal_tree.specs.InMemory.{assignments_at, binds_at, simple_at, statements_at, branches_at};
 ghost use Rattle.pcal_tree.specs.OffencesNames.{Calls, in_assignments, in_one, in_body, in_branches};
 ghost use Rattle.name_rules.specs.Finding.{Tells};
 ghost use Rattle.name_rules.specs.Calling.{Means};
@@ -20,7 +19,6 @@ use tla_token::Place;
 impl Found {
     // Left and right sides.
     fn assignments(&mut self, pool: &Pool, list: &[Assignment]) -> Result<(), AllocError>
-        requires { greatest (map past_assignment list.now) ≤ length pool.now }
         ensures { OnOk result (Tells self.old self.new (in_assignments (assignments_at pool.now list.now))) }
     {
         for assignment in list {
@@ -38,7 +36,6 @@ impl Found {
         place: Place,
         simple: &Simple,
     ) -> Result<(), AllocError>
-        requires { past_simple simple.now ≤ length pool.now }
         ensures { OnOk result ((C : Calls) (ps : List Procedure) → Means callees.now C ps → Tells self.old self.new (in_one C ps place (simple_at pool.now simple.now))) }
     {
         match simple {
@@ -62,7 +59,6 @@ impl Found {
 
     // All that a `with` names, each seen by those after it: its expression, and then it is bound.
     fn binds(&mut self, pool: &Pool, list: &[Bind]) -> Result<(), AllocError>
-        requires { greatest (map past_bind list.now) ≤ length pool.now }
         ensures { OnOk result (TellsBinds (binds_at pool.now list.now) self.old self.new) }
     {
         for bind in list {
@@ -76,7 +72,6 @@ impl Found {
     // A statement.
     #[cycle(bodies)]
     fn stmt(&mut self, pool: &Pool, callees: &Callees, stmt: &Stmt) -> Result<(), AllocError>
-        requires { past_stmt stmt.now ≤ length pool.now }
         ensures { OnOk result ((C : Calls) (ps : List Procedure) → Means callees.now C ps → TellsStmt C ps pool.now stmt.now self.old self.new) }
     {
         match stmt {
@@ -110,7 +105,6 @@ impl Found {
         callees: &Callees,
         list: &[Vec<Stmt>],
     ) -> Result<(), AllocError>
-        requires { past_branches list.now ≤ length pool.now }
         ensures { OnOk result ((C : Calls) (ps : List Procedure) → Means callees.now C ps → Tells self.old self.new (in_branches C ps (branches_at pool.now list.now))) }
     {
         for i in 0..list.len() {
@@ -126,7 +120,6 @@ impl Found {
     /// Only for want of memory.
     #[cycle(bodies)]
     pub fn body(&mut self, pool: &Pool, callees: &Callees, stmts: &[Stmt]) -> Result<(), AllocError>
-        requires { past_statements stmts.now ≤ length pool.now }
         ensures { OnOk result ((C : Calls) (ps : List Procedure) → Means callees.now C ps → Tells self.old self.new (in_body C ps (statements_at pool.now stmts.now))) }
     {
         for stmt in stmts {

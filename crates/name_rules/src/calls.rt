@@ -1,12 +1,11 @@
 //! Calls of macros and procedures: each use that is kept of a macro is looked at again where the call is.
 
-ghost use Rattle.std.specs.Prelude.{◌≡◌, ◌<◌, ◌≤◌, ◌&&◌, nat_lt, List, drop, length, Some, None, OnOk};
+ghost use Rattle.std.specs.Prelude.{◌≡◌, ◌&&◌, nat_lt, List, drop, Some, None, OnOk};
 ghost use Rattle.std.specs.List.{flat_map};
 ghost use Rattle.tla_tree.specs.Tree.{Word, root_place};
 ghost use Rattle.tla_tree.specs.Pool.{at, trees_at};
 ghost use Rattle.tla_pool.specs.FormOf.{form_of};
 ghost use Rattle.pcal_tree.specs.Algorithm.{Procedure};
-ghost use Rattle.pcal_tree.specs.InMemory.{past_numbers};
 ghost use Rattle.pcal_tree.specs.Paths.{root, root_form};
 ghost use Rattle.pcal_tree.specs.laws.MacroUses.{offences_as};
 ghost use Rattle.pcal_tree.specs.OffencesNames.{seeing_parameters, Calls, call_offences};
@@ -49,6 +48,13 @@ fn parameter_number(params: &[PlacedName], name: &Name) -> Option<usize>
 }
 
 impl Found {
+    // An argument that a macro assigns and that begins with no name, at its place.
+    fn not_variable(&mut self, place: Place)
+        ensures { Tells self.old self.new (handed_from None place) }
+    {
+        self.refuse(or_offence(None, true, Rule::NotVariable, place));
+    }
+
     // What an argument that a macro assigns begins with, at the argument's place.
     fn handed_form(&mut self, form: &Form, place: Place) -> Result<(), AllocError>
         ensures { OnOk result (Tells self.old self.new (handed_from (root_form (form_of form.now) None) place)) }
@@ -56,7 +62,7 @@ impl Found {
         match form {
             Form::Name(name) => self.keep(name, Kind::Handed, place),
             _ => {
-                self.refuse(or_offence(None, true, Rule::NotVariable, place));
+                self.not_variable(place);
                 Ok(())
             }
         }
@@ -65,10 +71,12 @@ impl Found {
     // An argument that a macro assigns. It calls itself once for each of its subscripts and fields.
     #[cycle(handed)]
     fn handed(&mut self, pool: &Pool, place: Place, e: NodeId) -> Result<(), AllocError>
-        requires { e < length pool.now }
         ensures { OnOk result (Tells self.old self.new (handed_from (root (at pool.now e)) place)) }
     {
-        let node = pool.node(e);
+        let Some(node) = pool.get(e) else {
+            self.not_variable(place);
+            return Ok(());
+        };
         let parts: &[NodeId] = &node.parts;
         if is_subscripted(&node.form, parts.len()) {
             return self.handed(pool, place, parts[0]);
@@ -78,11 +86,9 @@ impl Found {
 
     // The same, at its place.
     fn handed_whole(&mut self, pool: &Pool, e: NodeId) -> Result<(), AllocError>
-        requires { e < length pool.now }
         ensures { OnOk result (Tells self.old self.new (handed_from (root (at pool.now e)) (root_place (at pool.now e)))) }
     {
-        let node = pool.node(e);
-        self.handed(pool, node.place, e)
+        self.handed(pool, pool.place(e), e)
     }
 
     // A macro's use of a parameter whose argument is this expression.
@@ -93,7 +99,6 @@ impl Found {
         place: Place,
         e: NodeId,
     ) -> Result<(), AllocError>
-        requires { e < length pool.now }
         ensures { OnOk result ((x : Word) → Tells self.old self.new (λ r. offences_as (Some (use_through (at pool.now e) r)) (use_as kind x place))) }
     {
         match kind {
@@ -114,7 +119,6 @@ impl Found {
         number: usize,
         one: &NameUse,
     ) -> Result<(), AllocError>
-        requires { past_numbers es.now ≤ length pool.now }
         ensures { OnOk result (Tells self.old self.new (λ r. offences_as (Some (use_through_first pool.now (drop number es.now) r)) (use_as one.now.kind one.now.name (record { line = one.now.line; col = one.now.col })))) }
     {
         if number < es.len() {
@@ -133,7 +137,6 @@ impl Found {
         es: &[NodeId],
         one: &NameUse,
     ) -> Result<(), AllocError>
-        requires { past_numbers es.now ≤ length pool.now }
         ensures { OnOk result (Tells self.old self.new (λ r. looked (seeing_parameters params.now (trees_at pool.now es.now) r r) one.now)) }
     {
         match parameter_number(params, &one.name) {
@@ -150,7 +153,6 @@ impl Found {
         es: &[NodeId],
         uses: &[NameUse],
     ) -> Result<(), AllocError>
-        requires { past_numbers es.now ≤ length pool.now }
         ensures { OnOk result (Tells self.old self.new (λ r. flat_map (looked (seeing_parameters params.now (trees_at pool.now es.now) r r)) uses.now)) }
     {
         for i in 0..uses.len() {
@@ -172,7 +174,6 @@ impl Found {
         name: &Name,
         es: &[NodeId],
     ) -> Result<(), AllocError>
-        requires { past_numbers es.now ≤ length pool.now }
         ensures { OnOk result ((C : Calls) (ps : List Procedure) → Means callees.now C ps → Tells self.old self.new (λ r. C r place name.now (trees_at pool.now es.now))) }
     {
         match callees.macros.get(name) {

@@ -1,13 +1,12 @@
 //! What was found: the first offence that rests on no name around, and the uses of names that are not bound.
 
-ghost use Rattle.std.specs.Prelude.{◌≡◌, ◌<◌, ◌≤◌, ◌+◌, ◌&&◌, nat_eq, List, length, drop, false, IsTrue, OnOk};
+ghost use Rattle.std.specs.Prelude.{◌≡◌, List, length, drop, IsTrue, OnOk};
 ghost use Rattle.tla_token.specs.declared.rule.Refusal.{Refusal as PureRefusal};
 ghost use Rattle.tla_tree.specs.Tree.{seen_names};
 ghost use Rattle.tla_tree.specs.Shapes.{Shaped};
 ghost use Rattle.tla_tree.specs.Pool.{at, trees_at, AllBelow};
 ghost use Rattle.tla_value.specs.StandardModules.{is_member as is_member_of};
 ghost use Rattle.tla_pool.specs.FormOf.{form_of};
-ghost use Rattle.pcal_tree.specs.InMemory.{past_numbers};
 ghost use Rattle.pcal_tree.specs.Offences.{first};
 ghost use Rattle.pcal_tree.specs.NameUses.{Sight};
 ghost use Rattle.algorithm_answer.specs.Joined.{joined};
@@ -131,10 +130,11 @@ impl Found {
     /// Only for want of memory.
     #[cycle(trees)]
     pub fn expr(&mut self, pool: &Pool, right: bool, e: NodeId) -> Result<(), AllocError>
-        requires { e < length pool.now }
         ensures { OnOk result (Tells self.old self.new (in_tree (at pool.now e) right)) }
     {
-        let node = pool.node(e);
+        let Some(node) = pool.get(e) else {
+            return Ok(());
+        };
         let parts: &[NodeId] = &node.parts;
         self.form(&node.form, right, parts.len(), node.place)?;
         let around = self.bound.len();
@@ -153,14 +153,13 @@ impl Found {
         past: NodeId,
     ) -> Result<(), AllocError>
         requires there { AllBelow past parts.now }
-        requires inside { past ≤ length pool.now }
         requires shaped { Shaped (form_of form.now) (length parts.now) }
         ensures { OnOk result (TellsParts self.old self.new (in_parts (seen_names (form_of form.now)) (is_member_of (form_of form.now)) (trees_at pool.now parts.now))) }
     {
         for i in 0..parts.len() {
             let right = is_last_of_member(form, i, parts.len());
             self.expr(pool, right, parts[i])?;
-            if ends_in_literal(pool, parts, i, past) {
+            if ends_in_literal(pool, parts, i) {
                 return Ok(());
             }
             self.bound.add_next(form, i)?;
@@ -174,7 +173,6 @@ impl Found {
     ///
     /// Only for want of memory.
     pub fn exprs(&mut self, pool: &Pool, es: &[NodeId], from: usize) -> Result<(), AllocError>
-        requires { past_numbers es.now ≤ length pool.now }
         ensures { OnOk result (Tells self.old self.new (in_each (trees_at pool.now (drop from es.now)))) }
     {
         for i in from..es.len() {
@@ -200,10 +198,11 @@ impl Found {
     /// Only for want of memory.
     #[cycle(lefts)]
     pub fn left(&mut self, pool: &Pool, e: NodeId) -> Result<(), AllocError>
-        requires { e < length pool.now }
         ensures { OnOk result (Tells self.old self.new (in_left (at pool.now e))) }
     {
-        let node = pool.node(e);
+        let Some(node) = pool.get(e) else {
+            return Ok(());
+        };
         let parts: &[NodeId] = &node.parts;
         self.root(&node.form, node.place)?;
         if parts.len() > 0 {

@@ -1,12 +1,10 @@
 //! What is kept of macros and procedures: each body is gone through once.
 
-ghost use Rattle.std.specs.Prelude.{◌≡◌, ◌==◌, ◌<◌, ◌≤◌, ◌^◌, [], List, length, map, OnOk};
+ghost use Rattle.std.specs.Prelude.{◌≡◌, ◌==◌, ◌<◌, ◌^◌, [], List, length, OnOk};
 ghost use Rattle.std.specs.Cmp.Lexicographic.{pointwise};
 ghost use Rattle.indexmap.specs.IndexMap.{insert_entry};
-ghost use Rattle.tla_tree.specs.Nesting.{greatest};
 ghost use Rattle.tla_tree.specs.Tree.{Tree};
 ghost use Rattle.pcal_tree.specs.Algorithm.{Procedure as PureProcedure};
-ghost use Rattle.pcal_tree.specs.InMemory.{past_macro};
 ghost use Rattle.pcal_tree.specs.OffencesNames.{Calls};
 ghost use Rattle.name_rules.specs.Finding.{IsNew};
 ghost use Rattle.name_rules.specs.Calling.{Means};
@@ -69,7 +67,6 @@ impl MacroUses {
 
     // What is kept of a macro, where nothing is yet.
     fn fill(&mut self, pool: &Pool, callees: &Callees, one: &Macro) -> Result<(), AllocError>
-        requires { past_macro one.now ≤ length pool.now }
         ensures { OnOk result ((C : Calls) (ps : List PureProcedure) → self.old.params.items ≡ [] → IsNew self.old.found → Means callees.now C ps → Keeps C ps pool.now one.now self.new) }
     {
         add_copies(&mut self.params, &one.params)?;
@@ -100,7 +97,6 @@ impl Callees {
 
     // One more macro, which calls those before it.
     fn add_macro(&mut self, alloc: Global, pool: &Pool, one: &Macro) -> Result<(), AllocError>
-        requires { past_macro one.now ≤ length pool.now }
         ensures { OnOk result (MacroKept pool.now one.now self.old self.new) }
     {
         let name = one.name.name.copied()?;
@@ -126,7 +122,6 @@ impl Callees {
         macros: &[Macro],
         procedures: &[Procedure],
     ) -> Result<(), AllocError>
-        requires { greatest (map past_macro macros.now) ≤ length pool.now }
         ensures { OnOk result (self.old.macros.entries ≡ [] → self.old.procedures ≡ [] → Means self.new (calls_at pool.now macros.now (procedures_at pool.now procedures.now)) (procedures_at pool.now procedures.now)) }
     {
         add_arities(&mut self.procedures, procedures)?;

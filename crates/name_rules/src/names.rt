@@ -1,10 +1,10 @@
 //! The names that an algorithm in a module is written with, if it breaks no rule on names.
 
-ghost use Rattle.std.specs.Prelude.{◌≡◌, ◌≤◌, List, [], length, Err, Some, IfOk, OnOk};
+ghost use Rattle.std.specs.Prelude.{◌≡◌, List, [], Err, Some, IfOk, OnOk};
 ghost use Rattle.tla_token.specs.declared.rule.Refusal as refusals;
 ghost use Rattle.tla_token.specs.declared.rule.Stop.TheVariants as stop;
 ghost use Rattle.tla_tree.specs.Tree.{Tree, words};
-ghost use Rattle.pcal_tree.specs.InMemory.{algorithm_at, past_algorithm};
+ghost use Rattle.pcal_tree.specs.InMemory.{algorithm_at};
 ghost use Rattle.pcal_tree.specs.Names.{naming, taken_at_start};
 ghost use Rattle.pcal_tree.specs.Offences.{first};
 ghost use Rattle.pcal_tree.specs.OffencesOfNames.{name_offences};
@@ -59,7 +59,6 @@ pub fn name_all(
     algorithm: &Algorithm,
     outside: &Outside,
 ) -> Result<Naming, Stop>
-    requires { past_algorithm algorithm.now ≤ length pool.now }
     ensures names { IfOk result (λ r. naming_of r ≡ naming (algorithm_at pool.now algorithm.now) (outside_at pool.now outside.now)) }
     ensures clean { OnOk result (name_offences (algorithm_at pool.now algorithm.now) (outside_at pool.now outside.now) ≡ []) }
     ensures refused { (r : refusals.Refusal) → result ≡ Err (stop.Refused r) → first (name_offences (algorithm_at pool.now algorithm.now) (outside_at pool.now outside.now)) ≡ Some r }

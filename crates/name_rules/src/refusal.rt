@@ -1,7 +1,7 @@
 //! The first name that is wrong, by whatever rule on names, and the names that are taken from the start.
 
-ghost use Rattle.std.specs.Prelude.{◌≡◌, ◌≤◌, length, IfOk};
-ghost use Rattle.pcal_tree.specs.InMemory.{algorithm_at, past_algorithm};
+ghost use Rattle.std.specs.Prelude.{◌≡◌, IfOk};
+ghost use Rattle.pcal_tree.specs.InMemory.{algorithm_at};
 ghost use Rattle.pcal_tree.specs.Names.{taken_at_start};
 ghost use Rattle.pcal_tree.specs.Offences.{first};
 ghost use Rattle.pcal_tree.specs.OffencesOfNames.{name_offences};
@@ -31,7 +31,6 @@ pub fn checked_names(
     algorithm: &Algorithm,
     outside: &Outside,
 ) -> Result<Declared, AllocError>
-    requires { past_algorithm algorithm.now ≤ length pool.now }
     ensures refusal { IfOk result (λ d. d.refusal ≡ first (name_offences (algorithm_at pool.now algorithm.now) (outside_at pool.now outside.now))) }
     ensures taken { IfOk result (λ d. SameNames d.taken (taken_at_start (algorithm_at pool.now algorithm.now) (outside_at pool.now outside.now))) }
 {

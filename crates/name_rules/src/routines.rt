@@ -1,16 +1,14 @@
 //! What is found in routines, told by what is known where they stand.
 
-ghost use Rattle.std.specs.Prelude.{◌≡◌, ◌≤◌, ◌<◌, ◌++◌, List, [], length, map, reverse, IfOk, OnOk};
+ghost use Rattle.std.specs.Prelude.{◌≡◌, ◌++◌, List, map, reverse, IfOk, OnOk};
 ghost use Rattle.std.specs.List.{flat_map};
-ghost use Rattle.tla_tree.specs.Nesting.{greatest};
 ghost use Rattle.tla_tree.specs.Tree.{Word, words};
 ghost use Rattle.tla_tree.specs.Pool.{at};
 ghost use Rattle.pcal_tree.specs.Algorithm.{Procedure as PureProcedure};
-ghost use Rattle.pcal_tree.specs.InMemory.{start_at, declarations_at, definitions_at, statements_at, procedure_at, process_at, main_at, past_start, past_declarations, past_definitions, past_statements, past_procedure, past_process, past_main};
+ghost use Rattle.pcal_tree.specs.InMemory.{start_at, declarations_at, definitions_at, statements_at, procedure_at, process_at, main_at};
 ghost use Rattle.pcal_tree.specs.Offences.{first};
 ghost use Rattle.pcal_tree.specs.NameUses as names;
-ghost use Rattle.pcal_tree.specs.OffencesNames.{Calls, in_start, in_declared, in_whole, in_body, in_definitions, in_procedure, in_process, in_main, defined_inside};
-ghost use Rattle.pcal_tree.specs.Variables.{declared};
+ghost use Rattle.pcal_tree.specs.OffencesNames.{Calls, in_start, in_declared, in_whole, in_definitions, in_procedure, in_process, in_main, defined_inside};
 ghost use Rattle.module_outside.specs.SightIn.{Binds};
 ghost use Rattle.name_rules.specs.Finding.{told, Tells};
 ghost use Rattle.name_rules.specs.Calling.{Means};
@@ -35,7 +33,6 @@ use tla_tree::{Name, NodeId, PlacedName};
 impl Found {
     // A first value.
     fn start(&mut self, pool: &Pool, start: &Start) -> Result<(), AllocError>
-        requires { past_start start.now ≤ length pool.now }
         ensures { OnOk result (Tells self.old self.new (in_start (start_at pool.now start.now))) }
     {
         match start {
@@ -47,7 +44,6 @@ impl Found {
 
     // Those of declarations.
     fn declared(&mut self, pool: &Pool, list: &[Declaration]) -> Result<(), AllocError>
-        requires { past_declarations list.now ≤ length pool.now }
         ensures { OnOk result (Tells self.old self.new (in_declared (declarations_at pool.now list.now))) }
     {
         for i in 0..list.len() {
@@ -96,9 +92,6 @@ impl Found {
         variables: &[Declaration],
         body: &[Stmt],
     ) -> Result<Option<Refusal>, AllocError>
-        requires params { past_declarations params.now ≤ length pool.now }
-        requires variables { past_declarations variables.now ≤ length pool.now }
-        requires body { past_statements body.now ≤ length pool.now }
         ensures { IfOk result (λ r. (C : Calls) (ps : List PureProcedure) (s : names.Sight) → Means callees.now C ps → Sees sight.now s → r ≡ first (routine_offences C ps (declarations_at pool.now params.now ++ declarations_at pool.now variables.now) (statements_at pool.now body.now) s)) }
     {
         self.restart();
@@ -118,7 +111,6 @@ impl Found {
         params: &[PlacedName],
         e: NodeId,
     ) -> Result<Option<Refusal>, AllocError>
-        requires { e < length pool.now }
         ensures { IfOk result (λ r. (s : names.Sight) → Sees sight.now s → r ≡ first (in_whole (at pool.now e) (names.seeing_plain (words params.now) s))) }
     {
         self.restart();
@@ -139,7 +131,6 @@ impl Found {
         sight: &Sight,
         list: &[Declaration],
     ) -> Result<Option<Refusal>, AllocError>
-        requires { past_declarations list.now ≤ length pool.now }
         ensures { IfOk result (λ r. (s : names.Sight) → Sees sight.now s → r ≡ first (in_declared (declarations_at pool.now list.now) s)) }
     {
         self.restart();
@@ -158,7 +149,6 @@ impl Found {
         sight: &mut Sight,
         list: &[Definition],
     ) -> Result<Option<Refusal>, AllocError>
-        requires { past_definitions list.now ≤ length pool.now }
         ensures first { IfOk result (λ r. (s : names.Sight) → Sees sight.old s → r ≡ first (in_definitions (definitions_at pool.now list.now) s)) }
         ensures seen { OnOk result ((s : names.Sight) → Sees sight.old s → Sees sight.new (map defined_inside (reverse (definitions_at pool.now list.now)) ++ s)) }
     {
@@ -184,7 +174,6 @@ impl Found {
         sight: &Sight,
         list: &[Procedure],
     ) -> Result<Option<Refusal>, AllocError>
-        requires { greatest (map past_procedure list.now) ≤ length pool.now }
         ensures { IfOk result (λ r. (C : Calls) (ps : List PureProcedure) (s : names.Sight) → Means callees.now C ps → Sees sight.now s → r ≡ first (flat_map (in_procedure C ps s) (map (procedure_at pool.now) list.now))) }
     {
         let mut found = None;
@@ -210,7 +199,6 @@ impl Found {
         sight: &Sight,
         list: &[Process],
     ) -> Result<Option<Refusal>, AllocError>
-        requires { greatest (map past_process list.now) ≤ length pool.now }
         ensures { IfOk result (λ r. (C : Calls) (ps : List PureProcedure) (s : names.Sight) → Means callees.now C ps → Sees sight.now s → r ≡ first (flat_map (in_process C ps s) (map (process_at pool.now) list.now))) }
     {
         let mut found = None;
@@ -234,7 +222,6 @@ impl Found {
         sight: &Sight,
         main: &Main,
     ) -> Result<Option<Refusal>, AllocError>
-        requires { past_main main.now ≤ length pool.now }
         ensures { IfOk result (λ r. (C : Calls) (ps : List PureProcedure) (s : names.Sight) → Means callees.now C ps → Sees sight.now s → r ≡ first (in_main C ps s (main_at pool.now main.now))) }
     {
         match main {

@@ -1,9 +1,9 @@
 //! Names used as they may not be, in an algorithm.
 
-ghost use Rattle.std.specs.Prelude.{◌≡◌, ◌≤◌, length, IfOk};
+ghost use Rattle.std.specs.Prelude.{◌≡◌, IfOk};
 ghost use Rattle.tla_tree.specs.Tree.{words};
 ghost use Rattle.module_outside.specs.ModulesIn.{AreModules};
-ghost use Rattle.pcal_tree.specs.InMemory.{algorithm_at, past_algorithm};
+ghost use Rattle.pcal_tree.specs.InMemory.{algorithm_at};
 ghost use Rattle.pcal_tree.specs.Offences.{first};
 ghost use Rattle.pcal_tree.specs.OffencesNames.{use_offences_of};
 ghost use Rattle.module_outside.specs.WholeAt.{outside_at};
@@ -49,7 +49,6 @@ impl Known {
         algorithm: &Algorithm,
         outside: &Outside,
     ) -> Result<Option<Refusal>, AllocError>
-        requires { past_algorithm algorithm.now ≤ length pool.now }
         ensures { IfOk result (λ r. AreNone self.old → AreModules self.old.sight.modules (words outside.now.extended.items) → r ≡ first (use_offences_of (algorithm_at pool.now algorithm.now) (outside_at pool.now outside.now))) }
     {
         self.sight.set_outside(outside)?;
@@ -82,7 +81,6 @@ pub fn use_refusal(
     algorithm: &Algorithm,
     outside: &Outside,
 ) -> Result<Option<Refusal>, AllocError>
-    requires { past_algorithm algorithm.now ≤ length pool.now }
     ensures { IfOk result (λ r. r ≡ first (use_offences_of (algorithm_at pool.now algorithm.now) (outside_at pool.now outside.now))) }
 {
     let modules = modules_among(&outside.extended);

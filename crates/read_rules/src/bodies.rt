@@ -1,9 +1,8 @@
 //! The names that statements use, and do not bind.
 
-ghost use Rattle.std.specs.Prelude.{◌≤◌, length, map, OnOk};
-ghost use Rattle.tla_tree.specs.Nesting.{greatest};
+ghost use Rattle.std.specs.Prelude.{OnOk};
 ghost use Rattle.tla_tree.specs.Pool.{trees_at};
-ghost use Rattle.pcal_tree.specs.InMemory.{assignments_at, simple_at, statements_at, branches_at, past_numbers, past_assignment, past_bind, past_simple, past_stmt, past_statements, past_branches};
+ghost use Rattle.pcal_tree.specs.InMemory.{assignments_at, simple_at, statements_at, branches_at};
 ghost use Rattle.pcal_tree.specs.Reads.{used_by_all, used_by_assignments};
 ghost use Rattle.read_rules.specs.BodyNames.{names_in_one, names_in, names_in_some};
 ghost use Rattle.read_rules.specs.Using.{Adds};
@@ -18,7 +17,6 @@ use tla_tree::NodeId;
 impl Used {
     // Expressions.
     fn exprs(&mut self, pool: &Pool, es: &[NodeId]) -> Result<(), AllocError>
-        requires { past_numbers es.now ≤ length pool.now }
         ensures { OnOk result (Adds self.old self.new (used_by_all (trees_at pool.now es.now))) }
     {
         for i in 0..es.len() {
@@ -29,7 +27,6 @@ impl Used {
 
     // Left and right sides.
     fn assignments(&mut self, pool: &Pool, list: &[Assignment]) -> Result<(), AllocError>
-        requires { greatest (map past_assignment list.now) ≤ length pool.now }
         ensures { OnOk result (Adds self.old self.new (used_by_assignments (assignments_at pool.now list.now))) }
     {
         for assignment in list {
@@ -41,7 +38,6 @@ impl Used {
 
     // A statement with none in it.
     fn simple(&mut self, pool: &Pool, simple: &Simple) -> Result<(), AllocError>
-        requires { past_simple simple.now ≤ length pool.now }
         ensures { OnOk result (Adds self.old self.new (names_in_one (simple_at pool.now simple.now))) }
     {
         match simple {
@@ -59,7 +55,6 @@ impl Used {
 
     // What a `with` names: its expression, and then it is bound.
     fn bind(&mut self, pool: &Pool, bind: &Bind) -> Result<(), AllocError>
-        requires { past_bind bind.now ≤ length pool.now }
         ensures { OnOk result (AddsBind pool.now bind.now self.old self.new) }
     {
         match bind {
@@ -72,7 +67,6 @@ impl Used {
 
     // All that a `with` names, each seen by those after it.
     fn binds(&mut self, pool: &Pool, list: &[Bind]) -> Result<(), AllocError>
-        requires { greatest (map past_bind list.now) ≤ length pool.now }
         ensures { OnOk result (AddsBinds pool.now list.now self.old self.new) }
     {
         for bind in list {
@@ -84,7 +78,6 @@ impl Used {
     // A statement.
     #[cycle(bodies)]
     fn stmt(&mut self, pool: &Pool, stmt: &Stmt) -> Result<(), AllocError>
-        requires { past_stmt stmt.now ≤ length pool.now }
         ensures { OnOk result (AddsStmt pool.now stmt.now self.old self.new) }
     {
         match stmt {
@@ -113,7 +106,6 @@ impl Used {
     // Branches.
     #[cycle(bodies)]
     fn branches(&mut self, pool: &Pool, list: &[Vec<Stmt>]) -> Result<(), AllocError>
-        requires { past_branches list.now ≤ length pool.now }
         ensures { OnOk result (Adds self.old self.new (names_in_some (branches_at pool.now list.now))) }
     {
         for i in 0..list.len() {
@@ -129,7 +121,6 @@ impl Used {
     /// Only for want of memory.
     #[cycle(bodies)]
     pub fn body(&mut self, pool: &Pool, stmts: &[Stmt]) -> Result<(), AllocError>
-        requires { past_statements stmts.now ≤ length pool.now }
         ensures { OnOk result (Adds self.old self.new (names_in (statements_at pool.now stmts.now))) }
     {
         for stmt in stmts {

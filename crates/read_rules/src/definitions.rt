@@ -1,9 +1,9 @@
 //! The variables that definitions read.
 
-ghost use Rattle.std.specs.Prelude.{◌≡◌, ◌≤◌, List, [], length, reverse, IfOk, OnOk};
+ghost use Rattle.std.specs.Prelude.{◌≡◌, List, [], reverse, IfOk, OnOk};
 ghost use Rattle.tla_tree.specs.Tree.{Word, words};
 ghost use Rattle.tla_tree.specs.Pool.{at};
-ghost use Rattle.pcal_tree.specs.InMemory.{definitions_at, past_definition, past_definitions};
+ghost use Rattle.pcal_tree.specs.InMemory.{definitions_at};
 ghost use Rattle.pcal_tree.specs.Paths.{meets};
 ghost use Rattle.pcal_tree.specs.Reads.{Reading, through, readings, used};
 ghost use Rattle.pcal_tree.proofs.SetLaws.{Same};
@@ -135,7 +135,6 @@ fn variables_of(
     globals: &Names,
     definition: &Definition,
 ) -> Result<Names, AllocError>
-    requires { past_definition definition.now ≤ length pool.now }
     ensures { IfOk result (λ r. (ds : List Reading) → AreReads reads.now ds → Joins [] r (reads_all globals.now ds (used (at pool.now definition.now.body) (words definition.now.params.items)))) }
 {
     let names = used_names(alloc, pool, &definition.params, definition.body)?;
@@ -163,7 +162,6 @@ impl Reads {
         globals: &Names,
         definitions: &[Definition],
     ) -> Result<(), AllocError>
-        requires { past_definitions definitions.now ≤ length pool.now }
         ensures { OnOk result ((gs : List Word) → Same globals.now gs → AreReads self.old [] → AreReads self.new (readings gs (reverse (definitions_at pool.now definitions.now)))) }
     {
         for definition in definitions {
@@ -185,7 +183,6 @@ pub fn all_reads(
     globals: &Names,
     definitions: &[Definition],
 ) -> Result<Reads, AllocError>
-    requires { past_definitions definitions.now ≤ length pool.now }
     ensures { IfOk result (λ r. (gs : List Word) → Same globals.now gs → AreReads r (readings gs (reverse (definitions_at pool.now definitions.now)))) }
 {
     let mut reads = Reads {

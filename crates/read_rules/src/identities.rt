@@ -1,10 +1,9 @@
 //! Variables that are read in the identifiers of processes.
 
-ghost use Rattle.std.specs.Prelude.{◌≡◌, ◌≤◌, nat_lt, List, length, map, IfOk};
+ghost use Rattle.std.specs.Prelude.{◌≡◌, nat_lt, List, map, IfOk};
 ghost use Rattle.std.specs.List.{flat_map};
 ghost use Rattle.tla_tree.specs.Tree.{Word};
-ghost use Rattle.tla_tree.specs.Nesting.{greatest};
-ghost use Rattle.pcal_tree.specs.InMemory.{process_at, past_process, main_at, past_main};
+ghost use Rattle.pcal_tree.specs.InMemory.{process_at, main_at};
 ghost use Rattle.pcal_tree.specs.Offences.{first};
 ghost use Rattle.pcal_tree.specs.OffencesReads.{processes_of};
 ghost use Rattle.algorithm_answer.specs.Joined.{joined};
@@ -53,7 +52,6 @@ fn of_processes(
     levels: &Table,
     processes: &[Process],
 ) -> Result<Option<Refusal>, AllocError>
-    requires { greatest (map past_process processes.now) ≤ length pool.now }
     ensures { IfOk result (λ r. (gs : List Word) (ls : Levels) → AreNumbers numbers.now gs → AreLevels levels.now ls → r ≡ first (flat_map (offending_process gs ls) (map (process_at pool.now) processes.now))) }
 {
     let mut found = None;
@@ -76,7 +74,6 @@ pub fn identity_refusal(
     levels: &Table,
     main: &Main,
 ) -> Result<Option<Refusal>, AllocError>
-    requires { past_main main.now ≤ length pool.now }
     ensures { IfOk result (λ r. (gs : List Word) (ls : Levels) → AreNumbers numbers.now gs → AreLevels levels.now ls → r ≡ first (flat_map (offending_process gs ls) (processes_of (main_at pool.now main.now)))) }
 {
     match main {

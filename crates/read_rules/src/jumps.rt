@@ -1,8 +1,7 @@
 //! What calls of procedures use: the names of the initial values of their variables.
 
-ghost use Rattle.std.specs.Prelude.{◌≡◌, ◌≤◌, [], ◌++◌, false, length, map, IfOk, OnOk};
-ghost use Rattle.tla_tree.specs.Nesting.{greatest};
-ghost use Rattle.pcal_tree.specs.InMemory.{start_at, declarations_at, procedure_at, past_start, past_declarations, past_procedure};
+ghost use Rattle.std.specs.Prelude.{◌≡◌, [], ◌++◌, false, map, IfOk, OnOk};
+ghost use Rattle.pcal_tree.specs.InMemory.{start_at, declarations_at, procedure_at};
 ghost use Rattle.pcal_tree.specs.OffencesStale.{used_by_variables};
 ghost use Rattle.read_rules.specs.Using.{Adds};
 ghost use Rattle.read_rules.specs.JumpsIn.{used_by_start, used_by_starts};
@@ -18,7 +17,6 @@ use tla_pool::Pool;
 
 // The names of an initial value.
 fn add_start(used: &mut Used, pool: &Pool, start: &Start) -> Result<(), AllocError>
-    requires { past_start start.now ≤ length pool.now }
     ensures { OnOk result (Adds used.old used.new (used_by_start (start_at pool.now start.now))) }
 {
     match start {
@@ -30,7 +28,6 @@ fn add_start(used: &mut Used, pool: &Pool, start: &Start) -> Result<(), AllocErr
 
 // Those of declarations.
 fn add_starts(used: &mut Used, pool: &Pool, list: &[Declaration]) -> Result<(), AllocError>
-    requires { past_declarations list.now ≤ length pool.now }
     ensures { OnOk result (Adds used.old used.new (used_by_starts (declarations_at pool.now list.now))) }
 {
     for i in 0..list.len() {
@@ -42,7 +39,6 @@ fn add_starts(used: &mut Used, pool: &Pool, list: &[Declaration]) -> Result<(), 
 
 // The names of a procedure's initial values, where its parameters and variables are bound and no other name is.
 fn add_values(used: &mut Used, pool: &Pool, one: &Procedure) -> Result<(), AllocError>
-    requires { past_procedure one.now ≤ length pool.now }
     ensures { OnOk result (used.old.only_self ≡ false → used.old.bound ≡ [] → used.new.names.items ≡ used.old.names.items ++ used_by_variables (procedure_at pool.now one.now)) }
 {
     add_declared(&mut used.bound, &one.params)?;
@@ -52,7 +48,6 @@ fn add_values(used: &mut Used, pool: &Pool, one: &Procedure) -> Result<(), Alloc
 
 // What a call of a procedure uses.
 fn jump(alloc: Global, pool: &Pool, one: &Procedure) -> Result<Jump, AllocError>
-    requires { past_procedure one.now ≤ length pool.now }
     ensures name { IfOk result (λ r. r.name ≡ one.now.name.word) }
     ensures uses { IfOk result (λ r. r.uses.items ≡ used_by_variables (procedure_at pool.now one.now)) }
 {
@@ -80,7 +75,6 @@ fn jump(alloc: Global, pool: &Pool, one: &Procedure) -> Result<Jump, AllocError>
 ///
 /// Only for want of memory.
 pub fn jumps(alloc: Global, pool: &Pool, procedures: &[Procedure]) -> Result<Vec<Jump>, AllocError>
-    requires { greatest (map past_procedure procedures.now) ≤ length pool.now }
     ensures { IfOk result (λ r. AreJumps r.items (map (procedure_at pool.now) procedures.now)) }
 {
     let mut list = Vec::new(alloc);

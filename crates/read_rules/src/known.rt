@@ -1,8 +1,7 @@
 //! What is known of macros and procedures where statements call them.
 
-ghost use Rattle.std.specs.Prelude.{◌≤◌, List, [], None, length, OnOk};
+ghost use Rattle.std.specs.Prelude.{List, [], None, OnOk};
 ghost use Rattle.tla_tree.specs.Pool.{trees_at};
-ghost use Rattle.pcal_tree.specs.InMemory.{past_numbers};
 ghost use Rattle.pcal_tree.specs.laws.MacroSpots.{MacroSeen, before_on, put_called, seen_from, seen_in_call, unlabelled};
 ghost use Rattle.pcal_tree.proofs.SpotGrafts.{putting};
 ghost use Rattle.read_rules.specs.KnownIn.{IsSummary, AreMacros, HasMacro};
@@ -55,7 +54,6 @@ impl Walk {
         summary: &Summary,
         args: &[NodeId],
     ) -> Result<(), AllocError>
-        requires { past_numbers args.now ≤ length pool.now }
         ensures { OnOk result ((d : MacroSeen) → IsSummary summary.now d → Walks self.old self.new (λ z. put_called (putting d.params (trees_at pool.now args.now) (before_on z.trail)) (seen_from d z.labelled z.trail))) }
     {
         if self.labelled {
@@ -90,7 +88,6 @@ impl Known {
         name: &Name,
         args: &[NodeId],
     ) -> Result<(), AllocError>
-        requires { past_numbers args.now ≤ length pool.now }
         ensures { OnOk result ((ms : List MacroSeen) → AreMacros self.now ms → Walks walk.old walk.new (seen_in_call ms name.now (trees_at pool.now args.now))) }
     {
         let number = self.numbers.get(name);
@@ -121,7 +118,6 @@ impl Known {
         name: &Name,
         args: &[NodeId],
     ) -> Result<(), AllocError>
-        requires { past_numbers args.now ≤ length pool.now }
         ensures { OnOk result ((ms : List MacroSeen) → AreMacros self.now ms → Goes ways.old ways.new (seen_in_call ms name.now (trees_at pool.now args.now))) }
     {
         self.call_one(alloc, pool, &mut ways.unreached, name, args)?;

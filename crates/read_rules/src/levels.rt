@@ -1,9 +1,9 @@
 //! The levels of definitions: which of the variables that each reads, itself or through others, is declared last.
 
-ghost use Rattle.std.specs.Prelude.{◌≡◌, ◌<◌, ◌≤◌, ◌+◌, List, [], ◌∷◌, ◌++◌, length, reverse, IfOk, OnOk};
+ghost use Rattle.std.specs.Prelude.{◌≡◌, ◌+◌, List, [], ◌∷◌, ◌++◌, length, reverse, IfOk, OnOk};
 ghost use Rattle.tla_tree.specs.Tree.{Word, words};
 ghost use Rattle.tla_tree.specs.Pool.{at};
-ghost use Rattle.pcal_tree.specs.InMemory.{definitions_at, past_definitions};
+ghost use Rattle.pcal_tree.specs.InMemory.{definitions_at};
 ghost use Rattle.pcal_tree.specs.Reads.{used};
 ghost use Rattle.algorithm_limits.specs.Numbers.{with_number};
 ghost use Rattle.read_rules.specs.Levels.{Levels, furthest, levels};
@@ -63,7 +63,6 @@ fn add_level(
     levels: &mut Table,
     definition: &Definition,
 ) -> Result<(), AllocError>
-    requires { definition.now.body < length pool.now }
     ensures { OnOk result ((gs : List Word) (ls : Levels) → AreNumbers numbers.now gs → AreLevels levels.old ls → levels.new ≡ with_number levels.old definition.now.name.word (furthest gs ls (used (at pool.now definition.now.body) (words definition.now.params.items)))) }
 {
     let names = used_names(alloc, pool, &definition.params, definition.body)?;
@@ -82,7 +81,6 @@ pub fn levels(
     numbers: &Table,
     definitions: &[Definition],
 ) -> Result<Table, AllocError>
-    requires { past_definitions definitions.now ≤ length pool.now }
     ensures { IfOk result (λ t. (gs : List Word) → AreNumbers numbers.now gs → AreLevels t (levels gs (reverse (definitions_at pool.now definitions.now)))) }
 {
     let mut levels = Table::new(alloc);

@@ -1,10 +1,9 @@
 //! The variables of procedures and processes: their names, and those that are read before they are declared.
 
-ghost use Rattle.std.specs.Prelude.{◌≡◌, ◌≤◌, ◌++◌, List, [], length, map, IfOk, OnOk};
+ghost use Rattle.std.specs.Prelude.{◌≡◌, List, [], map, IfOk, OnOk};
 ghost use Rattle.std.specs.List.{flat_map};
 ghost use Rattle.tla_tree.specs.Tree.{Word, Tree};
-ghost use Rattle.tla_tree.specs.Nesting.{greatest};
-ghost use Rattle.pcal_tree.specs.InMemory.{declarations_at, procedure_at, process_at, main_at, algorithm_at, past_declarations, past_procedure, past_process, past_main, past_algorithm};
+ghost use Rattle.pcal_tree.specs.InMemory.{procedure_at, process_at, main_at, algorithm_at};
 ghost use Rattle.pcal_tree.specs.Offences.{first};
 ghost use Rattle.pcal_tree.specs.OffencesReads.{processes_of};
 ghost use Rattle.algorithm_limits.specs.DepthsIn.{Hides};
@@ -95,7 +94,6 @@ fn with_procedure(
     so_far: Option<Refusal>,
     procedure: &Procedure,
 ) -> Result<Option<Refusal>, AllocError>
-    requires { past_procedure procedure.now ≤ length pool.now }
     ensures found { IfOk result (λ r. (all : List Word) (before : List Word) → Knows known.old all [] before → r ≡ joined so_far (first (early_in_locals all before (procedure_list (procedure_at pool.now procedure.now))))) }
     ensures kept { OnOk result (known.new ≡ known.old) }
 {
@@ -114,7 +112,6 @@ fn with_process(
     so_far: Option<Refusal>,
     process: &Process,
 ) -> Result<Option<Refusal>, AllocError>
-    requires { past_process process.now ≤ length pool.now }
     ensures found { IfOk result (λ r. (all : List Word) (before : List Word) → Knows known.old all [] before → r ≡ joined so_far (first (early_in_locals all before (process_list (process_at pool.now process.now))))) }
     ensures kept { OnOk result (known.new ≡ known.old) }
 {
@@ -132,7 +129,6 @@ fn with_procedures(
     so_far: Option<Refusal>,
     procedures: &[Procedure],
 ) -> Result<Option<Refusal>, AllocError>
-    requires { greatest (map past_procedure procedures.now) ≤ length pool.now }
     ensures found { IfOk result (λ r. (all : List Word) (before : List Word) → Knows known.old all [] before → r ≡ joined so_far (first (flat_map (early_in_locals all before) (map procedure_list (map (procedure_at pool.now) procedures.now))))) }
     ensures kept { OnOk result (known.new ≡ known.old) }
 {
@@ -151,7 +147,6 @@ fn with_processes(
     so_far: Option<Refusal>,
     processes: &[Process],
 ) -> Result<Option<Refusal>, AllocError>
-    requires { greatest (map past_process processes.now) ≤ length pool.now }
     ensures found { IfOk result (λ r. (all : List Word) (before : List Word) → Knows known.old all [] before → r ≡ joined so_far (first (flat_map (early_in_locals all before) (map process_list (map (process_at pool.now) processes.now))))) }
     ensures kept { OnOk result (known.new ≡ known.old) }
 {
@@ -170,7 +165,6 @@ fn with_main(
     so_far: Option<Refusal>,
     main: &Main,
 ) -> Result<Option<Refusal>, AllocError>
-    requires { past_main main.now ≤ length pool.now }
     ensures { IfOk result (λ r. (all : List Word) (before : List Word) → Knows known.old all [] before → r ≡ joined so_far (first (flat_map (early_in_locals all before) (map process_list (processes_of (main_at pool.now main.now)))))) }
 {
     match main {
@@ -186,7 +180,6 @@ fn order_in(
     known: &mut Known,
     algorithm: &Algorithm,
 ) -> Result<Option<Refusal>, AllocError>
-    requires { past_algorithm algorithm.now ≤ length pool.now }
     ensures { IfOk result (λ r. (ls : Levels) → Binds known.old.all (variables_of (algorithm_at pool.now algorithm.now)) → AreLevels known.old.levels ls → known.old.before ≡ [] → r ≡ first (order_by ls (algorithm_at pool.now algorithm.now))) }
 {
     let globals = with_declarations(alloc, pool, known, None, &algorithm.globals)?;
@@ -206,7 +199,6 @@ pub fn order_refusal(
     levels: Table,
     algorithm: &Algorithm,
 ) -> Result<Option<Refusal>, AllocError>
-    requires { past_algorithm algorithm.now ≤ length pool.now }
     ensures { IfOk result (λ r. (ls : Levels) → AreLevels levels ls → r ≡ first (order_by ls (algorithm_at pool.now algorithm.now))) }
 {
     let all = all_variables(alloc, algorithm)?;

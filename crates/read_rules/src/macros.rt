@@ -1,9 +1,8 @@
 //! What is seen in macros.
 
-ghost use Rattle.std.specs.Prelude.{◌≡◌, ◌≤◌, List, [], ◌∷◌, None, Some, length, map, reverse, IfOk, OnOk};
-ghost use Rattle.tla_tree.specs.Nesting.{greatest};
+ghost use Rattle.std.specs.Prelude.{◌≡◌, List, [], ◌∷◌, None, Some, map, reverse, IfOk, OnOk};
 ghost use Rattle.pcal_tree.specs.Algorithm.{Procedure};
-ghost use Rattle.pcal_tree.specs.InMemory.{macro_at, past_macro, statements_at, past_statements};
+ghost use Rattle.pcal_tree.specs.InMemory.{macro_at, statements_at};
 ghost use Rattle.pcal_tree.specs.laws.MacroSpots.{At, earlier, MacroSeen, starting};
 ghost use Rattle.read_rules.specs.KnownIn.{AreWays, IsSummary, Knows};
 ghost use Rattle.read_rules.specs.MacrosIn.{macro_seen};
@@ -42,7 +41,6 @@ fn see_once(
     ways: &mut Ways,
     body: &[Stmt],
 ) -> Result<(), AllocError>
-    requires { past_statements body.now ≤ length pool.now }
     ensures { OnOk result ((u r : At) (ms : List MacroSeen) (ps : List Procedure) → Begins ways.old.unreached u → Begins ways.old.reached r → Knows known.now ms ps → AreWays ways.new (kept_from (wants wanted.now) ms ps (statements_at pool.now body.now) u) (kept_from (wants wanted.now) ms ps (statements_at pool.now body.now) r)) }
 {
     known.body(alloc, pool, ways, body)?;
@@ -59,7 +57,6 @@ fn seen_once(
     labelled: bool,
     body: &[Stmt],
 ) -> Result<Ways, AllocError>
-    requires { past_statements body.now ≤ length pool.now }
     ensures { IfOk result (λ r. (ms : List MacroSeen) (ps : List Procedure) → Knows known.now ms ps → AreWays r (kept_from (wants wanted.now) ms ps (statements_at pool.now body.now) (starting labelled None)) (kept_from (wants wanted.now) ms ps (statements_at pool.now body.now) (starting labelled (Some (earlier ∷ []))))) }
 {
     let mut ways = Ways::new(alloc, labelled);
@@ -81,7 +78,6 @@ fn summary(
     known: &Known,
     one: &Macro,
 ) -> Result<Summary, AllocError>
-    requires { past_macro one.now ≤ length pool.now }
     ensures { IfOk result (λ r. (ms : List MacroSeen) (ps : List Procedure) → Knows known.now ms ps → IsSummary r (macro_pruned (wants wanted.now) (macro_seen ps ms (macro_at pool.now one.now)))) }
 {
     let params = copied_names(alloc, &one.params)?;
@@ -108,7 +104,6 @@ impl Known {
         wanted: &Wanted,
         macros: &[Macro],
     ) -> Result<(), AllocError>
-        requires { greatest (map past_macro macros.now) ≤ length pool.now }
         ensures { OnOk result ((ps : List Procedure) → Knows self.old [] ps → Knows self.new (macros_pruned (wants wanted.now) ps (reverse (map (macro_at pool.now) macros.now))) ps) }
     {
         for one in macros {
@@ -131,7 +126,6 @@ pub fn known_macros(
     macros: &[Macro],
     jumps: Vec<Jump>,
 ) -> Result<Known, AllocError>
-    requires { greatest (map past_macro macros.now) ≤ length pool.now }
     ensures { IfOk result (λ r. (ps : List Procedure) → AreJumps jumps.items ps → Knows r (macros_pruned (wants wanted.now) ps (reverse (map (macro_at pool.now) macros.now))) ps) }
 {
     let mut known = Known {

@@ -1,18 +1,16 @@
 //! Variables that are read before they are declared, in initial values.
 
-ghost use Rattle.std.specs.Prelude.{◌≡◌, ◌<◌, ◌≤◌, ◌++◌, List, [], length, map, IfOk, OnOk};
-ghost use Rattle.std.specs.List.{list_any, flat_map};
+ghost use Rattle.std.specs.Prelude.{◌≡◌, List, IfOk, OnOk};
+ghost use Rattle.std.specs.List.{list_any};
 ghost use Rattle.tla_tree.specs.Tree.{Word};
 ghost use Rattle.tla_tree.specs.Pool.{at};
-ghost use Rattle.tla_tree.specs.Nesting.{greatest};
-ghost use Rattle.pcal_tree.specs.InMemory.{start_at, declarations_at, past_start, past_declarations, past_procedure, past_process, past_main};
+ghost use Rattle.pcal_tree.specs.InMemory.{start_at, declarations_at};
 ghost use Rattle.pcal_tree.specs.Offences.{first};
 ghost use Rattle.algorithm_limits.specs.DepthsIn.{Hides};
 ghost use Rattle.algorithm_answer.specs.Joined.{joined};
 ghost use Rattle.read_rules.specs.Levels.{Levels};
 ghost use Rattle.read_rules.specs.EarlyReads.{is_early, early_in_tree, early_in_start, early_in};
-ghost use Rattle.module_outside.specs.SightIn.{Binds};
-ghost use Rattle.read_rules.specs.NumbersIn.{declared_in, AreLevels};
+ghost use Rattle.read_rules.specs.NumbersIn.{declared_in};
 ghost use Rattle.read_rules.specs.Order.{Knows};
 
 use crate::used::free_names;
@@ -65,13 +63,11 @@ fn with_tree(
     so_far: Option<Refusal>,
     e: NodeId,
 ) -> Result<Option<Refusal>, AllocError>
-    requires { e < length pool.now }
     ensures { IfOk result (λ r. (all : List Word) (ls : Levels) (before : List Word) → Knows known.now all ls before → r ≡ joined so_far (first (early_in_tree all ls before count (at pool.now e)))) }
 {
     let names = free_names(alloc, pool, e)?;
     let early = are_early(known, count, &names);
-    let node = pool.node(e);
-    Ok(or_offence(so_far, early, Rule::InitLater, node.place))
+    Ok(or_offence(so_far, early, Rule::InitLater, pool.place(e)))
 }
 
 // The same of a first value.
@@ -83,7 +79,6 @@ fn with_start(
     so_far: Option<Refusal>,
     start: &Start,
 ) -> Result<Option<Refusal>, AllocError>
-    requires { past_start start.now ≤ length pool.now }
     ensures { IfOk result (λ r. (all : List Word) (ls : Levels) (before : List Word) → Knows known.now all ls before → r ≡ joined so_far (first (early_in_start all ls before count (start_at pool.now start.now)))) }
 {
     match start {
@@ -105,7 +100,6 @@ pub fn with_declarations(
     so_far: Option<Refusal>,
     list: &[Declaration],
 ) -> Result<Option<Refusal>, AllocError>
-    requires { past_declarations list.now ≤ length pool.now }
     ensures found { IfOk result (λ r. (all : List Word) (ls : Levels) (before : List Word) → Knows known.old all ls before → r ≡ joined so_far (first (early_in all ls before 0 (declarations_at pool.now list.now)))) }
     ensures all { OnOk result (known.new.all ≡ known.old.all) }
     ensures levels { OnOk result (known.new.levels ≡ known.old.levels) }

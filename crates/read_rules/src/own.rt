@@ -1,10 +1,9 @@
 //! What is of one process alone, in the sets of a process set's variables.
 
-ghost use Rattle.std.specs.Prelude.{◌≡◌, ◌≤◌, [], length, map, IfOk};
+ghost use Rattle.std.specs.Prelude.{◌≡◌, [], map, IfOk};
 ghost use Rattle.std.specs.List.{flat_map};
-ghost use Rattle.tla_tree.specs.Nesting.{greatest};
 ghost use Rattle.pcal_tree.specs.Algorithm as tree;
-ghost use Rattle.pcal_tree.specs.InMemory.{start_at, declarations_at, process_at, main_at, past_start, past_declarations, past_process, past_main};
+ghost use Rattle.pcal_tree.specs.InMemory.{start_at, declarations_at, process_at, main_at};
 ghost use Rattle.pcal_tree.specs.Offences.{first};
 ghost use Rattle.pcal_tree.specs.OffencesReads.{processes_of, of_one_process, own_in_start, own_in_sets};
 ghost use Rattle.pcal_tree.specs.Variables.{declared};
@@ -49,7 +48,6 @@ fn with_start(
     so_far: Option<Refusal>,
     start: &Start,
 ) -> Result<Option<Refusal>, AllocError>
-    requires { past_start start.now ≤ length pool.now }
     ensures { IfOk result (λ r. (p : tree.Process) → Binds variables.now (declared p.variables) → r ≡ joined so_far (first (own_in_start p (start_at pool.now start.now)))) }
 {
     match start {
@@ -69,7 +67,6 @@ fn with_declarations(
     so_far: Option<Refusal>,
     list: &[Declaration],
 ) -> Result<Option<Refusal>, AllocError>
-    requires { past_declarations list.now ≤ length pool.now }
     ensures { IfOk result (λ r. (p : tree.Process) → Binds variables.now (declared p.variables) → r ≡ joined so_far (first (flat_map (own_in_declaration p) (declarations_at pool.now list.now)))) }
 {
     let mut found = so_far;
@@ -88,7 +85,6 @@ fn with_variables(
     so_far: Option<Refusal>,
     process: &Process,
 ) -> Result<Option<Refusal>, AllocError>
-    requires { past_process process.now ≤ length pool.now }
     ensures { IfOk result (λ r. variables.old ≡ [] → r ≡ joined so_far (first (flat_map (own_in_declaration (process_at pool.now process.now)) (declarations_at pool.now process.now.variables.items)))) }
 {
     add_declared(variables, &process.variables)?;
@@ -102,7 +98,6 @@ fn with_process(
     so_far: Option<Refusal>,
     process: &Process,
 ) -> Result<Option<Refusal>, AllocError>
-    requires { past_process process.now ≤ length pool.now }
     ensures { IfOk result (λ r. r ≡ joined so_far (first (own_in_sets (process_at pool.now process.now)))) }
 {
     if !process.several {
@@ -120,7 +115,6 @@ fn of_processes(
     pool: &Pool,
     processes: &[Process],
 ) -> Result<Option<Refusal>, AllocError>
-    requires { greatest (map past_process processes.now) ≤ length pool.now }
     ensures { IfOk result (λ r. r ≡ first (flat_map own_in_sets (map (process_at pool.now) processes.now))) }
 {
     let mut found = None;
@@ -136,7 +130,6 @@ fn of_processes(
 ///
 /// Only for want of memory.
 pub fn own_refusal(alloc: Global, pool: &Pool, main: &Main) -> Result<Option<Refusal>, AllocError>
-    requires { past_main main.now ≤ length pool.now }
     ensures { IfOk result (λ r. r ≡ first (flat_map own_in_sets (processes_of (main_at pool.now main.now)))) }
 {
     match main {

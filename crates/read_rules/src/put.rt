@@ -1,11 +1,10 @@
 //! Arguments put in for the parameters of macros.
 
-ghost use Rattle.std.specs.Prelude.{◌≡◌, ◌+◌, ◌<◌, ◌≤◌, List, [], ◌++◌, bytes_eq, length, IfOk, IfSome, OnOk};
+ghost use Rattle.std.specs.Prelude.{◌≡◌, ◌+◌, List, [], ◌++◌, bytes_eq, IfOk, OnOk};
 ghost use Rattle.std.specs.List.{flat_map};
 ghost use Rattle.std.specs.Option.{option_map};
 ghost use Rattle.tla_tree.specs.Tree.{Tree};
 ghost use Rattle.tla_tree.specs.Pool.{at, trees_at, AllBelow};
-ghost use Rattle.pcal_tree.specs.InMemory.{past_numbers};
 ghost use Rattle.pcal_tree.specs.Paths.{root, root_of_first};
 ghost use Rattle.pcal_tree.specs.laws.MacroSpots.{before_on, put_origin, put_use};
 ghost use Rattle.pcal_tree.specs.laws.MacroSummaries.{argument};
@@ -39,10 +38,11 @@ pub fn same(a: &Name, b: &Name) -> bool
 /// Only for want of memory.
 #[cycle(roots)]
 pub fn root(pool: &Pool, e: NodeId) -> Result<Option<Name>, AllocError>
-    requires { e < length pool.now }
     ensures { IfOk result (λ r. r ≡ root (at pool.now e)) }
 {
-    let node = pool.node(e);
+    let Some(node) = pool.get(e) else {
+        return Ok(None);
+    };
     match &node.form {
         Form::Name(name) => Ok(Some(name.copied()?)),
         Form::Strict(strict) => match strict {
@@ -57,8 +57,7 @@ pub fn root(pool: &Pool, e: NodeId) -> Result<Option<Name>, AllocError>
 // That of the first part of an expression; the parts have smaller numbers than this.
 #[cycle(roots)]
 fn root_of_first(pool: &Pool, parts: &[NodeId], past: NodeId) -> Result<Option<Name>, AllocError>
-    requires there { AllBelow past parts.now }
-    requires inside { past ≤ length pool.now }
+    requires { AllBelow past parts.now }
     ensures { IfOk result (λ r. r ≡ root_of_first (trees_at pool.now parts.now)) }
 {
     if parts.len() > 0 {
@@ -70,8 +69,7 @@ fn root_of_first(pool: &Pool, parts: &[NodeId], past: NodeId) -> Result<Option<N
 
 /// The argument that stands for a name, if one does.
 pub fn argument(params: &[PlacedName], args: &[NodeId], name: &Name) -> Option<NodeId>
-    ensures value { (ts : List Tree) → option_map (at ts) result ≡ argument params.now (trees_at ts args.now) name.now }
-    ensures within { IfSome result (λ e. e + 1 ≤ past_numbers args.now) }
+    ensures { (ts : List Tree) → option_map (at ts) result ≡ argument params.now (trees_at ts args.now) name.now }
 {
     for i in 0..params.len() {
         if i >= args.len() {
@@ -93,7 +91,6 @@ fn put_use(
     args: &[NodeId],
     one: &Use,
 ) -> Result<(), AllocError>
-    requires { past_numbers args.now ≤ length pool.now }
     ensures { OnOk result (uses_of list.new.items ≡ uses_of list.old.items ++ put_use (putting params.now (trees_at pool.now args.now) []) (use_of one.now)) }
 {
     let name = &one.name;
@@ -119,7 +116,6 @@ pub fn put_uses(
     args: &[NodeId],
     uses: &[Use],
 ) -> Result<(), AllocError>
-    requires { past_numbers args.now ≤ length pool.now }
     ensures { OnOk result (uses_of list.new.items ≡ uses_of list.old.items ++ flat_map (put_use (putting params.now (trees_at pool.now args.now) [])) (uses_of uses.now)) }
 {
     for one in uses {
@@ -136,7 +132,6 @@ fn put_name(
     args: &[NodeId],
     name: &Name,
 ) -> Result<(), AllocError>
-    requires { past_numbers args.now ≤ length pool.now }
     ensures { OnOk result (Joins names.old names.new (word_put params.now (trees_at pool.now args.now) name.now)) }
 {
     match argument(params, args, name) {
@@ -156,7 +151,6 @@ fn put_names(
     args: &[NodeId],
     from: &[Name],
 ) -> Result<(), AllocError>
-    requires { past_numbers args.now ≤ length pool.now }
     ensures { OnOk result (Joins names.old names.new (words_put params.now (trees_at pool.now args.now) from.now)) }
 {
     for name in from {
@@ -195,7 +189,6 @@ pub fn put_assigned(
     before: &Option<Assigned>,
     from: &Assigned,
 ) -> Result<Assigned, AllocError>
-    requires { past_numbers args.now ≤ length pool.now }
     ensures { IfOk result (λ r. Same (origins r) (flat_map (put_origin (putting params.now (trees_at pool.now args.now) (before_on (trail_of before.now)))) (origins from.now))) }
 {
     let mut into = with_before(alloc, from.earlier, before)?;

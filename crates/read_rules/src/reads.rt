@@ -1,7 +1,7 @@
 //! Variables that are read where they have no value yet, in an algorithm.
 
-ghost use Rattle.std.specs.Prelude.{◌≡◌, ◌≤◌, ◌++◌, length, IfOk};
-ghost use Rattle.pcal_tree.specs.InMemory.{algorithm_at, past_algorithm};
+ghost use Rattle.std.specs.Prelude.{◌≡◌, ◌++◌, IfOk};
+ghost use Rattle.pcal_tree.specs.InMemory.{algorithm_at};
 ghost use Rattle.pcal_tree.specs.Offences.{first};
 ghost use Rattle.pcal_tree.specs.OffencesReads.{process_offences, own_offences, order_offences};
 ghost use Rattle.pcal_tree.specs.Variables.{declared};
@@ -25,7 +25,6 @@ fn refusal_by(
     numbers: &Table,
     algorithm: &Algorithm,
 ) -> Result<Option<Refusal>, AllocError>
-    requires { past_algorithm algorithm.now ≤ length pool.now }
     ensures { IfOk result (λ r. AreNumbers numbers.now (declared (algorithm_at pool.now algorithm.now).globals) → r ≡ first (process_offences (algorithm_at pool.now algorithm.now) ++ (own_offences (algorithm_at pool.now algorithm.now) ++ order_offences (algorithm_at pool.now algorithm.now)))) }
 {
     let levels = levels(alloc, pool, numbers, &algorithm.definitions)?;
@@ -53,7 +52,6 @@ pub fn read_refusal(
     pool: &Pool,
     algorithm: &Algorithm,
 ) -> Result<Option<Refusal>, AllocError>
-    requires { past_algorithm algorithm.now ≤ length pool.now }
     ensures { IfOk result (λ r. r ≡ first (process_offences (algorithm_at pool.now algorithm.now) ++ (own_offences (algorithm_at pool.now algorithm.now) ++ order_offences (algorithm_at pool.now algorithm.now)))) }
 {
     let numbers = number_variables(alloc, &algorithm.globals)?;

@@ -1,9 +1,9 @@
 //! The first use of a definition after what it reads was assigned.
 
-ghost use Rattle.std.specs.Prelude.{◌≡◌, ◌≤◌, List, [], bytes_eq, codes, length, map, IfOk};
+ghost use Rattle.std.specs.Prelude.{◌≡◌, List, [], bytes_eq, codes, map, IfOk};
 ghost use Rattle.std.specs.List.{flat_map};
 ghost use Rattle.pcal_tree.specs.Algorithm as tree;
-ghost use Rattle.pcal_tree.specs.InMemory.{statements_at, past_statements};
+ghost use Rattle.pcal_tree.specs.InMemory.{statements_at};
 ghost use Rattle.pcal_tree.specs.Offences.{first};
 ghost use Rattle.pcal_tree.specs.OffencesStale.{stands_for, stale_at};
 ghost use Rattle.pcal_tree.specs.Reads.{Reading};
@@ -126,7 +126,6 @@ pub fn with_body(
     identity: &[PlacedName],
     body: &[Stmt],
 ) -> Result<Option<Refusal>, AllocError>
-    requires { past_statements body.now ≤ length pool.now }
     ensures { IfOk result (λ r. (ms : List MacroSeen) (ps : List tree.Procedure) (ds : List Reading) → Knows known.now ms ps → AreReads reads.now ds → r ≡ joined so_far (first (flat_map (stale_at ds identity.now) (looking ms ps [] (statements_at pool.now body.now))))) }
 {
     let mut ways = Ways {

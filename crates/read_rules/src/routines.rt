@@ -1,16 +1,14 @@
 //! Procedures, processes and bodies: the first use of a definition after what it reads was assigned.
 
-ghost use Rattle.std.specs.Prelude.{◌≡◌, ◌≤◌, List, [], cond, length, map, IfOk};
+ghost use Rattle.std.specs.Prelude.{◌≡◌, List, [], cond, map, IfOk};
 ghost use Rattle.std.specs.List.{flat_map};
-ghost use Rattle.tla_tree.specs.Nesting.{greatest};
 ghost use Rattle.tla_tree.specs.Pool.{at};
 ghost use Rattle.pcal_tree.specs.Algorithm as tree;
-ghost use Rattle.pcal_tree.specs.InMemory.{procedure_at, process_at, main_at, past_procedure, past_process, past_main};
+ghost use Rattle.pcal_tree.specs.InMemory.{procedure_at, process_at, main_at};
 ghost use Rattle.pcal_tree.specs.Offences.{first};
 ghost use Rattle.pcal_tree.specs.OffencesStale.{stale_in_procedure, stale_in_process, stale_in_main};
 ghost use Rattle.pcal_tree.specs.Reads.{Reading, used};
 ghost use Rattle.pcal_tree.specs.laws.MacroSpots.{MacroSeen};
-ghost use Rattle.algorithm_answer.specs.Joined.{joined};
 ghost use Rattle.read_rules.specs.KnownIn.{Knows};
 ghost use Rattle.read_rules.specs.ReadsIn.{AreReads};
 ghost use Rattle.read_rules.specs.RefusalsIn.{looking};
@@ -37,7 +35,6 @@ pub fn of_procedures(
     reads: &Reads,
     procedures: &[Procedure],
 ) -> Result<Option<Refusal>, AllocError>
-    requires { greatest (map past_procedure procedures.now) ≤ length pool.now }
     ensures { IfOk result (λ r. (ms : List MacroSeen) (ps : List tree.Procedure) (ds : List Reading) → Knows known.now ms ps → AreReads reads.now ds → r ≡ first (flat_map (stale_in_procedure (looking ms ps) ds) (map (procedure_at pool.now) procedures.now))) }
 {
     let mut found = None;
@@ -53,7 +50,6 @@ fn identity_names(
     pool: &Pool,
     process: &Process,
 ) -> Result<Vec<PlacedName>, AllocError>
-    requires { past_process process.now ≤ length pool.now }
     ensures { IfOk result (λ r. r.items ≡ cond process.now.several [] (used (at pool.now process.now.identity) [])) }
 {
     if process.several {
@@ -71,7 +67,6 @@ fn of_processes(
     reads: &Reads,
     processes: &[Process],
 ) -> Result<Option<Refusal>, AllocError>
-    requires { greatest (map past_process processes.now) ≤ length pool.now }
     ensures { IfOk result (λ r. (ms : List MacroSeen) (ps : List tree.Procedure) (ds : List Reading) → Knows known.now ms ps → AreReads reads.now ds → r ≡ first (flat_map (stale_in_process (looking ms ps) ds) (map (process_at pool.now) processes.now))) }
 {
     let mut found = None;
@@ -94,7 +89,6 @@ pub fn of_main(
     reads: &Reads,
     main: &Main,
 ) -> Result<Option<Refusal>, AllocError>
-    requires { past_main main.now ≤ length pool.now }
     ensures { IfOk result (λ r. (ms : List MacroSeen) (ps : List tree.Procedure) (ds : List Reading) → Knows known.now ms ps → AreReads reads.now ds → r ≡ first (stale_in_main (looking ms ps) ds (main_at pool.now main.now))) }
 {
     match main {

@@ -1,11 +1,10 @@
 //! What is seen in statements.
 
-ghost use Rattle.std.specs.Prelude.{◌≡◌, ◌<◌, ◌≤◌, false, None, Some, List, [], ◌∷◌, length, map, IfOk, OnOk};
-ghost use Rattle.tla_tree.specs.Nesting.{greatest};
+ghost use Rattle.std.specs.Prelude.{◌≡◌, false, None, Some, List, [], ◌∷◌, IfOk, OnOk};
 ghost use Rattle.tla_tree.specs.Pool.{at};
 ghost use Rattle.pcal_tree.specs.Algorithm.{branch, either, with, while, Procedure};
 ghost use Rattle.tla_token.specs.declared.place.Place.{Place};
-ghost use Rattle.pcal_tree.specs.InMemory.{binds_at, simple_at, statements_at, branches_at, past_bind, past_simple, past_stmt, past_statements, past_branches};
+ghost use Rattle.pcal_tree.specs.InMemory.{binds_at, simple_at, statements_at, branches_at};
 ghost use Rattle.pcal_tree.specs.laws.MacroSpots.{MacroSeen, earlier, seen_in_call, seen_in_body, starting, unlabelled, uses, uses_of_binds};
 ghost use Rattle.read_rules.specs.BodiesIn.{one, GoesStmt, in_some, together};
 ghost use Rattle.read_rules.specs.KnownIn.{Knows};
@@ -25,7 +24,6 @@ use tla_tree::NodeId;
 
 // What the test of a statement uses.
 fn test_uses(alloc: Global, pool: &Pool, e: NodeId) -> Result<Vec<Use>, AllocError>
-    requires { e < length pool.now }
     ensures { IfOk result (λ r. uses_of r.items ≡ uses (at pool.now e)) }
 {
     let mut list = Vec::new(alloc);
@@ -35,7 +33,6 @@ fn test_uses(alloc: Global, pool: &Pool, e: NodeId) -> Result<Vec<Use>, AllocErr
 
 // What the expressions of a `with` use.
 fn bind_uses(alloc: Global, pool: &Pool, binds: &[Bind]) -> Result<Vec<Use>, AllocError>
-    requires { greatest (map past_bind binds.now) ≤ length pool.now }
     ensures { IfOk result (λ r. uses_of r.items ≡ uses_of_binds (binds_at pool.now binds.now)) }
 {
     let mut list = Vec::new(alloc);
@@ -53,7 +50,6 @@ impl Known {
         place: Place,
         simple: &Simple,
     ) -> Result<(), AllocError>
-        requires { past_simple simple.now ≤ length pool.now }
         ensures { OnOk result ((ms : List MacroSeen) (ps : List Procedure) → Knows self.now ms ps → Goes ways.old ways.new (one (seen_in_call ms) ps place (simple_at pool.now simple.now))) }
     {
         match simple {
@@ -76,7 +72,6 @@ impl Known {
         ways: &mut Ways,
         stmt: &Stmt,
     ) -> Result<(), AllocError>
-        requires { past_stmt stmt.now ≤ length pool.now }
         ensures { OnOk result ((ms : List MacroSeen) (ps : List Procedure) → Knows self.now ms ps → GoesStmt (seen_in_call ms) ps pool.now stmt.now ways.old ways.new) }
     {
         match stmt {
@@ -105,9 +100,6 @@ impl Known {
         then: &[Stmt],
         otherwise: &[Stmt],
     ) -> Result<(), AllocError>
-        requires test { e < length pool.now }
-        requires first { past_statements then.now ≤ length pool.now }
-        requires second { past_statements otherwise.now ≤ length pool.now }
         ensures { OnOk result ((ms : List MacroSeen) (ps : List Procedure) (p : Place) → Knows self.now ms ps → Goes ways.old ways.new (one (seen_in_call ms) ps p (branch (at pool.now e) (statements_at pool.now then.now) (statements_at pool.now otherwise.now)))) }
     {
         ways.pass_uses(alloc, pool, test_uses(alloc, pool, e)?)?;
@@ -139,8 +131,6 @@ impl Known {
         then: &[Stmt],
         otherwise: &[Stmt],
     ) -> Result<(), AllocError>
-        requires first { past_statements then.now ≤ length pool.now }
-        requires second { past_statements otherwise.now ≤ length pool.now }
         ensures { OnOk result ((ms : List MacroSeen) (ps : List Procedure) → Knows self.now ms ps → Branches ways.old ways.new start.now ends.old ends.new (together (λ q. seen_in_body (seen_in_call ms) ps (statements_at pool.now then.now) (unlabelled q)) (λ q. seen_in_body (seen_in_call ms) ps (statements_at pool.now otherwise.now) (unlabelled q)))) }
     {
         self.fork(alloc, pool, ways, start, ends, then)?;
@@ -156,7 +146,6 @@ impl Known {
         ways: &mut Ways,
         list: &[Vec<Stmt>],
     ) -> Result<(), AllocError>
-        requires { past_branches list.now ≤ length pool.now }
         ensures { OnOk result ((ms : List MacroSeen) (ps : List Procedure) (p : Place) → Knows self.now ms ps → Goes ways.old ways.new (one (seen_in_call ms) ps p (either (branches_at pool.now list.now)))) }
     {
         ways.pass_uses(alloc, pool, Vec::new(alloc))?;
@@ -186,8 +175,6 @@ impl Known {
         binds: &[Bind],
         body: &[Stmt],
     ) -> Result<(), AllocError>
-        requires binds { greatest (map past_bind binds.now) ≤ length pool.now }
-        requires body { past_statements body.now ≤ length pool.now }
         ensures { OnOk result ((ms : List MacroSeen) (ps : List Procedure) (p : Place) → Knows self.now ms ps → Goes ways.old ways.new (one (seen_in_call ms) ps p (with (binds_at pool.now binds.now) (statements_at pool.now body.now)))) }
     {
         ways.pass_uses(alloc, pool, bind_uses(alloc, pool, binds)?)?;
@@ -206,8 +193,6 @@ impl Known {
         e: NodeId,
         body: &[Stmt],
     ) -> Result<(), AllocError>
-        requires test { e < length pool.now }
-        requires body { past_statements body.now ≤ length pool.now }
         ensures { OnOk result ((ms : List MacroSeen) (ps : List Procedure) (p : Place) → Knows self.now ms ps → Goes ways.old ways.new (one (seen_in_call ms) ps p (while (at pool.now e) (statements_at pool.now body.now)))) }
     {
         let mut inner = Ways::new(alloc, false);
@@ -227,8 +212,6 @@ impl Known {
         e: NodeId,
         body: &[Stmt],
     ) -> Result<(), AllocError>
-        requires test { e < length pool.now }
-        requires body { past_statements body.now ≤ length pool.now }
         ensures { OnOk result ((ms : List MacroSeen) (ps : List Procedure) (p : Place) → Begins inner.old.unreached (starting false None) → Begins inner.old.reached (starting false (Some (earlier ∷ []))) → Knows self.now ms ps → Goes ways.old ways.new (one (seen_in_call ms) ps p (while (at pool.now e) (statements_at pool.now body.now)))) }
     {
         self.body(alloc, pool, inner, body)?;
@@ -248,7 +231,6 @@ impl Known {
         ends: &mut Paths,
         body: &[Stmt],
     ) -> Result<(), AllocError>
-        requires { past_statements body.now ≤ length pool.now }
         ensures { OnOk result ((ms : List MacroSeen) (ps : List Procedure) → Knows self.now ms ps → Branches ways.old ways.new start.now ends.old ends.new (λ q. seen_in_body (seen_in_call ms) ps (statements_at pool.now body.now) (unlabelled q))) }
     {
         ways.restart(start)?;
@@ -267,7 +249,6 @@ impl Known {
         ends: &mut Paths,
         list: &[Vec<Stmt>],
     ) -> Result<(), AllocError>
-        requires { past_branches list.now ≤ length pool.now }
         ensures { OnOk result ((ms : List MacroSeen) (ps : List Procedure) → Knows self.now ms ps → Branches ways.old ways.new start.now ends.old ends.new (in_some (seen_in_call ms) ps (branches_at pool.now list.now))) }
     {
         for i in 0..list.len() {
@@ -289,7 +270,6 @@ impl Known {
         ways: &mut Ways,
         stmts: &[Stmt],
     ) -> Result<(), AllocError>
-        requires { past_statements stmts.now ≤ length pool.now }
         ensures { OnOk result ((ms : List MacroSeen) (ps : List Procedure) → Knows self.now ms ps → Goes ways.old ways.new (λ z. seen_in_body (seen_in_call ms) ps (statements_at pool.now stmts.now) z)) }
     {
         for stmt in stmts {

@@ -1,14 +1,12 @@
 //! `self` where no process is, in an algorithm.
 
-ghost use Rattle.std.specs.Prelude.{◌≡◌, ◌<◌, ◌≤◌, List, [], length, map, reverse, bytes_eq, codes, IfOk, OnOk};
+ghost use Rattle.std.specs.Prelude.{◌≡◌, List, [], map, reverse, bytes_eq, codes, IfOk, OnOk};
 ghost use Rattle.std.specs.List.{flat_map};
 ghost use Rattle.tla_tree.specs.Tree.{Word, Tree, words};
 ghost use Rattle.tla_tree.specs.Pool.{at};
-ghost use Rattle.tla_tree.specs.Nesting.{greatest};
 ghost use Rattle.pcal_tree.specs.Algorithm as tree;
-ghost use Rattle.pcal_tree.specs.InMemory.{start_at, statements_at, declarations_at, definitions_at, macro_at, procedure_at, process_at, algorithm_at, past_start, past_statements, past_declarations, past_definitions, past_macro, past_procedure, past_process, past_algorithm};
+ghost use Rattle.pcal_tree.specs.InMemory.{start_at, statements_at, declarations_at, definitions_at, macro_at, procedure_at, process_at, algorithm_at};
 ghost use Rattle.pcal_tree.specs.Offences.{first};
-ghost use Rattle.pcal_tree.specs.OffencesCounts.{calls_of};
 ghost use Rattle.pcal_tree.specs.OffencesSelf.{selves, used_by_starts, used_in_macros, used_by_procedure, used_outside, reached, self_offences};
 ghost use Rattle.pcal_tree.specs.Reads.{used, initial};
 ghost use Rattle.pcal_tree.specs.Spots.{used_in_body};
@@ -57,7 +55,6 @@ fn with_tree(
     so_far: Option<Refusal>,
     e: NodeId,
 ) -> Result<Option<Refusal>, AllocError>
-    requires { e < length pool.now }
     ensures { IfOk result (λ r. r ≡ joined so_far (first (selves (used (at pool.now e) [])))) }
 {
     let names = free_names(alloc, pool, e)?;
@@ -71,7 +68,6 @@ fn with_body(
     so_far: Option<Refusal>,
     stmts: &[Stmt],
 ) -> Result<Option<Refusal>, AllocError>
-    requires { past_statements stmts.now ≤ length pool.now }
     ensures { IfOk result (λ r. r ≡ joined so_far (first (selves (used_in_body (statements_at pool.now stmts.now))))) }
 {
     let mut used = Used {
@@ -101,7 +97,6 @@ fn with_start(
     so_far: Option<Refusal>,
     start: &Start,
 ) -> Result<Option<Refusal>, AllocError>
-    requires { past_start start.now ≤ length pool.now }
     ensures { IfOk result (λ r. r ≡ joined so_far (first (selves (flat_map (λ e. used e []) (initial (start_at pool.now start.now)))))) }
 {
     match start {
@@ -118,7 +113,6 @@ fn with_starts(
     so_far: Option<Refusal>,
     list: &[Declaration],
 ) -> Result<Option<Refusal>, AllocError>
-    requires { past_declarations list.now ≤ length pool.now }
     ensures { IfOk result (λ r. r ≡ joined so_far (first (selves (used_by_starts (declarations_at pool.now list.now))))) }
 {
     let mut found = so_far;
@@ -136,7 +130,6 @@ fn with_definitions(
     so_far: Option<Refusal>,
     list: &[Definition],
 ) -> Result<Option<Refusal>, AllocError>
-    requires { past_definitions list.now ≤ length pool.now }
     ensures { IfOk result (λ r. r ≡ joined so_far (first (selves (flat_map (λ d. used d.body (words d.params)) (definitions_at pool.now list.now))))) }
 {
     let mut found = so_far;
@@ -157,7 +150,6 @@ fn with_procedure(
     so_far: Option<Refusal>,
     procedure: &Procedure,
 ) -> Result<Option<Refusal>, AllocError>
-    requires { past_procedure procedure.now ≤ length pool.now }
     ensures { IfOk result (λ r. r ≡ joined so_far (first (selves (used_by_procedure (procedure_at pool.now procedure.now))))) }
 {
     let params = with_starts(alloc, pool, so_far, &procedure.params)?;
@@ -172,7 +164,6 @@ fn with_procedures(
     so_far: Option<Refusal>,
     procedures: &[Procedure],
 ) -> Result<Option<Refusal>, AllocError>
-    requires { greatest (map past_procedure procedures.now) ≤ length pool.now }
     ensures { IfOk result (λ r. r ≡ joined so_far (first (selves (flat_map used_by_procedure (map (procedure_at pool.now) procedures.now))))) }
 {
     let mut found = so_far;
@@ -189,7 +180,6 @@ fn with_processes(
     so_far: Option<Refusal>,
     processes: &[Process],
 ) -> Result<Option<Refusal>, AllocError>
-    requires { greatest (map past_process processes.now) ≤ length pool.now }
     ensures { IfOk result (λ r. r ≡ joined so_far (first (selves (flat_map (λ p. used p.identity []) (map (process_at pool.now) processes.now))))) }
 {
     let mut found = so_far;
@@ -219,7 +209,6 @@ fn with_macros(
     so_far: Option<Refusal>,
     macros: &[Macro],
 ) -> Result<Option<Refusal>, AllocError>
-    requires { greatest (map past_macro macros.now) ≤ length pool.now }
     ensures { IfOk result (λ r. (calls : List Word) → AreCalled called.old calls → r ≡ joined so_far (first (selves (used_in_macros (reached calls (reverse (map (macro_at pool.now) macros.now))))))) }
 {
     let mut found = so_far;
@@ -244,8 +233,6 @@ fn with_alone(
     algorithm: &Algorithm,
     body: &[Stmt],
 ) -> Result<Option<Refusal>, AllocError>
-    requires whole { past_algorithm algorithm.now ≤ length pool.now }
-    requires body { past_statements body.now ≤ length pool.now }
     ensures { IfOk result (λ r. r ≡ joined so_far (first (selves (used_outside (algorithm_at pool.now algorithm.now) (tree.alone (statements_at pool.now body.now)))))) }
 {
     let mut called = Table::new(alloc);
@@ -263,8 +250,6 @@ fn with_calls(
     algorithm: &Algorithm,
     body: &[Stmt],
 ) -> Result<Option<Refusal>, AllocError>
-    requires whole { past_algorithm algorithm.now ≤ length pool.now }
-    requires body { past_statements body.now ≤ length pool.now }
     ensures { IfOk result (λ r. called.old ≡ [] → r ≡ joined so_far (first (selves (used_outside (algorithm_at pool.now algorithm.now) (tree.alone (statements_at pool.now body.now)))))) }
 {
     add_procedures(called, &algorithm.procedures)?;
@@ -285,7 +270,6 @@ pub fn self_refusal(
     pool: &Pool,
     algorithm: &Algorithm,
 ) -> Result<Option<Refusal>, AllocError>
-    requires { past_algorithm algorithm.now ≤ length pool.now }
     ensures { IfOk result (λ r. r ≡ first (self_offences (algorithm_at pool.now algorithm.now))) }
 {
     let globals = with_starts(alloc, pool, None, &algorithm.globals)?;

@@ -1,7 +1,7 @@
 //! Definitions that are used after what they read was assigned, in an algorithm.
 
-ghost use Rattle.std.specs.Prelude.{◌≡◌, ◌≤◌, length, IfOk};
-ghost use Rattle.pcal_tree.specs.InMemory.{algorithm_at, past_algorithm};
+ghost use Rattle.std.specs.Prelude.{◌≡◌, IfOk};
+ghost use Rattle.pcal_tree.specs.InMemory.{algorithm_at};
 ghost use Rattle.pcal_tree.specs.Offences.{first};
 ghost use Rattle.pcal_tree.specs.OffencesStale.{stale_offences_by};
 ghost use Rattle.pcal_tree.specs.Reads.{readings_of};
@@ -25,7 +25,6 @@ use tla_token::Refusal;
 
 // What tells whether uses may matter in an algorithm.
 fn wanted_in(alloc: Global, pool: &Pool, algorithm: &Algorithm) -> Result<Wanted, AllocError>
-    requires { past_algorithm algorithm.now ≤ length pool.now }
     ensures { IfOk result (λ r. AreReads r.reads (readings_of (algorithm_at pool.now algorithm.now)) × Same r.names (params_in algorithm.now.macros.items)) }
 {
     let names = all_params(alloc, &algorithm.macros)?;
@@ -50,7 +49,6 @@ fn known_in(
     wanted: &Wanted,
     algorithm: &Algorithm,
 ) -> Result<Known, AllocError>
-    requires { past_algorithm algorithm.now ≤ length pool.now }
     ensures { IfOk result (λ r. KnowsAll (wants wanted.now) r (algorithm_at pool.now algorithm.now)) }
 {
     let jumps = jumps(alloc, pool, &algorithm.procedures)?;
@@ -65,7 +63,6 @@ fn refusal_by(
     known: &Known,
     algorithm: &Algorithm,
 ) -> Result<Option<Refusal>, AllocError>
-    requires { past_algorithm algorithm.now ≤ length pool.now }
     ensures { IfOk result (λ r. AreReads wanted.now.reads (readings_of (algorithm_at pool.now algorithm.now)) → Same wanted.now.names (params_in algorithm.now.macros.items) → KnowsAll (wants wanted.now) known.now (algorithm_at pool.now algorithm.now) → r ≡ first (stale_offences_by (spots_by_macros (algorithm_at pool.now algorithm.now)) (algorithm_at pool.now algorithm.now))) }
 {
     let procedures = of_procedures(alloc, pool, known, &wanted.reads, &algorithm.procedures)?;
@@ -80,7 +77,6 @@ fn refusal_with(
     wanted: &Wanted,
     algorithm: &Algorithm,
 ) -> Result<Option<Refusal>, AllocError>
-    requires { past_algorithm algorithm.now ≤ length pool.now }
     ensures { IfOk result (λ r. AreReads wanted.now.reads (readings_of (algorithm_at pool.now algorithm.now)) → Same wanted.now.names (params_in algorithm.now.macros.items) → r ≡ first (stale_offences_by (spots_by_macros (algorithm_at pool.now algorithm.now)) (algorithm_at pool.now algorithm.now))) }
 {
     let known = known_in(alloc, pool, wanted, algorithm)?;
@@ -100,7 +96,6 @@ pub fn stale_refusal(
     pool: &Pool,
     algorithm: &Algorithm,
 ) -> Result<Option<Refusal>, AllocError>
-    requires { past_algorithm algorithm.now ≤ length pool.now }
     ensures { IfOk result (λ r. r ≡ first (stale_offences_by (spots_by_macros (algorithm_at pool.now algorithm.now)) (algorithm_at pool.now algorithm.now))) }
 {
     if algorithm.definitions.is_empty() {

@@ -1,14 +1,13 @@
 //! What statements do that have none in them: what they use, and what they assign.
 
-ghost use Rattle.std.specs.Prelude.{◌≡◌, ◌<◌, ◌≤◌, List, [], ◌∷◌, ◌++◌, length, map, IfOk, OnOk};
+ghost use Rattle.std.specs.Prelude.{◌≡◌, List, [], ◌∷◌, ◌++◌, IfOk, OnOk};
 ghost use Rattle.tla_tree.specs.Tree.{Tree, words};
-ghost use Rattle.tla_tree.specs.Nesting.{greatest};
-ghost use Rattle.tla_tree.specs.Pool.{at, trees_at};
+ghost use Rattle.tla_tree.specs.Pool.{at};
 ghost use Rattle.pcal_tree.specs.Algorithm.{Procedure};
-ghost use Rattle.pcal_tree.specs.InMemory.{assignments_at, binds_at, simple_at, past_numbers, past_assignment, past_bind, past_simple};
+ghost use Rattle.pcal_tree.specs.InMemory.{assignments_at, binds_at, simple_at};
 ghost use Rattle.pcal_tree.specs.OffencesStale.{self_at};
 ghost use Rattle.pcal_tree.specs.Paths.{root, roots, some_word};
-ghost use Rattle.pcal_tree.specs.laws.MacroSpots.{other, left_uses, uses_of_all, uses_of_assignments, uses_of_binds};
+ghost use Rattle.pcal_tree.specs.laws.MacroSpots.{other, left_uses, uses_of_assignments, uses_of_binds};
 ghost use Rattle.read_rules.specs.Joins.{Joins};
 ghost use Rattle.read_rules.specs.StepsIn.{AreJumps, jump_words, others_at, simple_uses, simple_roots, simple_stops, DoesSimple};
 ghost use Rattle.read_rules.specs.UsesIn.{uses_of};
@@ -34,10 +33,9 @@ pub struct Jump {
 
 // Uses of a left side.
 fn add_left(list: &mut Vec<Use>, pool: &Pool, e: NodeId) -> Result<(), AllocError>
-    requires { e < length pool.now }
     ensures { OnOk result (uses_of list.new.items ≡ uses_of list.old.items ++ left_uses (at pool.now e)) }
 {
-    let place = pool.node(e).place;
+    let place = pool.place(e);
     add_uses_as(list, pool, Kind::Left, place, e)
 }
 
@@ -47,7 +45,6 @@ fn add_assignments(
     pool: &Pool,
     assignments: &[Assignment],
 ) -> Result<(), AllocError>
-    requires { greatest (map past_assignment assignments.now) ≤ length pool.now }
     ensures { OnOk result (uses_of list.new.items ≡ uses_of list.old.items ++ uses_of_assignments (assignments_at pool.now assignments.now)) }
 {
     for assignment in assignments {
@@ -59,7 +56,6 @@ fn add_assignments(
 
 // Uses of one expression of a `with`.
 fn add_bind(list: &mut Vec<Use>, pool: &Pool, bind: &Bind) -> Result<(), AllocError>
-    requires { past_bind bind.now ≤ length pool.now }
     ensures { OnOk result (uses_of list.new.items ≡ uses_of list.old.items ++ uses_of_binds (binds_at pool.now (bind.now ∷ []))) }
 {
     match bind {
@@ -74,7 +70,6 @@ fn add_bind(list: &mut Vec<Use>, pool: &Pool, bind: &Bind) -> Result<(), AllocEr
 ///
 /// Only for want of memory.
 pub fn add_binds(list: &mut Vec<Use>, pool: &Pool, binds: &[Bind]) -> Result<(), AllocError>
-    requires { greatest (map past_bind binds.now) ≤ length pool.now }
     ensures { OnOk result (uses_of list.new.items ≡ uses_of list.old.items ++ uses_of_binds (binds_at pool.now binds.now)) }
 {
     for bind in binds {
@@ -85,7 +80,6 @@ pub fn add_binds(list: &mut Vec<Use>, pool: &Pool, binds: &[Bind]) -> Result<(),
 
 // The variables of left sides.
 fn add_roots(names: &mut Names, pool: &Pool, assignments: &[Assignment]) -> Result<(), AllocError>
-    requires { greatest (map past_assignment assignments.now) ≤ length pool.now }
     ensures { OnOk result (Joins names.old names.new (roots (assignments_at pool.now assignments.now))) }
 {
     for assignment in assignments {
@@ -96,7 +90,6 @@ fn add_roots(names: &mut Names, pool: &Pool, assignments: &[Assignment]) -> Resu
 
 // That of one.
 fn add_root(names: &mut Names, pool: &Pool, e: NodeId) -> Result<(), AllocError>
-    requires { e < length pool.now }
     ensures { OnOk result (Joins names.old names.new (some_word (root (at pool.now e)))) }
 {
     match root(pool, e)? {
@@ -151,7 +144,6 @@ fn add_simple(
     place: Place,
     simple: &Simple,
 ) -> Result<(), AllocError>
-    requires { past_simple simple.now ≤ length pool.now }
     ensures { OnOk result ((ps : List Procedure) → AreJumps jumps.now ps → uses_of list.new.items ≡ uses_of list.old.items ++ simple_uses ps place (simple_at pool.now simple.now)) }
 {
     match simple {
@@ -185,7 +177,6 @@ fn stops(simple: &Simple) -> bool
 
 // What a statement assigns.
 fn assigned_names(alloc: Global, pool: &Pool, simple: &Simple) -> Result<Names, AllocError>
-    requires { past_simple simple.now ≤ length pool.now }
     ensures { IfOk result (λ r. Joins [] r (simple_roots (simple_at pool.now simple.now))) }
 {
     let mut names = Names::new(alloc);
@@ -208,7 +199,6 @@ pub fn step(
     place: Place,
     simple: &Simple,
 ) -> Result<Step, AllocError>
-    requires { past_simple simple.now ≤ length pool.now }
     ensures { IfOk result (λ r. (ps : List Procedure) → AreJumps jumps.now ps → DoesSimple ps place (simple_at pool.now simple.now) r) }
 {
     let mut uses = Vec::new(alloc);

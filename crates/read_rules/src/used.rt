@@ -1,7 +1,7 @@
 //! The names that expressions use, and do not bind.
 
-ghost use Rattle.std.specs.Prelude.{◌≡◌, ◌<◌, ◌≤◌, ◌&&◌, ◌++◌, not, false, bytes_eq, codes, List, [], length, IfOk, OnOk};
-ghost use Rattle.tla_tree.specs.Tree.{Word, words, seen_names};
+ghost use Rattle.std.specs.Prelude.{◌≡◌, ◌&&◌, ◌++◌, not, false, bytes_eq, codes, [], length, IfOk, OnOk};
+ghost use Rattle.tla_tree.specs.Tree.{words, seen_names};
 ghost use Rattle.tla_tree.specs.Shapes.{Shaped};
 ghost use Rattle.tla_tree.specs.Pool.{at, trees_at, AllBelow};
 ghost use Rattle.tla_pool.specs.FormOf.{form_of};
@@ -71,10 +71,11 @@ impl Used {
     /// Only for want of memory.
     #[cycle(used)]
     pub fn expr(&mut self, pool: &Pool, e: NodeId) -> Result<(), AllocError>
-        requires { e < length pool.now }
         ensures { OnOk result (Adds self.old self.new (used (at pool.now e))) }
     {
-        let node = pool.node(e);
+        let Some(node) = pool.get(e) else {
+            return Ok(());
+        };
         self.form(&node.form, node.place)?;
         let around = self.bound.len();
         self.parts(pool, &node.form, &node.parts, e)?;
@@ -92,13 +93,12 @@ impl Used {
         past: NodeId,
     ) -> Result<(), AllocError>
         requires there { AllBelow past parts.now }
-        requires inside { past ≤ length pool.now }
         requires shaped { Shaped (form_of form.now) (length parts.now) }
         ensures { OnOk result (AddsParts self.old self.new (used_by_parts (seen_names (form_of form.now)) (trees_at pool.now parts.now))) }
     {
         for i in 0..parts.len() {
             self.expr(pool, parts[i])?;
-            if ends_in_literal(pool, parts, i, past) {
+            if ends_in_literal(pool, parts, i) {
                 return Ok(());
             }
             self.bound.add_next(form, i)?;
@@ -108,7 +108,6 @@ impl Used {
 
     // The names of an expression, where these are bound and no other is.
     fn under(&mut self, pool: &Pool, params: &[PlacedName], e: NodeId) -> Result<(), AllocError>
-        requires { e < length pool.now }
         ensures { OnOk result (self.old.only_self ≡ false → self.old.bound ≡ [] → self.new.names.items ≡ self.old.names.items ++ used (at pool.now e) (words params.now)) }
     {
         self.bound.add_all(params)?;
@@ -136,7 +135,6 @@ pub fn used_names(
     params: &[PlacedName],
     e: NodeId,
 ) -> Result<Vec<PlacedName>, AllocError>
-    requires { e < length pool.now }
     ensures { IfOk result (λ r. r.items ≡ used (at pool.now e) (words params.now)) }
 {
     let mut used = Used {
@@ -159,7 +157,6 @@ pub fn used_names(
 ///
 /// Only for want of memory.
 pub fn free_names(alloc: Global, pool: &Pool, e: NodeId) -> Result<Vec<PlacedName>, AllocError>
-    requires { e < length pool.now }
     ensures { IfOk result (λ r. r.items ≡ used (at pool.now e) []) }
 {
     used_names(alloc, pool, &[], e)

@@ -1,8 +1,7 @@
 //! Uses of names in expressions.
 
-ghost use Rattle.std.specs.Prelude.{◌≡◌, ◌<◌, ◌≤◌, [], ◌∷◌, ◌++◌, length, IfOk, OnOk};
+ghost use Rattle.std.specs.Prelude.{◌≡◌, [], ◌∷◌, ◌++◌, OnOk};
 ghost use Rattle.tla_tree.specs.Pool.{at, trees_at, AllBelow};
-ghost use Rattle.pcal_tree.specs.InMemory.{past_numbers};
 ghost use Rattle.pcal_tree.specs.Reads.{named};
 ghost use Rattle.pcal_tree.specs.laws.MacroSpots.{uses, uses_of_all};
 ghost use Rattle.read_rules.specs.UsesIn.{of_kind, uses_of, uses_as};
@@ -57,10 +56,9 @@ pub fn add_use(list: &mut Vec<Use>, kind: Kind, name: &Name, place: Place) -> Re
 /// Only for want of memory.
 #[cycle(uses)]
 pub fn add_uses(list: &mut Vec<Use>, pool: &Pool, e: NodeId) -> Result<(), AllocError>
-    requires { e < length pool.now }
     ensures { OnOk result (uses_of list.new.items ≡ uses_of list.old.items ++ uses (at pool.now e)) }
 {
-    let place = pool.node(e).place;
+    let place = pool.place(e);
     add_uses_as(list, pool, Kind::Value, place, e)
 }
 
@@ -77,10 +75,11 @@ pub fn add_uses_as(
     place: Place,
     e: NodeId,
 ) -> Result<(), AllocError>
-    requires { e < length pool.now }
     ensures { OnOk result (uses_of list.new.items ≡ uses_of list.old.items ++ uses_as kind place (at pool.now e)) }
 {
-    let node = pool.node(e);
+    let Some(node) = pool.get(e) else {
+        return Ok(());
+    };
     match &node.form {
         Form::Name(name) => add_use(list, kind, name, place),
         Form::Call(name) => {
@@ -99,8 +98,7 @@ fn add_parts(
     parts: &[NodeId],
     past: NodeId,
 ) -> Result<(), AllocError>
-    requires there { AllBelow past parts.now }
-    requires inside { past ≤ length pool.now }
+    requires { AllBelow past parts.now }
     ensures { OnOk result (uses_of list.new.items ≡ uses_of list.old.items ++ uses_of_all (trees_at pool.now parts.now)) }
 {
     for i in 0..parts.len() {
@@ -114,10 +112,11 @@ fn add_parts(
 /// # Errors
 ///
 /// Only for want of memory.
-#[tactic(auto, using(pcal_tree::proofs::InMemoryEach::past_all_below))]
 pub fn add_all_uses(list: &mut Vec<Use>, pool: &Pool, es: &[NodeId]) -> Result<(), AllocError>
-    requires { past_numbers es.now ≤ length pool.now }
     ensures { OnOk result (uses_of list.new.items ≡ uses_of list.old.items ++ uses_of_all (trees_at pool.now es.now)) }
 {
-    add_parts(list, pool, es, pool.len())
+    for i in 0..es.len() {
+        add_uses(list, pool, es[i])?;
+    }
+    Ok(())
 }

@@ -1,9 +1,8 @@
 //! What is seen on paths through statements, and where they end.
 
-ghost use Rattle.std.specs.Prelude.{◌≡◌, ◌≤◌, [], Some, cond, length, IfOk, OnOk};
+ghost use Rattle.std.specs.Prelude.{◌≡◌, [], Some, cond, IfOk, OnOk};
 ghost use Rattle.std.specs.List.{flat_map};
 ghost use Rattle.tla_tree.specs.Pool.{trees_at};
-ghost use Rattle.pcal_tree.specs.InMemory.{past_numbers};
 ghost use Rattle.pcal_tree.specs.laws.MacroSpots.{Called, Trail, before_on, put_called, put_seen, put_trail, on_trail};
 ghost use Rattle.pcal_tree.specs.Paths.{again};
 ghost use Rattle.pcal_tree.proofs.SpotCalls.{LikeTrail, SeenLike};
@@ -70,7 +69,6 @@ fn put_path(
     before: &Option<Assigned>,
     path: &Option<Assigned>,
 ) -> Result<Option<Assigned>, AllocError>
-    requires { past_numbers args.now ≤ length pool.now }
     ensures { IfOk result (λ r. LikeTrail (trail_of r) (put_trail (putting params.now (trees_at pool.now args.now) (before_on (trail_of before.now))) (trail_of path.now))) }
 {
     match path {
@@ -108,7 +106,6 @@ fn put_group(
     before: &Option<Assigned>,
     group: &Group,
 ) -> Result<Group, AllocError>
-    requires { past_numbers args.now ≤ length pool.now }
     ensures { IfOk result (λ g. SeenLike (group_seen g) (flat_map (put_seen (putting params.now (trees_at pool.now args.now) (before_on (trail_of before.now)))) (group_seen group.now))) }
 {
     let mut uses = Vec::new(alloc);
@@ -129,7 +126,6 @@ fn add_groups(
     groups: &[Group],
     alloc: Global,
 ) -> Result<(), AllocError>
-    requires { past_numbers args.now ≤ length pool.now }
     ensures { OnOk result (Gains seen.old.items seen.new.items (flat_map (put_seen (putting params.now (trees_at pool.now args.now) (before_on (trail_of before.now)))) (seen_of groups.now))) }
 {
     for group in groups {
@@ -260,7 +256,6 @@ impl Walk {
         args: &[NodeId],
         way: &Walk,
     ) -> Result<(), AllocError>
-        requires { past_numbers args.now ≤ length pool.now }
         ensures { OnOk result ((c : Called) → IsWay way.now c → Walks self.old self.new (λ z. put_called (putting params.now (trees_at pool.now args.now) (before_on z.trail)) c)) }
     {
         add_groups(
@@ -290,7 +285,6 @@ impl Walk {
         args: &[NodeId],
         ways: &Ways,
     ) -> Result<(), AllocError>
-        requires { past_numbers args.now ≤ length pool.now }
         ensures { OnOk result ((u r : Called) → IsWay ways.now.unreached u → IsWay ways.now.reached r → Walks self.old self.new (λ z. put_called (putting params.now (trees_at pool.now args.now) (before_on z.trail)) (way u r z.trail))) }
     {
         if self.path.is_some() {

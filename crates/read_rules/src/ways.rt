@@ -4,8 +4,7 @@ ghost use Rattle.std.specs.Prelude.{◌≡◌, false, None, Some, [], ◌∷◌,
 ghost use Rattle.pcal_tree.specs.laws.MacroSpots.{earlier, Called, Trail, unlabelled, at_label, starting};
 ghost use Rattle.pcal_tree.proofs.SpotCalls.{Like};
 ghost use Rattle.read_rules.specs.BodiesIn.{no_paths};
-ghost use Rattle.read_rules.specs.SeenIn.{seen_of, at_of, IsLoop, stepping, looping};
-ghost use Rattle.read_rules.specs.Sets.{trail_of};
+ghost use Rattle.read_rules.specs.SeenIn.{at_of, IsLoop, stepping, looping};
 ghost use Rattle.read_rules.specs.UsesIn.{uses_of};
 ghost use Rattle.read_rules.specs.WaysIn.{Goes, Begins, Restarts, Ends, Joined, JoinsEnd};
 

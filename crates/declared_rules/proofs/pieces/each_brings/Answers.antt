@@ -1,18 +1,10 @@
 -- Proves that what each tree brings is gathered.
-use Rattle.std.proofs.Common.{List, [], ◌∷◌, ◌++◌, slice_index_or, arith, ap, ◌∙◌}
+use Rattle.std.proofs.Common.{List, [], ◌∷◌, ◌++◌, slice_index_or, ap, ◌∙◌}
 use Rattle.std.proofs.lemmas.List.{get_or_default, map-append}
-use Rattle.tla_tree.proofs.PoolNumbers.{past_at}
-use Rattle.pcal_tree.specs.InMemory.{past_number}
 use Rattle.pcal_tree.specs.OffencesRebind.{Piece}
 use Rattle.declared_rules.specs.Gathering.{list_of, lists_of}
 use Rattle.declared_rules.proofs.PieceLaws.{each_then}
 use Rattle.declared_rules.proofs.pieces.each_brings.Goals as goal
-
-pub pieces_of-requires : goal.pieces_of-requires
-pieces_of-requires c =
-    let e = slice_index_or c.args.es.now c.loop-i.i 0 in
-    let less = past_at past_number c.args.es.now c.loop-i.i e (get_or_default c.args.es.now c.loop-i.i 0 e c.loop-i-test.true) c.loop-i-test.true in
-    omega (arith, less, c.requires)
 
 pub loop-i-preserved : goal.loop-i-preserved
 loop-i-preserved c =

@@ -1,19 +1,13 @@
 -- Proves that the first offence of processes is found.
-use Rattle.std.proofs.Common.{List, None, arith, ap, ◌∙◌}
+use Rattle.std.proofs.Common.{List, None, ap, ◌∙◌}
 use Rattle.std.specs.List.{flat_map}
-use Rattle.tla_tree.proofs.PoolNumbers.{past_at}
 use Rattle.pcal_tree.specs.Algorithm.{Name}
-use Rattle.pcal_tree.specs.InMemory.{process_at, past_process}
+use Rattle.pcal_tree.specs.InMemory.{process_at}
 use Rattle.pcal_tree.specs.Offences.{first}
 use Rattle.algorithm_answer.specs.Joined.{joined}
 use Rattle.read_rules.specs.EarlyReads.{offending_name, offending_process}
 use Rattle.read_rules.proofs.FoundLaws.{found_more, found_all, flat_mapped}
 use Rattle.read_rules.proofs.identities.of_processes.Goals as goal
-
-pub free_names-requires : goal.free_names-requires
-free_names-requires c =
-    let less = past_at past_process c.args.processes.now c.loop-process.process-index c.process-item.result c.process-item.is c.loop-process-test.true in
-    omega (arith, less, c.requires)
 
 pub loop-process-preserved : goal.loop-process-preserved
 loop-process-preserved c = λ gs ls n h.

@@ -1,23 +1,17 @@
 -- Proves that each definition gets its level.
-use Rattle.std.proofs.Common.{◌+◌, List, take, reverse, sym, subst, arith}
+use Rattle.std.proofs.Common.{◌+◌, List, take, reverse, sym, subst}
 use Rattle.std.proofs.lemmas.List.{take_all}
 use Rattle.tla_tree.specs.Tree.{words}
 use Rattle.tla_tree.specs.Pool.{at}
-use Rattle.tla_tree.proofs.PoolNumbers.{past_at}
 use Rattle.pcal_tree.specs.declared.algorithm.Definition.{Definition}
 use Rattle.pcal_tree.specs.Algorithm as tree
-use Rattle.pcal_tree.specs.InMemory.{definitions_at, past_definition}
+use Rattle.pcal_tree.specs.InMemory.{definitions_at}
 use Rattle.pcal_tree.specs.Reads.{used}
 use Rattle.algorithm_limits.specs.Numbers.{Numbers, with_number}
 use Rattle.read_rules.specs.Levels.{furthest, levels}
 use Rattle.read_rules.specs.NumbersIn.{AreLevels}
 use Rattle.read_rules.proofs.NumberLaws.{levels_more, newest_first}
 use Rattle.read_rules.proofs.levels.levels.Goals as goal
-
-pub add_level-requires : goal.add_level-requires
-add_level-requires c =
-    let less = past_at past_definition c.args.definitions.now c.loop-definition.definition-index c.definition-item.result c.definition-item.is c.loop-definition-test.true in
-    omega (arith, less, c.requires)
 
 pub loop-definition-preserved : goal.loop-definition-preserved
 loop-definition-preserved c gs n =

@@ -1,17 +1,11 @@
 -- Proves that the first offence of procedures is found.
-use Rattle.std.proofs.Common.{arith}
-use Rattle.tla_tree.proofs.PoolNumbers.{past_at}
-use Rattle.pcal_tree.specs.InMemory.{procedure_at, past_procedure}
+use Rattle.pcal_tree.specs.InMemory.{procedure_at}
 use Rattle.read_rules.specs.Locals.{procedure_list}
 use Rattle.read_rules.proofs.LocalLaws.{locals_start, locals_more, locals_all}
 use Rattle.read_rules.proofs.locals.with_procedures.Goals as goal
 
 pub loop-procedure-init : goal.loop-procedure-init
 loop-procedure-init c = locals_start (λ p. procedure_list (procedure_at c.args.pool.now p)) c.args.known.now c.args.so_far c.args.procedures.now
-
-pub with_procedure-requires : goal.with_procedure-requires
-with_procedure-requires c =
-    let less = past_at past_procedure c.args.procedures.now c.loop-procedure.procedure-index c.procedure-item.result c.procedure-item.is c.loop-procedure-test.true in omega (arith, less, c.requires)
 
 pub loop-procedure-preserved : goal.loop-procedure-preserved
 loop-procedure-preserved c =

@@ -1,17 +1,11 @@
 -- Proves that the first offence of processes is found.
-use Rattle.std.proofs.Common.{arith}
-use Rattle.tla_tree.proofs.PoolNumbers.{past_at}
-use Rattle.pcal_tree.specs.InMemory.{process_at, past_process}
+use Rattle.pcal_tree.specs.InMemory.{process_at}
 use Rattle.read_rules.specs.Locals.{process_list}
 use Rattle.read_rules.proofs.LocalLaws.{locals_start, locals_more, locals_all}
 use Rattle.read_rules.proofs.locals.with_processes.Goals as goal
 
 pub loop-process-init : goal.loop-process-init
 loop-process-init c = locals_start (λ p. process_list (process_at c.args.pool.now p)) c.args.known.now c.args.so_far c.args.processes.now
-
-pub with_process-requires : goal.with_process-requires
-with_process-requires c =
-    let less = past_at past_process c.args.processes.now c.loop-process.process-index c.process-item.result c.process-item.is c.loop-process-test.true in omega (arith, less, c.requires)
 
 pub loop-process-preserved : goal.loop-process-preserved
 loop-process-preserved c =

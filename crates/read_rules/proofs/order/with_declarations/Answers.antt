@@ -1,8 +1,7 @@
 -- Proves that the first offence of declarations is found.
-use Rattle.std.proofs.Common.{◌≤◌, ◌∷◌, [], length, arith, refl, sym, ap, ◌∙◌, subst}
-use Rattle.tla_tree.proofs.PoolNumbers.{past_at}
+use Rattle.std.proofs.Common.{◌∷◌, [], refl, ap, ◌∙◌, subst}
 use Rattle.pcal_tree.specs.declared.algorithm.Declaration.{Declaration}
-use Rattle.pcal_tree.specs.InMemory.{start_at, past_start, past_declaration}
+use Rattle.pcal_tree.specs.InMemory.{start_at}
 use Rattle.pcal_tree.specs.Offences.{first}
 use Rattle.algorithm_answer.specs.Joined.{joined}
 use Rattle.read_rules.specs.EarlyReads.{early_in_start}
@@ -12,11 +11,6 @@ use Rattle.read_rules.proofs.order.with_declarations.Goals as goal
 
 pub loop-i-init : goal.loop-i-init
 loop-i-init c = early_start c.args.known.now c.args.so_far c.args.pool.now c.args.list.now
-
-pub with_start-requires : goal.with_start-requires
-with_start-requires c =
-    let less = past_at past_declaration c.args.list.now c.loop-i.i c.index-list-i.result c.index-list-i.is c.loop-i-test.true in
-    subst (λ (e : Declaration). past_start e.start ≤ length c.args.pool.now) (sym c.declaration.view_is) (omega (arith, less, c.requires))
 
 pub loop-i-preserved : goal.loop-i-preserved
 loop-i-preserved c =

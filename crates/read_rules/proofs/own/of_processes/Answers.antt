@@ -1,16 +1,10 @@
 -- Proves that the first offence of processes is found.
-use Rattle.std.proofs.Common.{None, arith, ap, ◌∙◌}
-use Rattle.tla_tree.proofs.PoolNumbers.{past_at}
-use Rattle.pcal_tree.specs.InMemory.{process_at, past_process}
+use Rattle.std.proofs.Common.{None, ap, ◌∙◌}
+use Rattle.pcal_tree.specs.InMemory.{process_at}
 use Rattle.pcal_tree.specs.Offences.{first}
 use Rattle.pcal_tree.specs.OffencesReads.{own_in_sets}
 use Rattle.read_rules.proofs.FoundLaws.{found_more, found_all, flat_mapped}
 use Rattle.read_rules.proofs.own.of_processes.Goals as goal
-
-pub with_process-requires : goal.with_process-requires
-with_process-requires c =
-    let less = past_at past_process c.args.processes.now c.loop-process.process-index c.process-item.result c.process-item.is c.loop-process-test.true in
-    omega (arith, less, c.requires)
 
 pub loop-process-preserved : goal.loop-process-preserved
 loop-process-preserved c =

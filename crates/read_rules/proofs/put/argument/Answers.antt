@@ -2,20 +2,12 @@
 use Rattle.std.proofs.Common.{slice_index_or, sym, ap, ◌∙◌, bytes_eq}
 use Rattle.std.proofs.lemmas.List.{get_or_default}
 use Rattle.tla_tree.specs.Tree.{Name}
-use Rattle.tla_tree.proofs.PoolNumbers.{past_at}
-use Rattle.pcal_tree.specs.InMemory.{past_number}
 use Rattle.read_rules.proofs.PutLaws.{argument_none, argument_passed}
 use Rattle.read_rules.proofs.put.argument.Goals as goal
 
-pub returns-then-i-args-clause-value : goal.returns-then-i-args-clause-value
-returns-then-i-args-clause-value c ts =
+pub returns-then-i-args : goal.returns-then-i-args
+returns-then-i-args c ts =
     argument_none ts c.args.params.now c.args.args.now c.args.name.now c.loop-i.i c.if-i-args.true ∙ c.loop-i.invariant ts
-
-pub returns-then-same-clause-within : goal.returns-then-same-clause-within
-returns-then-same-clause-within c =
-    let e = slice_index_or c.args.args.now c.loop-i.i 0 in
-    let less = c.if-i-args.false in
-    past_at past_number c.args.args.now c.loop-i.i e (get_or_default c.args.args.now c.loop-i.i 0 e less) less
 
 pub loop-i-preserved : goal.loop-i-preserved
 loop-i-preserved c ts =

@@ -8,4 +8,4 @@ use Rattle.read_rules.proofs.put.put_name.Goals as goal
 
 pub returns-in-None : goal.returns-in-None
 returns-in-None c =
-    subst (λ (xs : List Word). OnOk c.add.result (Joins c.args.names.now c.add.new.self xs)) (ap (λ (o : Option Tree). some_word (variable_of o c.args.name.now)) (c.in-None.ensures.value c.args.pool.now)) c.add.ensures
+    subst (λ (xs : List Word). OnOk c.add.result (Joins c.args.names.now c.add.new.self xs)) (ap (λ (o : Option Tree). some_word (variable_of o c.args.name.now)) (c.in-None.ensures c.args.pool.now)) c.add.ensures

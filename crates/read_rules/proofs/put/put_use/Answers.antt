@@ -14,5 +14,5 @@ returns-in-None c =
     let ts = trees_at c.args.pool.now c.args.args.now in
     subst (λ (us : List spots.Use). OnOk c.add_use.result (uses_of c.add_use.new.list.items ≡ uses_of c.args.list.now.items ++ us))
     (ap (λ (n : Name). of_kind c.args.one.now.kind n ∷ []) c.name.view_is
-    ∙ sym (kept_use ps ts c.args.one.now (ap (λ (n : Name). argument ps ts n.word) (sym c.name.view_is) ∙ sym (c.in-None.ensures.value c.args.pool.now))))
+    ∙ sym (kept_use ps ts c.args.one.now (ap (λ (n : Name). argument ps ts n.word) (sym c.name.view_is) ∙ sym (c.in-None.ensures c.args.pool.now))))
     c.add_use.ensures

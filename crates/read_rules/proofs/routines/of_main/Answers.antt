@@ -1,12 +1,11 @@
 -- Proves that the first offence of what runs is found.
-use Rattle.std.proofs.Common.{◌≡◌, ◌≤◌, List, [], length, map, sym, subst, IfOk}
+use Rattle.std.proofs.Common.{◌≡◌, List, [], map, sym, subst, IfOk}
 use Rattle.std.specs.List.{flat_map}
-use Rattle.tla_tree.specs.Nesting.{greatest}
 use Rattle.pcal_tree.specs.declared.algorithm.Main.{Main}
 use Rattle.pcal_tree.specs.declared.algorithm.Process.{Process}
 use Rattle.pcal_tree.specs.declared.algorithm.Stmt.{Stmt}
 use Rattle.pcal_tree.specs.Algorithm.{Procedure}
-use Rattle.pcal_tree.specs.InMemory.{statements_at, process_at, main_at, past_statements, past_process, past_main}
+use Rattle.pcal_tree.specs.InMemory.{statements_at, process_at, main_at}
 use Rattle.pcal_tree.specs.Offences.{first}
 use Rattle.pcal_tree.specs.OffencesStale.{stale_at, stale_in_process, stale_in_main}
 use Rattle.pcal_tree.specs.Reads.{Reading}
@@ -15,15 +14,6 @@ use Rattle.read_rules.specs.KnownIn.{Knows}
 use Rattle.read_rules.specs.ReadsIn.{AreReads}
 use Rattle.read_rules.specs.RefusalsIn.{looking}
 use Rattle.read_rules.proofs.routines.of_main.Goals as goal
-
-pub with_body-requires : goal.with_body-requires
-with_body-requires c =
-    subst (λ (ss : List Stmt). past_statements ss ≤ length c.args.pool.now) (sym c.deref.ensures.value) (subst (λ (m : Main). past_main m ≤ length c.args.pool.now) c.in-Alone.is c.requires)
-
-pub of_processes-requires : goal.of_processes-requires
-of_processes-requires c =
-    subst (λ (qs : List Process). greatest (map past_process qs) ≤ length c.args.pool.now) (sym c.deref-in-Processes.ensures.value)
-    (subst (λ (m : Main). past_main m ≤ length c.args.pool.now) c.in-Processes.is c.requires)
 
 pub returns-in-Alone : goal.returns-in-Alone
 returns-in-Alone c =

@@ -1,21 +1,14 @@
 -- Proves that the first offence of procedures is found.
-use Rattle.std.proofs.Common.{List, [], None, arith, ap, ◌∙◌}
+use Rattle.std.proofs.Common.{List, [], None, ap, ◌∙◌}
 use Rattle.std.specs.List.{flat_map}
-use Rattle.tla_tree.proofs.PoolNumbers.{past_at}
 use Rattle.pcal_tree.specs.declared.algorithm.Stmt.{Stmt}
-use Rattle.pcal_tree.specs.InMemory.{statements_at, procedure_at, past_statements, past_procedure}
+use Rattle.pcal_tree.specs.InMemory.{statements_at, procedure_at}
 use Rattle.pcal_tree.specs.Offences.{first}
 use Rattle.pcal_tree.specs.OffencesStale.{stale_at, stale_in_procedure}
 use Rattle.algorithm_answer.specs.Joined.{joined}
 use Rattle.read_rules.proofs.FoundLaws.{found_more, found_all, flat_mapped}
 use Rattle.read_rules.specs.RefusalsIn.{looking}
 use Rattle.read_rules.proofs.routines.of_procedures.Goals as goal
-
-pub with_body-requires : goal.with_body-requires
-with_body-requires c =
-    let less = past_at past_procedure c.args.procedures.now c.loop-procedure.procedure-index c.procedure-item.result c.procedure-item.is c.loop-procedure-test.true in
-    let same = ap past_statements c.deref.ensures.value in
-    omega (arith, less, same, c.requires)
 
 pub loop-procedure-preserved : goal.loop-procedure-preserved
 loop-procedure-preserved c = λ ms ps ds k r.

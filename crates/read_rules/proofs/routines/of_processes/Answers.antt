@@ -1,27 +1,15 @@
 -- Proves that the first offence of processes is found.
-use Rattle.std.proofs.Common.{List, [], None, arith, ap, ◌∙◌}
+use Rattle.std.proofs.Common.{List, [], None, ap, ◌∙◌}
 use Rattle.std.specs.List.{flat_map}
-use Rattle.tla_tree.proofs.PoolNumbers.{past_at}
 use Rattle.pcal_tree.specs.declared.algorithm.Stmt.{Stmt}
 use Rattle.pcal_tree.specs.Algorithm.{Name}
-use Rattle.pcal_tree.specs.InMemory.{statements_at, process_at, past_statements, past_process}
+use Rattle.pcal_tree.specs.InMemory.{statements_at, process_at}
 use Rattle.pcal_tree.specs.Offences.{first}
 use Rattle.pcal_tree.specs.OffencesStale.{stale_at, stale_in_process}
 use Rattle.algorithm_answer.specs.Joined.{joined}
 use Rattle.read_rules.proofs.FoundLaws.{found_more, found_all, flat_mapped}
 use Rattle.read_rules.specs.RefusalsIn.{looking}
 use Rattle.read_rules.proofs.routines.of_processes.Goals as goal
-
-pub identity_names-requires : goal.identity_names-requires
-identity_names-requires c =
-    let less = past_at past_process c.args.processes.now c.loop-process.process-index c.process-item.result c.process-item.is c.loop-process-test.true in
-    omega (arith, less, c.requires)
-
-pub with_body-requires : goal.with_body-requires
-with_body-requires c =
-    let less = past_at past_process c.args.processes.now c.loop-process.process-index c.process-item.result c.process-item.is c.loop-process-test.true in
-    let same = ap past_statements c.deref-in-loop-process.ensures.value in
-    omega (arith, less, same, c.requires)
 
 pub loop-process-preserved : goal.loop-process-preserved
 loop-process-preserved c = λ ms ps ds k r.

@@ -1,10 +1,9 @@
 -- Proves that the first offence of definitions is found.
-use Rattle.std.proofs.Common.{List, arith, ap, ◌∙◌}
+use Rattle.std.proofs.Common.{List, ap, ◌∙◌}
 use Rattle.tla_tree.specs.Tree.{words}
 use Rattle.tla_tree.specs.Pool.{at}
-use Rattle.tla_tree.proofs.PoolNumbers.{past_at}
 use Rattle.pcal_tree.specs.Algorithm.{Name}
-use Rattle.pcal_tree.specs.InMemory.{definition_at, past_definition}
+use Rattle.pcal_tree.specs.InMemory.{definition_at}
 use Rattle.pcal_tree.specs.Offences.{first}
 use Rattle.pcal_tree.specs.OffencesSelf.{selves}
 use Rattle.pcal_tree.specs.Reads.{used}
@@ -12,10 +11,6 @@ use Rattle.algorithm_answer.specs.Joined.{joined}
 use Rattle.read_rules.proofs.FoundLaws.{found_more}
 use Rattle.read_rules.proofs.SelfLaws.{used_by_definition, selves_all}
 use Rattle.read_rules.proofs.selves.with_definitions.Goals as goal
-
-pub used_names-requires : goal.used_names-requires
-used_names-requires c =
-    let less = past_at past_definition c.args.list.now c.loop-i.i c.index-list-i.result c.index-list-i.is c.loop-i-test.true in omega (arith, less, c.requires)
 
 pub loop-i-preserved : goal.loop-i-preserved
 loop-i-preserved c =

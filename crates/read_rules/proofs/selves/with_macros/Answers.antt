@@ -1,11 +1,10 @@
 -- Proves that the first offence of the macros that are reached is found.
-use Rattle.std.proofs.Common.{◌≤◌, ◌<◌, ◌+◌, ◌-◌, ℕ, List, Option, length, arith, sym, ap, ◌∙◌, subst}
+use Rattle.std.proofs.Common.{◌≤◌, ◌<◌, ◌+◌, ℕ, List, Option, sym, ap, ◌∙◌, subst}
 use Rattle.tla_tree.specs.Tree.{Word}
-use Rattle.tla_tree.proofs.PoolNumbers.{past_at}
 use Rattle.tla_token.specs.declared.rule.Refusal.{Refusal}
 use Rattle.pcal_tree.specs.declared.algorithm.Macro.{Macro}
 use Rattle.pcal_tree.specs.declared.algorithm.Stmt.{Stmt}
-use Rattle.pcal_tree.specs.InMemory.{statements_at, past_macro, past_statements}
+use Rattle.pcal_tree.specs.InMemory.{statements_at}
 use Rattle.pcal_tree.specs.Offences.{first}
 use Rattle.pcal_tree.specs.OffencesCounts.{calls_of}
 use Rattle.pcal_tree.specs.OffencesSelf.{selves}
@@ -19,12 +18,6 @@ use Rattle.read_rules.proofs.selves.with_macros.Goals as goal
 
 pub loop-i-init : goal.loop-i-init
 loop-i-init c = λ calls h. reaches_start c.args.pool.now c.args.macros.now calls c.args.so_far c.args.called.now h
-
-pub with_body-requires : goal.with_body-requires
-with_body-requires c =
-    let ms = c.args.macros.now in
-    let less = past_at past_macro ms (length ms - 1 - c.loop-i.i) c.index-macros-macros.result c.index-macros-macros.is (omega (arith, c.loop-i-test.true)) in
-    subst (λ (ss : List Stmt). past_statements ss ≤ length c.args.pool.now) (sym (c.deref-then-get-gt0.ensures.value ∙ ap (λ (e : Macro). e.body.items) c.one.view_is)) (omega (arith, less, c.requires))
 
 pub loop-i-preserved : goal.loop-i-preserved
 loop-i-preserved c = λ calls h.

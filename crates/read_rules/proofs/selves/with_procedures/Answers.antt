@@ -1,15 +1,9 @@
 -- Proves that the first offence of procedures is found.
-use Rattle.std.proofs.Common.{arith}
-use Rattle.tla_tree.proofs.PoolNumbers.{past_at}
-use Rattle.pcal_tree.specs.InMemory.{procedure_at, past_procedure}
+use Rattle.pcal_tree.specs.InMemory.{procedure_at}
 use Rattle.pcal_tree.specs.OffencesSelf.{selves, used_by_procedure}
 use Rattle.read_rules.proofs.FoundLaws.{found_more}
 use Rattle.read_rules.proofs.SelfLaws.{selves_all}
 use Rattle.read_rules.proofs.selves.with_procedures.Goals as goal
-
-pub with_procedure-requires : goal.with_procedure-requires
-with_procedure-requires c =
-    let less = past_at past_procedure c.args.procedures.now c.loop-procedure.procedure-index c.procedure-item.result c.procedure-item.is c.loop-procedure-test.true in omega (arith, less, c.requires)
 
 pub loop-procedure-preserved : goal.loop-procedure-preserved
 loop-procedure-preserved c =

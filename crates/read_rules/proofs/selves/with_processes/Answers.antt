@@ -1,15 +1,9 @@
 -- Proves that the first offence of identifiers is found.
-use Rattle.std.proofs.Common.{arith}
-use Rattle.tla_tree.proofs.PoolNumbers.{past_at}
-use Rattle.pcal_tree.specs.InMemory.{process_at, past_process}
+use Rattle.pcal_tree.specs.InMemory.{process_at}
 use Rattle.pcal_tree.specs.OffencesSelf.{selves}
 use Rattle.read_rules.proofs.FoundLaws.{found_more}
 use Rattle.read_rules.proofs.SelfLaws.{used_by_identity, selves_all}
 use Rattle.read_rules.proofs.selves.with_processes.Goals as goal
-
-pub with_tree-requires : goal.with_tree-requires
-with_tree-requires c =
-    let less = past_at past_process c.args.processes.now c.loop-process.process-index c.process-item.result c.process-item.is c.loop-process-test.true in omega (arith, less, c.requires)
 
 pub loop-process-preserved : goal.loop-process-preserved
 loop-process-preserved c =

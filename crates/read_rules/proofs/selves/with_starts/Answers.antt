@@ -1,15 +1,9 @@
 -- Proves that the first offence of declarations is found.
-use Rattle.std.proofs.Common.{arith}
-use Rattle.tla_tree.proofs.PoolNumbers.{past_at}
-use Rattle.pcal_tree.specs.InMemory.{declaration_at, past_declaration}
+use Rattle.pcal_tree.specs.InMemory.{declaration_at}
 use Rattle.pcal_tree.specs.OffencesSelf.{selves}
 use Rattle.read_rules.proofs.FoundLaws.{found_more}
 use Rattle.read_rules.proofs.SelfLaws.{used_by_start, selves_all}
 use Rattle.read_rules.proofs.selves.with_starts.Goals as goal
-
-pub with_start-requires : goal.with_start-requires
-with_start-requires c =
-    let less = past_at past_declaration c.args.list.now c.loop-i.i c.index-list-i.result c.index-list-i.is c.loop-i-test.true in omega (arith, less, c.requires)
 
 pub loop-i-preserved : goal.loop-i-preserved
 loop-i-preserved c =

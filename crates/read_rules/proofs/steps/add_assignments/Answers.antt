@@ -1,27 +1,13 @@
 -- Proves what left and right sides use.
-use Rattle.std.proofs.Common.{◌∙◌, slice_index_or, arith}
+use Rattle.std.proofs.Common.{◌∙◌, slice_index_or}
 use Rattle.std.proofs.lemmas.List.{get_or_default}
-use Rattle.tla_tree.proofs.PoolNumbers.{past_at}
 use Rattle.pcal_tree.specs.declared.algorithm.Assignment.{Assignment}
-use Rattle.pcal_tree.specs.InMemory.{past_assignment}
 use Rattle.read_rules.specs.UsesIn.{uses_of}
 use Rattle.read_rules.proofs.StepLaws.{assigned_then, assigned_done}
 use Rattle.read_rules.proofs.steps.add_assignments.Goals as goal
 
 abbrev none : Assignment
 none = record { left = 0; right = 0 }
-
-pub add_left-requires : goal.add_left-requires
-add_left-requires c =
-    let i = c.loop-assignment.assignment-index in
-    let m = slice_index_or c.args.assignments.now i none in
-    let less = past_at past_assignment c.args.assignments.now i m (get_or_default c.args.assignments.now i none m c.loop-assignment-test.true) c.loop-assignment-test.true in omega (arith, less, c.requires)
-
-pub add_uses-requires : goal.add_uses-requires
-add_uses-requires c =
-    let i = c.loop-assignment.assignment-index in
-    let m = slice_index_or c.args.assignments.now i none in
-    let less = past_at past_assignment c.args.assignments.now i m (get_or_default c.args.assignments.now i none m c.loop-assignment-test.true) c.loop-assignment-test.true in omega (arith, less, c.requires)
 
 pub loop-assignment-preserved : goal.loop-assignment-preserved
 loop-assignment-preserved c =

@@ -1,9 +1,7 @@
 -- Proves which variables left sides have.
-use Rattle.std.proofs.Common.{slice_index_or, arith}
+use Rattle.std.proofs.Common.{slice_index_or}
 use Rattle.std.proofs.lemmas.List.{get_or_default}
-use Rattle.tla_tree.proofs.PoolNumbers.{past_at}
 use Rattle.pcal_tree.specs.declared.algorithm.Assignment.{Assignment}
-use Rattle.pcal_tree.specs.InMemory.{past_assignment}
 use Rattle.read_rules.proofs.StepLaws.{roots_then, roots_done}
 use Rattle.read_rules.proofs.steps.add_roots.Goals as goal
 
@@ -12,12 +10,6 @@ none = record { left = 0; right = 0 }
 
 pub loop-assignment-init : goal.loop-assignment-init
 loop-assignment-init c = λ k g. g
-
-pub add_root-requires : goal.add_root-requires
-add_root-requires c =
-    let i = c.loop-assignment.assignment-index in
-    let m = slice_index_or c.args.assignments.now i none in
-    let less = past_at past_assignment c.args.assignments.now i m (get_or_default c.args.assignments.now i none m c.loop-assignment-test.true) c.loop-assignment-test.true in omega (arith, less, c.requires)
 
 pub loop-assignment-preserved : goal.loop-assignment-preserved
 loop-assignment-preserved c = λ k g.

@@ -8,8 +8,8 @@ use Rattle.read_rules.proofs.uses.+uses.Goals as goal
 
 pub add_parts-add_uses-requires : goal.add_parts-add_uses-requires
 add_parts-add_uses-requires t c =
-    let below = AllBelow-at c.args.past c.args.parts.now c.loop-i.i 0 c.requires.there c.loop-i-test.true in
-    (omega (arith, below, c.decreases), omega (arith, below, c.requires.inside))
+    let below = AllBelow-at c.args.past c.args.parts.now c.loop-i.i 0 c.requires c.loop-i-test.true in
+    omega (arith, below, c.decreases)
 
 pub add_parts-loop-i-preserved : goal.add_parts-loop-i-preserved
 add_parts-loop-i-preserved t c =

@@ -1,10 +1,8 @@
 -- Proves that left and right sides are looked at.
-use Rattle.std.proofs.Common.{slice_index_or, arith}
+use Rattle.std.proofs.Common.{slice_index_or}
 use Rattle.std.proofs.lemmas.List.{get_or_default}
 use Rattle.tla_tree.specs.Pool.{at}
-use Rattle.tla_tree.proofs.PoolNumbers.{past_at}
 use Rattle.pcal_tree.specs.declared.algorithm.Assignment.{Assignment}
-use Rattle.pcal_tree.specs.InMemory.{past_assignment}
 use Rattle.pcal_tree.specs.OffencesRebind.{any_name, whole_rebinds}
 use Rattle.declared_rules.proofs.TellLaws.{adds_as, adds_then, list_then, list_done}
 use Rattle.declared_rules.proofs.BindBodyLaws.{assigned, each_assigned}
@@ -15,18 +13,6 @@ none = record { left = 0; right = 0 }
 
 pub loop-assignment-init : goal.loop-assignment-init
 loop-assignment-init c = λ k g. g
-
-pub expr-requires : goal.expr-requires
-expr-requires c =
-    let i = c.loop-assignment.assignment-index in
-    let m = slice_index_or c.args.list.now i none in
-    let less = past_at past_assignment c.args.list.now i m (get_or_default c.args.list.now i none m c.loop-assignment-test.true) c.loop-assignment-test.true in omega (arith, less, c.requires)
-
-pub expr-requires-in-loop-assignment : goal.expr-requires-in-loop-assignment
-expr-requires-in-loop-assignment c =
-    let i = c.loop-assignment.assignment-index in
-    let m = slice_index_or c.args.list.now i none in
-    let less = past_at past_assignment c.args.list.now i m (get_or_default c.args.list.now i none m c.loop-assignment-test.true) c.loop-assignment-test.true in omega (arith, less, c.requires)
 
 pub loop-assignment-preserved : goal.loop-assignment-preserved
 loop-assignment-preserved c = λ k g.

@@ -1,25 +1,18 @@
 -- Proves that all that a `with` names is looked at.
-use Rattle.std.proofs.Common.{ℕ, [], ◌∷◌, ◌∙◌, refl, subst, arith}
+use Rattle.std.proofs.Common.{ℕ, [], ◌∷◌, ◌∙◌, refl, subst}
 use Rattle.tla_tree.specs.Tree.{Name}
 use Rattle.tla_tree.specs.Pool.{at}
-use Rattle.tla_tree.proofs.PoolNumbers.{past_at}
-use Rattle.pcal_tree.specs.InMemory.{past_bind}
 use Rattle.pcal_tree.specs.OffencesRebind.{any_name, tree_rebinds}
 use Rattle.algorithm_limits.specs.DepthsIn.{Hides}
 use Rattle.declared_rules.specs.declared.bind_walk.Walk.{Walk}
 use Rattle.declared_rules.specs.Parts.{bind_name}
 use Rattle.declared_rules.specs.Bodies.{bind_number}
 use Rattle.declared_rules.specs.Telling.{Adds}
-use Rattle.declared_rules.proofs.BindBodyLaws.{past_number, bind_adds, binds_step, binds_done}
+use Rattle.declared_rules.proofs.BindBodyLaws.{bind_adds, binds_step, binds_done}
 use Rattle.declared_rules.proofs.bind_walk.Walk.binds.Goals as goal
 
 pub loop-bind-init : goal.loop-bind-init
 loop-bind-init c = λ k g. g
-
-pub expr-requires : goal.expr-requires
-expr-requires c =
-    let less = past_at past_bind c.args.list.now c.loop-bind.bind-index c.bind-item.result c.bind-item.is c.loop-bind-test.true in
-    omega (arith, less, past_number c.bind-item.result, c.expression.ensures, c.requires)
 
 pub loop-bind-preserved : goal.loop-bind-preserved
 loop-bind-preserved c = λ k g.

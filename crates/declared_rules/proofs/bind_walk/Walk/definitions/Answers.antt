@@ -1,10 +1,8 @@
 -- Proves that definitions are looked at.
-use Rattle.std.proofs.Common.{◌≡◌, ℕ, List, [], ◌∷◌, take, get_or, refl, sym, ap, ◌∙◌, subst, arith}
+use Rattle.std.proofs.Common.{ℕ, List, [], ◌∷◌, take, refl, ap, ◌∙◌, subst}
 use Rattle.tla_tree.specs.Tree.{Name, words}
 use Rattle.tla_tree.specs.Pool.{at}
-use Rattle.tla_tree.proofs.PoolNumbers.{past_at}
 use Rattle.pcal_tree.specs.declared.algorithm.Definition.{Definition}
-use Rattle.pcal_tree.specs.InMemory.{past_definition}
 use Rattle.pcal_tree.specs.OffencesRebind.{any_name, rebound_all, whole_rebinds}
 use Rattle.algorithm_limits.specs.DepthsIn.{Hides}
 use Rattle.declared_rules.specs.declared.bind_walk.Walk.{Walk}
@@ -14,11 +12,6 @@ use Rattle.declared_rules.proofs.bind_walk.Walk.definitions.Goals as goal
 
 pub loop-i-init : goal.loop-i-init
 loop-i-init c = λ k g. g
-
-pub expr-requires : goal.expr-requires
-expr-requires c =
-    let at_i = subst (λ (d : Definition). d ≡ get_or c.args.list.now c.loop-i.i d) (sym c.definition.view_is) c.index-list-i.is in
-    let less = past_at past_definition c.args.list.now c.loop-i.i _ at_i c.loop-i-test.true in omega (arith, less, c.requires)
 
 pub loop-i-preserved : goal.loop-i-preserved
 loop-i-preserved c = λ k h.

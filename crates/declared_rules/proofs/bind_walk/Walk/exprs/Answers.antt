@@ -1,9 +1,7 @@
 -- Proves that expressions are looked at.
-use Rattle.std.proofs.Common.{ℕ, slice_index_or, arith}
+use Rattle.std.proofs.Common.{ℕ, slice_index_or}
 use Rattle.std.proofs.lemmas.List.{get_or_default}
 use Rattle.tla_tree.specs.Pool.{at}
-use Rattle.tla_tree.proofs.PoolNumbers.{past_at}
-use Rattle.pcal_tree.specs.InMemory.{past_number}
 use Rattle.pcal_tree.specs.OffencesRebind.{tree_rebinds, any_name}
 use Rattle.declared_rules.proofs.TellLaws.{adds_as, list_then, list_done}
 use Rattle.declared_rules.proofs.ExprLaws.{each_is}
@@ -11,12 +9,6 @@ use Rattle.declared_rules.proofs.bind_walk.Walk.exprs.Goals as goal
 
 pub loop-i-init : goal.loop-i-init
 loop-i-init c = λ k g. g
-
-pub expr-requires : goal.expr-requires
-expr-requires c =
-    let e = slice_index_or c.args.es.now c.loop-i.i 0 in
-    let less = past_at past_number c.args.es.now c.loop-i.i e (get_or_default c.args.es.now c.loop-i.i 0 e c.loop-i-test.true) c.loop-i-test.true in
-    omega (arith, less, c.requires)
 
 pub loop-i-preserved : goal.loop-i-preserved
 loop-i-preserved c = λ k g.

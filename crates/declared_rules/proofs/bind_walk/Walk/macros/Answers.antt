@@ -1,17 +1,12 @@
 -- Proves that macros are gone through.
-use Rattle.std.proofs.Common.{List, map, reverse, subst, arith}
+use Rattle.std.proofs.Common.{List, map, reverse, subst}
 use Rattle.std.proofs.lemmas.List.{take_all}
-use Rattle.tla_tree.proofs.PoolNumbers.{past_at}
 use Rattle.pcal_tree.specs.declared.algorithm.Macro.{Macro}
 use Rattle.pcal_tree.specs.Algorithm as tree
-use Rattle.pcal_tree.specs.InMemory.{macro_at, past_macro}
+use Rattle.pcal_tree.specs.InMemory.{macro_at}
 use Rattle.declared_rules.specs.Macros.{macro_names, MacrosAt}
 use Rattle.declared_rules.proofs.MacroLaws.{macro_step, one_within, macros_taken}
 use Rattle.declared_rules.proofs.bind_walk.Walk.macros.Goals as goal
-
-pub one_macro-requires : goal.one_macro-requires
-one_macro-requires c =
-    let less = past_at past_macro c.args.list.now c.loop-i.i c.index-list-i.result c.index-list-i.is c.loop-i-test.true in omega (arith, less, c.requires)
 
 pub loop-i-preserved : goal.loop-i-preserved
 loop-i-preserved c = λ ps h m.

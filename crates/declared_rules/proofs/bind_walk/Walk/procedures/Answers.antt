@@ -1,10 +1,9 @@
 -- Proves that procedures are looked at.
-use Rattle.std.proofs.Common.{ℕ, List, ◌++◌, take, refl, ap, ◌∙◌, subst, arith}
-use Rattle.tla_tree.proofs.PoolNumbers.{past_at}
+use Rattle.std.proofs.Common.{ℕ, List, ◌++◌, take, refl, ap, ◌∙◌, subst}
 use Rattle.pcal_tree.specs.declared.algorithm.Declaration.{Declaration}
 use Rattle.pcal_tree.specs.declared.algorithm.Procedure.{Procedure}
 use Rattle.pcal_tree.specs.declared.algorithm.Stmt.{Stmt}
-use Rattle.pcal_tree.specs.InMemory.{statements_at, declarations_at, procedure_at, past_declarations, past_statements, past_procedure}
+use Rattle.pcal_tree.specs.InMemory.{statements_at, declarations_at, procedure_at}
 use Rattle.pcal_tree.specs.OffencesRebind.{any_name, body_rebinds, locals_rebind, procedure_rebinds}
 use Rattle.declared_rules.specs.declared.bind_walk.Walk.{Walk}
 use Rattle.declared_rules.specs.Telling.{Adds, AddsNaming}
@@ -14,17 +13,6 @@ use Rattle.declared_rules.proofs.bind_walk.Walk.procedures.Goals as goal
 
 pub loop-i-init : goal.loop-i-init
 loop-i-init c = λ C ps h k g. g
-
-pub locals-requires : goal.locals-requires
-locals-requires c =
-    let less = past_at past_procedure c.args.list.now c.loop-i.i c.index-list-i.result c.index-list-i.is c.loop-i-test.true in record {
-      params = omega (arith, less, ap past_declarations c.deref.ensures.value, c.requires);
-      variables = omega (arith, less, ap past_declarations c.deref-in-loop-i.ensures.value, c.requires);
-    }
-
-pub body-requires : goal.body-requires
-body-requires c =
-    let less = past_at past_procedure c.args.list.now c.loop-i.i c.index-list-i.result c.index-list-i.is c.loop-i-test.true in omega (arith, less, ap past_statements c.deref-in-loop-i-2.ensures.value, c.requires)
 
 pub loop-i-preserved : goal.loop-i-preserved
 loop-i-preserved c = λ C ps h k q.

@@ -1,9 +1,8 @@
 -- Proves that processes are looked at.
-use Rattle.std.proofs.Common.{ℕ, List, [], ◌++◌, take, refl, ap, ◌∙◌, subst, arith}
-use Rattle.tla_tree.proofs.PoolNumbers.{past_at}
+use Rattle.std.proofs.Common.{ℕ, List, [], ◌++◌, take, refl, ap, ◌∙◌, subst}
 use Rattle.pcal_tree.specs.declared.algorithm.Declaration.{Declaration}
 use Rattle.pcal_tree.specs.declared.algorithm.Process.{Process}
-use Rattle.pcal_tree.specs.InMemory.{declarations_at, process_at, past_declarations, past_process}
+use Rattle.pcal_tree.specs.InMemory.{declarations_at, process_at}
 use Rattle.pcal_tree.specs.OffencesRebind.{any_name, locals_rebind, process_rebinds}
 use Rattle.declared_rules.specs.declared.bind_walk.Walk.{Walk}
 use Rattle.declared_rules.specs.Telling.{AddsNaming}
@@ -14,21 +13,6 @@ use Rattle.declared_rules.proofs.bind_walk.Walk.processes.Goals as goal
 
 pub loop-i-init : goal.loop-i-init
 loop-i-init c = λ C ps s h o k g. g
-
-pub expr-requires : goal.expr-requires
-expr-requires c =
-    let less = past_at past_process c.args.list.now c.loop-i.i c.index-list-i.result c.index-list-i.is c.loop-i-test.true in omega (arith, less, c.requires)
-
-pub locals-requires : goal.locals-requires
-locals-requires c =
-    let less = past_at past_process c.args.list.now c.loop-i.i c.index-list-i.result c.index-list-i.is c.loop-i-test.true in record {
-      params = omega (arith);
-      variables = omega (arith, less, ap past_declarations c.deref.ensures.value, c.requires);
-    }
-
-pub process_body-requires : goal.process_body-requires
-process_body-requires c =
-    let less = past_at past_process c.args.list.now c.loop-i.i c.index-list-i.result c.index-list-i.is c.loop-i-test.true in omega (arith, less, c.requires)
 
 pub loop-i-preserved : goal.loop-i-preserved
 loop-i-preserved c = λ C ps s h o k g.

@@ -1,9 +1,8 @@
 -- Proves that first values are looked at.
-use Rattle.std.proofs.Common.{◌≡◌, ◌+◌, sym, ap, ◌∙◌, subst, arith}
-use Rattle.tla_tree.proofs.PoolNumbers.{past_at}
+use Rattle.std.proofs.Common.{sym, ap, ◌∙◌, subst}
 use Rattle.pcal_tree.specs.declared.algorithm.Declaration.{Declaration}
 use Rattle.pcal_tree.specs.declared.algorithm.Start.{Start}
-use Rattle.pcal_tree.specs.InMemory.{start_at, past_start, past_declaration}
+use Rattle.pcal_tree.specs.InMemory.{start_at}
 use Rattle.pcal_tree.specs.OffencesRebind.{start_rebinds}
 use Rattle.declared_rules.specs.declared.bind_walk.Walk.{Walk}
 use Rattle.declared_rules.specs.Telling.{Adds}
@@ -11,16 +10,6 @@ use Rattle.declared_rules.proofs.TellLaws.{adds_none, adds_as, list_then, list_d
 use Rattle.declared_rules.proofs.BindBodyLaws.{each_start}
 use Rattle.declared_rules.proofs.bind_walk.Walk.starts.Goals as goal
 use Rattle.declared_rules.proofs.bind_walk.Walk.starts.Goals.{in-Unset, in-Equals+in_ok-expr-in-Equals, in-Among+in_ok-expr-in-Among}
-
-pub expr-requires : goal.expr-requires
-expr-requires c =
-    let less = past_at past_declaration c.args.list.now c.loop-i.i c.index-list-i.result c.index-list-i.is c.loop-i-test.true in
-    let e : past_declaration c.index-list-i.result ≡ c.in-Equals.e + 1 = ap past_start (ap (λ (d : Declaration). d.start) c.index-list-i.is ∙ c.in-Equals.is) in omega (arith, less, e, c.requires)
-
-pub expr-requires-in-Among : goal.expr-requires-in-Among
-expr-requires-in-Among c =
-    let less = past_at past_declaration c.args.list.now c.loop-i.i c.index-list-i.result c.index-list-i.is c.loop-i-test.true in
-    let e : past_declaration c.index-list-i.result ≡ c.in-Among.e + 1 = ap past_start (ap (λ (d : Declaration). d.start) c.index-list-i.is ∙ c.in-Among.is) in omega (arith, less, e, c.requires)
 
 pub loop-i-init : goal.loop-i-init
 loop-i-init c = λ K k g. g

@@ -1,5 +1,5 @@
 -- What is kept: names that were passed are looked at.
-use Rattle.std.proofs.Common.{◌≡◌, ◌∷◌, [], length, take}
+use Rattle.std.proofs.Common.{◌∷◌, [], take}
 use Rattle.std.specs.List.{flat_map}
 use Rattle.pcal_tree.specs.declared.algorithm.Bind.{Bind}
 use Rattle.declared_rules.specs.Parts.{bind_name}
@@ -7,7 +7,4 @@ use Rattle.declared_rules.specs.Finding.{AddsNames}
 use Rattle.declared_rules.proofs.found.Found.bind_names.Given as goal
 
 abbrev pub invariant-loop-bind : goal.invariant-loop-bind
-invariant-loop-bind l = record {
-  many : length l.self.marks.items ≡ length l.fn.self.marks.items;
-  adds : AddsNames l.fn.self l.self (flat_map (λ (b : Bind). bind_name b ∷ []) (take l.bind-index l.binds));
-}
+invariant-loop-bind l = AddsNames l.fn.self l.self (flat_map (λ (b : Bind). bind_name b ∷ []) (take l.bind-index l.binds))

@@ -3,5 +3,5 @@ use Rattle.std.proofs.Common.{refl}
 use Rattle.declared_rules.proofs.JoinLaws.{adds_marked}
 use Rattle.declared_rules.proofs.found.Found.expr.Goals as goal
 
-pub returns-clause-adds : goal.returns-clause-adds
-returns-clause-adds c = λ ts. adds_marked ts c.args.self.now _ c.args.e c.requires refl refl refl
+pub returns-then-e-len-clause-adds : goal.returns-then-e-len-clause-adds
+returns-then-e-len-clause-adds c = λ less ts. adds_marked ts c.args.self.now _ c.args.e less refl refl refl

@@ -1,5 +1,5 @@
 -- What is kept: groups that were passed are looked at.
-use Rattle.std.proofs.Common.{◌≡◌, length, take}
+use Rattle.std.proofs.Common.{take}
 use Rattle.std.specs.List.{flat_map}
 use Rattle.std.proofs.Common.{Vec, Global}
 use Rattle.tla_tree.specs.Tree.{Name}
@@ -7,7 +7,4 @@ use Rattle.declared_rules.specs.Finding.{AddsNames}
 use Rattle.declared_rules.proofs.found.Found.groups.Given as goal
 
 abbrev pub invariant-loop-i : goal.invariant-loop-i
-invariant-loop-i l = record {
-  many : length l.self.marks.items ≡ length l.fn.self.marks.items;
-  adds : AddsNames l.fn.self l.self (flat_map (λ (g : Vec Name Global). g.items) (take l.i l.groups));
-}
+invariant-loop-i l = AddsNames l.fn.self l.self (flat_map (λ (g : Vec Name Global). g.items) (take l.i l.groups))

@@ -8,8 +8,8 @@ use Rattle.declared_rules.specs.Finding.{end_label}
 use Rattle.declared_rules.proofs.JoinLaws.{joins_as, adds_one}
 use Rattle.declared_rules.proofs.found.Found.label.Goals as goal
 
-pub returns-clause-adds : goal.returns-clause-adds
-returns-clause-adds c = λ ts.
+pub returns : goal.returns
+returns c = λ ts.
     adds_one ts c.args.self.now c.offence.new.self (labels c.args.name.now)
     (joins_as ts c.args.self.now c.offence.new.self _ _
     (ap (λ (b : Bool). offence_if b Reserved c.name.inside.place) (c.is_end.ensures ∙ ap (is_among (codes "Done" ∷ codes "Error" ∷ [])) c.bytes.ensures)

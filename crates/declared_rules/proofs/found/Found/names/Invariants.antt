@@ -1,12 +1,9 @@
 -- What is kept: names that were passed are looked at.
-use Rattle.std.proofs.Common.{◌≡◌, ◌∷◌, [], length, take}
+use Rattle.std.proofs.Common.{◌∷◌, [], take}
 use Rattle.std.specs.List.{flat_map}
 use Rattle.tla_tree.specs.Tree.{Name}
 use Rattle.declared_rules.specs.Finding.{AddsNames}
 use Rattle.declared_rules.proofs.found.Found.names.Given as goal
 
 abbrev pub invariant-loop-name : goal.invariant-loop-name
-invariant-loop-name l = record {
-  many : length l.self.marks.items ≡ length l.fn.self.marks.items;
-  adds : AddsNames l.fn.self l.self (flat_map (λ (n : Name). n ∷ []) (take l.name-index l.names));
-}
+invariant-loop-name l = AddsNames l.fn.self l.self (flat_map (λ (n : Name). n ∷ []) (take l.name-index l.names))

@@ -6,14 +6,8 @@ use Rattle.declared_rules.proofs.ListLaws.{past_item}
 use Rattle.declared_rules.proofs.SweepLaws.{parts_then, parts_over}
 use Rattle.declared_rules.proofs.found.Found.parts.Goals as goal
 
-pub part-requires-clause-there : goal.part-requires-clause-there
-part-requires-clause-there c =
-    let below = all_below_past c.args.past c.args.parts.now c.requires.below in
-    let less = past_item past_number c.args.parts.now c.loop-i.i 0 c.loop-i-test.true in
-    omega (arith, below, less, c.requires.there)
-
-pub part-requires-clause-marked : goal.part-requires-clause-marked
-part-requires-clause-marked c =
+pub part-requires : goal.part-requires
+part-requires c =
     let below = all_below_past c.args.past c.args.parts.now c.requires.below in
     let less = past_item past_number c.args.parts.now c.loop-i.i 0 c.loop-i-test.true in
     omega (arith, below, less, c.requires.marked, c.loop-i.invariant.many)
@@ -23,8 +17,8 @@ loop-i-preserved c = record {
   many = c.part.ensures.many ∙ c.loop-i.invariant.many;
   rest = λ k g.
       c.loop-i.invariant.rest k
-      (parts_then c.args.pool.now c.loop-i.self c.part.new.self k c.args.member c.is_right.result c.args.parts.now c.loop-i.i c.loop-i-test.true c.is_right.ensures c.part.ensures.adds g);
+      (parts_then c.args.pool.now c.loop-i.self c.part.new.self k c.args.member c.is_right.result c.args.parts.now c.loop-i.i c.loop-i-test.true c.is_right.ensures c.part.ensures g);
 }
 
-pub returns-clause-adds : goal.returns-clause-adds
-returns-clause-adds c = c.loop-i.invariant.rest c.loop-i.self (parts_over c.args.pool.now c.loop-i.self c.args.member c.args.parts.now c.loop-i.i c.loop-i-test.false)
+pub returns : goal.returns
+returns c = c.loop-i.invariant.rest c.loop-i.self (parts_over c.args.pool.now c.loop-i.self c.args.member c.args.parts.now c.loop-i.i c.loop-i-test.false)

@@ -7,13 +7,13 @@ pub loop-marked-preserved-in-Continue-1 : goal.loop-marked-preserved-in-Continue
 loop-marked-preserved-in-Continue-1 c = record {
   few =
       let less = less_marked c.loop-marked.self.marks.items c.pop.new.self.items c.in-Some.marked _ c.in-Some.ensures.items c.loop-marked.invariant.few in
-      omega (arith, less, c.in_ok-open.ensures.many);
+      omega (arith, less, c.in_ok-open.ensures.joins.many);
   same =
       finding_marked c.args.pool.now c.loop-marked.self (record { modules = c.loop-marked.self.modules; first = c.loop-marked.self.first; marks = c.pop.new.self; seen = c.loop-marked.self.seen }) c.open.new.self c.in-Some.marked c.len-e.result
       c.if-marked.true (search rules)
       (finding_last c.args.pool.now c.loop-marked.self (record { modules = c.loop-marked.self.modules; first = c.loop-marked.self.first; marks = c.pop.new.self; seen = c.loop-marked.self.seen }) c.in-Some.marked refl refl c.in-Some.ensures.items
       c.loop-marked.invariant.few)
-      c.in_ok-open.ensures.adds
+      c.in_ok-open.ensures
       ∙ c.loop-marked.invariant.same;
 }
 

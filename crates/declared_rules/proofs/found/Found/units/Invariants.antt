@@ -1,5 +1,5 @@
 -- What is kept: those that were passed are looked at.
-use Rattle.std.proofs.Common.{◌≡◌, List, length, take}
+use Rattle.std.proofs.Common.{List, take}
 use Rattle.std.specs.List.{flat_map}
 use Rattle.tla_tree.specs.Tree.{Tree}
 use Rattle.module_outside.specs.declared.passed.Passed.{Passed}
@@ -9,7 +9,4 @@ use Rattle.declared_rules.specs.Titles.{unit_offences}
 use Rattle.declared_rules.proofs.found.Found.units.Given as goal
 
 abbrev pub invariant-loop-unit : goal.invariant-loop-unit
-invariant-loop-unit l = record {
-  many : length l.self.marks.items ≡ length l.fn.self.marks.items;
-  adds : (ts : List Tree) → Joins ts l.fn.self l.self (flat_map (λ (u : Passed). unit_offences (passed_seen u)) (take l.unit-index l.list));
-}
+invariant-loop-unit l = (ts : List Tree) → Joins ts l.fn.self l.self (flat_map (λ (u : Passed). unit_offences (passed_seen u)) (take l.unit-index l.list))

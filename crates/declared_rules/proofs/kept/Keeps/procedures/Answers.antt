@@ -1,8 +1,7 @@
 -- Proves that what is kept of procedures says what calls of them offend.
 use Rattle.std.proofs.Common.{◌≡◌, ℕ, ◌-◌, List, length, map, drop, ap, subst, arith}
-use Rattle.tla_tree.proofs.PoolNumbers.{past_at}
 use Rattle.pcal_tree.specs.declared.algorithm.Procedure.{Procedure}
-use Rattle.pcal_tree.specs.InMemory.{procedure_at, past_procedure}
+use Rattle.pcal_tree.specs.InMemory.{procedure_at}
 use Rattle.pcal_tree.specs.OffencesRebind.{call_rebinds}
 use Rattle.declared_rules.specs.Keeping.{Means}
 use Rattle.declared_rules.proofs.MacroLaws.{procedures_none, procedure_step}
@@ -10,11 +9,6 @@ use Rattle.declared_rules.proofs.kept.Keeps.procedures.Goals as goal
 
 pub loop-i-init : goal.loop-i-init
 loop-i-init c = λ P e st. procedures_none c.args.sight.now P c.args.self.now c.args.pool.now c.args.list.now e
-
-pub procedure-requires : goal.procedure-requires
-procedure-requires c =
-    let k = length c.args.list.now - 1 - c.loop-i.i in
-    let less = past_at past_procedure c.args.list.now k c.index-list-count.result c.index-list-count.is (omega (arith, c.loop-i-test.true)) in omega (arith, less, c.requires)
 
 pub loop-i-preserved : goal.loop-i-preserved
 loop-i-preserved c = λ P e st.

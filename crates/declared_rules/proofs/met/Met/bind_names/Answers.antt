@@ -15,17 +15,11 @@ each_word [] = refl
 each_word (b ∷ bs) = ap (λ (ws : List Word). (bind_name b).word ∷ ws) (each_word bs)
 
 pub loop-bind-preserved : goal.loop-bind-preserved
-loop-bind-preserved c = record {
-  many = c.in_ok-name-in-Among.ensures.many ∙ c.loop-bind.invariant.many;
-  adds = λ ts.
-      adds_more ts word_of c.args.binds.now c.args.self.now c.loop-bind.self c.name-in-Among.new.self c.loop-bind.bind-index c.bind-item.result c.bind-item.is c.loop-bind-test.true (c.loop-bind.invariant.adds ts)
-      (adds_as ts c.loop-bind.self c.name-in-Among.new.self _ _ (ap (λ (x : Name). x.word ∷ []) (c.name.view_is ∙ sym (⊎_elim (λ e. ap bind_name e.1) (λ e. ap bind_name e.1) c.in-Among.is))) (c.in_ok-name-in-Among.ensures.adds ts));
-}
+loop-bind-preserved c = λ ts.
+    adds_more ts word_of c.args.binds.now c.args.self.now c.loop-bind.self c.name-in-Among.new.self c.loop-bind.bind-index c.bind-item.result c.bind-item.is c.loop-bind-test.true (c.loop-bind.invariant ts)
+    (adds_as ts c.loop-bind.self c.name-in-Among.new.self _ _ (ap (λ (x : Name). x.word ∷ []) (c.name.view_is ∙ sym (⊎_elim (λ e. ap bind_name e.1) (λ e. ap bind_name e.1) c.in-Among.is))) (c.in_ok-name-in-Among.ensures ts))
 
 pub returns : goal.returns
-returns c = record {
-  many = c.loop-bind.invariant.many;
-  adds = λ ts.
-      adds_as ts c.args.self.now c.loop-bind.self _ _ (each_word c.args.binds.now)
-      (adds_all ts word_of c.args.binds.now c.args.self.now c.loop-bind.self c.loop-bind.bind-index c.loop-bind-test.false (c.loop-bind.invariant.adds ts));
-}
+returns c = λ ts.
+    adds_as ts c.args.self.now c.loop-bind.self _ _ (each_word c.args.binds.now)
+    (adds_all ts word_of c.args.binds.now c.args.self.now c.loop-bind.self c.loop-bind.bind-index c.loop-bind-test.false (c.loop-bind.invariant ts))

@@ -11,8 +11,8 @@ use Rattle.declared_rules.proofs.MetWalks.{adds_hidden, adds_as}
 use Rattle.declared_rules.proofs.MetSwept.{binder_words, local_words}
 use Rattle.declared_rules.proofs.met.Met.form.Goals as goal
 
-pub returns-in-Binding-clause-adds : goal.returns-in-Binding-clause-adds
-returns-in-Binding-clause-adds c =
+pub returns-in-Binding : goal.returns-in-Binding
+returns-in-Binding c =
     on_ok_weaker c.add_groups.result
     (λ done ts.
     adds_as ts c.args.self.now _ _ _
@@ -20,16 +20,10 @@ returns-in-Binding-clause-adds c =
     ∙ ap (λ (f : Form). bound_words (lists_of (form_of f))) (sym c.in-Binding.is))
     (adds_hidden ts c.args.self.now _ _ done refl)) c.add_groups.ensures
 
-pub returns-in-Binding-clause-many : goal.returns-in-Binding-clause-many
-returns-in-Binding-clause-many c = on_ok_weaker c.add_groups.result (λ done. refl) c.add_groups.ensures
-
-pub returns-in-Local-clause-adds : goal.returns-in-Local-clause-adds
-returns-in-Local-clause-adds c =
+pub returns-in-Local : goal.returns-in-Local
+returns-in-Local c =
     on_ok_weaker c.add_all.result
     (λ done ts.
     adds_as ts c.args.self.now _ _ _
     (ap words c.deref-in-Local.ensures.value ∙ local_words c.in-Local.names.items ∙ ap (λ (f : Form). bound_words (lists_of (form_of f))) (sym c.in-Local.is))
     (adds_hidden ts c.args.self.now _ _ done refl)) c.add_all.ensures
-
-pub returns-in-Local-clause-many : goal.returns-in-Local-clause-many
-returns-in-Local-clause-many c = on_ok_weaker c.add_all.result (λ done. refl) c.add_all.ensures

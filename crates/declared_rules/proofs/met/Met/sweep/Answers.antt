@@ -11,7 +11,7 @@ loop-marked-preserved-in-Continue-1 c = record {
   same = λ w.
       holds_marked c.args.pool.now c.loop-marked.self (record { names = c.loop-marked.self.names; marks = c.pop.new.self }) c.open.new.self c.in-Some.marked c.len-e.result w c.if-marked.true (search rules)
       (holds_last c.args.pool.now c.loop-marked.self (record { names = c.loop-marked.self.names; marks = c.pop.new.self }) c.in-Some.marked w refl c.in-Some.ensures.items c.loop-marked.invariant.few)
-      c.in_ok-open.ensures.adds
+      c.in_ok-open.ensures
       ∙ c.loop-marked.invariant.same w;
 }
 

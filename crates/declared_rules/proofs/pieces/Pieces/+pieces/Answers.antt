@@ -13,24 +13,21 @@ use Rattle.declared_rules.proofs.pieces.Pieces.+pieces.Goals as goal
 
 pub expr-parts-requires : goal.expr-parts-requires
 expr-parts-requires t c =
-    let n = c.node-node.result.now in
+    let n = c.in-Some.node.now in
     let parts = c.deref.ensures.value ∙ ap (λ (n : Entry). n.parts) c.node.view_is in (
       omega (arith, c.decreases),
       (
-        subst (λ (ids : List ℕ). AllBelow c.args.e ids) (sym parts) c.node-node.ensures.older,
-        (
-          omega (arith, c.requires),
-          subst (λ (k : ℕ). Shaped (form_of c.node.inside.form) k) (ap (λ (is : List ℕ). length is) (sym parts)) (subst (λ (m : Form). Shaped m (length n.parts)) (sym (ap (λ (n : Entry). n.form) c.node.view_is)) c.node-node.ensures.shaped),
-        ),
+        subst (λ (ids : List ℕ). AllBelow c.args.e ids) (sym parts) c.in-Some.ensures.older,
+        subst (λ (k : ℕ). Shaped (form_of c.node.inside.form) k) (ap (λ (is : List ℕ). length is) (sym parts)) (subst (λ (m : Form). Shaped m (length n.parts)) (sym (ap (λ (n : Entry). n.form) c.node.view_is)) c.in-Some.ensures.shaped),
       ),
     )
 
 pub expr-returns : goal.expr-returns
 expr-returns t c =
-    let n = c.node-node.result.now in
+    let n = c.in-Some.node.now in
     let f = ap (λ (n : Entry). n.form) c.node.view_is in
     let parts = c.deref.ensures.value ∙ ap (λ (n : Entry). n.parts) c.node.view_is in
-    node_gathers c.args.self.now c.form.new.self c.parts.new.self _ n c.args.pool.now c.args.e c.node-node.ensures.tree
+    node_gathers c.args.self.now c.form.new.self c.parts.new.self _ n c.args.pool.now c.args.e c.in-Some.ensures.some
     (subst (λ (m : Form). Gathers c.args.self.now c.form.new.self (form_pieces m)) f c.in_ok-form.ensures)
     (subst (λ (m : Form). GathersParts c.form.new.self c.parts.new.self (pieces_in (seen_names m) (trees_at c.args.pool.now n.parts))) f
     (subst (λ (ids : List ℕ). GathersParts c.form.new.self c.parts.new.self (pieces_in (seen_names (form_of c.node.inside.form)) (trees_at c.args.pool.now ids))) parts c.in_ok-parts.ensures))
@@ -42,7 +39,7 @@ parts-loop-i-init t c = pieces_start c.args.self.now (form_of c.args.form.now) c
 pub parts-expr-requires : goal.parts-expr-requires
 parts-expr-requires t c =
     let below = AllBelow-at c.args.past c.args.parts.now c.loop-i.i 0 c.requires.there c.loop-i-test.true in
-    (omega (arith, below, c.decreases), omega (arith, below, c.requires.inside))
+    omega (arith, below, c.decreases)
 
 pub parts-loop-i-preserved : goal.parts-loop-i-preserved
 parts-loop-i-preserved t c =

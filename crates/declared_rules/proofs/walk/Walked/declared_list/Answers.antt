@@ -5,8 +5,8 @@ use Rattle.declared_rules.specs.Parts.{bound, declaration_names}
 use Rattle.declared_rules.proofs.WalkLaws.{adds_found}
 use Rattle.declared_rules.proofs.walk.Walked.declared_list.Goals as goal
 
-pub returns-clause-adds : goal.returns-clause-adds
-returns-clause-adds c =
+pub returns : goal.returns
+returns c =
     on_ok_weaker c.declared_list.result
     (λ done ts. adds_found ts c.args.self.now _ (bound (declaration_names c.args.params.now ++ declaration_names c.args.variables.now) ∷ []) refl refl (done ts))
-    c.declared_list.ensures.adds
+    c.declared_list.ensures

@@ -1,28 +1,18 @@
 -- Proves that definitions, their parameters and the names of their bodies are looked at.
-use Rattle.std.proofs.Common.{arith, ap, ◌∙◌}
+use Rattle.std.proofs.Common.{ap}
 use Rattle.std.proofs.Common.{List, [], ◌∷◌}
 use Rattle.tla_tree.specs.Tree.{Name}
 use Rattle.declared_rules.specs.Parts.{bound, takes}
-use Rattle.tla_tree.proofs.PoolNumbers.{past_at}
-use Rattle.pcal_tree.specs.InMemory.{past_definition}
 use Rattle.declared_rules.specs.Parts.{definition_parts}
 use Rattle.declared_rules.proofs.WalkLaws.{adds_as, adds_then, adds_more, adds_all}
 use Rattle.declared_rules.proofs.walk.Walked.definitions.Goals as goal
 
-pub expr-requires : goal.expr-requires
-expr-requires c =
-    let less = past_at past_definition c.args.list.now c.loop-definition.definition-index c.definition-item.result c.definition-item.is c.loop-definition-test.true in
-    omega (arith, less, c.requires, c.loop-definition.invariant.many, c.in_ok-keeps.ensures.many, c.in_ok-params.ensures.many)
-
 pub loop-definition-preserved : goal.loop-definition-preserved
-loop-definition-preserved c = record {
-  many = c.expr.ensures.many ∙ c.in_ok-params.ensures.many ∙ c.in_ok-keeps.ensures.many ∙ c.loop-definition.invariant.many;
-  adds = λ ts.
-      adds_more ts (definition_parts ts) c.args.list.now c.args.self.now c.loop-definition.self c.expr.new.self c.loop-definition.definition-index c.definition-item.result c.definition-item.is c.loop-definition-test.true (c.loop-definition.invariant.adds ts)
-      (adds_then ts c.loop-definition.self c.keeps.new.self c.expr.new.self _ _ (c.in_ok-keeps.ensures.adds ts)
-      (adds_then ts c.keeps.new.self c.params.new.self c.expr.new.self _ _
-      (adds_as ts c.keeps.new.self c.params.new.self _ _ (ap (λ (ns : List Name). bound ns ∷ takes ns ∷ []) c.deref.ensures.value) (c.in_ok-params.ensures.adds ts)) (c.expr.ensures.adds ts)));
-}
+loop-definition-preserved c = λ ts.
+    adds_more ts (definition_parts ts) c.args.list.now c.args.self.now c.loop-definition.self c.expr.new.self c.loop-definition.definition-index c.definition-item.result c.definition-item.is c.loop-definition-test.true (c.loop-definition.invariant ts)
+    (adds_then ts c.loop-definition.self c.keeps.new.self c.expr.new.self _ _ (c.in_ok-keeps.ensures ts)
+    (adds_then ts c.keeps.new.self c.params.new.self c.expr.new.self _ _
+    (adds_as ts c.keeps.new.self c.params.new.self _ _ (ap (λ (ns : List Name). bound ns ∷ takes ns ∷ []) c.deref.ensures.value) (c.in_ok-params.ensures ts)) (c.expr.ensures ts)))
 
-pub returns-clause-adds : goal.returns-clause-adds
-returns-clause-adds c = λ ts. adds_all ts (definition_parts ts) c.args.list.now c.args.self.now c.loop-definition.self c.loop-definition.definition-index c.loop-definition-test.false (c.loop-definition.invariant.adds ts)
+pub returns : goal.returns
+returns c = λ ts. adds_all ts (definition_parts ts) c.args.list.now c.args.self.now c.loop-definition.self c.loop-definition.definition-index c.loop-definition-test.false (c.loop-definition.invariant ts)

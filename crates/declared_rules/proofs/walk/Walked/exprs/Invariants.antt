@@ -1,5 +1,5 @@
 -- What is kept: those that were passed are looked at.
-use Rattle.std.proofs.Common.{◌≡◌, List, length, take}
+use Rattle.std.proofs.Common.{List, take}
 use Rattle.std.specs.List.{flat_map}
 use Rattle.tla_tree.specs.Tree.{Tree}
 use Rattle.declared_rules.specs.Parts.{expr_parts}
@@ -7,7 +7,4 @@ use Rattle.declared_rules.specs.Walking.{Adds}
 use Rattle.declared_rules.proofs.walk.Walked.exprs.Given as goal
 
 abbrev pub invariant-loop-e : goal.invariant-loop-e
-invariant-loop-e l = record {
-  many : length l.self.found.marks.items ≡ length l.fn.self.found.marks.items;
-  adds : (ts : List Tree) → Adds ts l.fn.self l.self (flat_map (expr_parts ts) (take l.e-index l.es));
-}
+invariant-loop-e l = (ts : List Tree) → Adds ts l.fn.self l.self (flat_map (expr_parts ts) (take l.e-index l.es))

@@ -4,5 +4,5 @@ use Rattle.declared_rules.specs.Parts.{labels}
 use Rattle.declared_rules.proofs.WalkLaws.{adds_found}
 use Rattle.declared_rules.proofs.walk.Walked.label.Goals as goal
 
-pub returns-clause-adds : goal.returns-clause-adds
-returns-clause-adds c = λ ts. adds_found ts c.args.self.now _ (labels c.args.name.now ∷ []) refl refl (c.label.ensures.adds ts)
+pub returns : goal.returns
+returns c = λ ts. adds_found ts c.args.self.now _ (labels c.args.name.now ∷ []) refl refl (c.label.ensures ts)

@@ -9,15 +9,15 @@ use Rattle.declared_rules.specs.Parts.{body_parts, process_parts, main_parts}
 use Rattle.declared_rules.proofs.WalkLaws.{adds_as}
 use Rattle.declared_rules.proofs.walk.Walked.main.Goals as goal
 
-pub returns-in-Alone-clause-adds : goal.returns-in-Alone-clause-adds
-returns-in-Alone-clause-adds c =
+pub returns-in-Alone : goal.returns-in-Alone
+returns-in-Alone c =
     on_ok_weaker c.body.result
     (λ done ts.
-    adds_as ts c.args.self.now c.body.new.self _ _ (ap (body_parts ts) c.deref.ensures.value ∙ ap (λ (m : Main). main_parts ts m) (sym c.in-Alone.is)) (done ts)) c.body.ensures.adds
+    adds_as ts c.args.self.now c.body.new.self _ _ (ap (body_parts ts) c.deref.ensures.value ∙ ap (λ (m : Main). main_parts ts m) (sym c.in-Alone.is)) (done ts)) c.body.ensures
 
-pub returns-in-Processes-clause-adds : goal.returns-in-Processes-clause-adds
-returns-in-Processes-clause-adds c =
+pub returns-in-Processes : goal.returns-in-Processes
+returns-in-Processes c =
     on_ok_weaker c.processes.result
     (λ done ts.
     adds_as ts c.args.self.now c.processes.new.self _ _ (ap (λ (ps : List Process). flat_map (process_parts ts) ps) c.deref-in-Processes.ensures.value ∙ ap (λ (m : Main). main_parts ts m) (sym c.in-Processes.is))
-    (done ts)) c.processes.ensures.adds
+    (done ts)) c.processes.ensures

@@ -1,5 +1,5 @@
 -- What is kept: the parts of those that were passed are looked at.
-use Rattle.std.proofs.Common.{◌≡◌, List, length, take}
+use Rattle.std.proofs.Common.{List, take}
 use Rattle.std.specs.List.{flat_map}
 use Rattle.tla_tree.specs.Tree.{Tree}
 use Rattle.declared_rules.specs.Parts.{procedure_parts}
@@ -7,7 +7,4 @@ use Rattle.declared_rules.specs.Walking.{Adds}
 use Rattle.declared_rules.proofs.walk.Walked.procedures.Given as goal
 
 abbrev pub invariant-loop-procedure : goal.invariant-loop-procedure
-invariant-loop-procedure l = record {
-  many : length l.self.found.marks.items ≡ length l.fn.self.found.marks.items;
-  adds : (ts : List Tree) → Adds ts l.fn.self l.self (flat_map (procedure_parts ts) (take l.procedure-index l.list));
-}
+invariant-loop-procedure l = (ts : List Tree) → Adds ts l.fn.self l.self (flat_map (procedure_parts ts) (take l.procedure-index l.list))

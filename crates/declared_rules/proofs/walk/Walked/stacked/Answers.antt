@@ -5,7 +5,7 @@ use Rattle.declared_rules.specs.Parts.{stacks}
 use Rattle.declared_rules.proofs.WalkLaws.{adds_as, adds_then}
 use Rattle.declared_rules.proofs.walk.Walked.stacked.Goals as goal
 
-pub returns-clause-adds : goal.returns-clause-adds
-returns-clause-adds c = λ ts.
-    adds_then ts c.args.self.now c.declares.new.self c.stacks.new.self _ _ (c.declares.ensures.adds ts)
-    (adds_as ts c.declares.new.self c.stacks.new.self _ _ (ap (λ (n : Name). stacks n.place ∷ []) c.name.view_is) (c.stacks.ensures.adds ts))
+pub returns : goal.returns
+returns c = λ ts.
+    adds_then ts c.args.self.now c.declares.new.self c.stacks.new.self _ _ (c.declares.ensures ts)
+    (adds_as ts c.declares.new.self c.stacks.new.self _ _ (ap (λ (n : Name). stacks n.place ∷ []) c.name.view_is) (c.stacks.ensures ts))

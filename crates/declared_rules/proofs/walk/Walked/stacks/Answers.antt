@@ -5,5 +5,5 @@ use Rattle.declared_rules.proofs.JoinLaws.{adds_one}
 use Rattle.declared_rules.proofs.WalkLaws.{adds_found}
 use Rattle.declared_rules.proofs.walk.Walked.stacks.Goals as goal
 
-pub returns-clause-adds : goal.returns-clause-adds
-returns-clause-adds c = λ ts. adds_found ts c.args.self.now _ (stacks c.args.place ∷ []) refl refl (adds_one ts c.args.self.now.found c.offence.new.self (stacks c.args.place) (c.offence.ensures.joins ts))
+pub returns : goal.returns
+returns c = λ ts. adds_found ts c.args.self.now _ (stacks c.args.place ∷ []) refl refl (adds_one ts c.args.self.now.found c.offence.new.self (stacks c.args.place) (c.offence.ensures.joins ts))

@@ -1,23 +1,12 @@
 -- Proves that the names of first values are looked at.
-use Rattle.std.proofs.Common.{arith, ◌∙◌}
-use Rattle.tla_tree.proofs.PoolNumbers.{past_at}
-use Rattle.pcal_tree.specs.InMemory.{past_declaration}
 use Rattle.declared_rules.specs.Parts.{declaration_parts}
 use Rattle.declared_rules.proofs.WalkLaws.{adds_more, adds_all}
 use Rattle.declared_rules.proofs.walk.Walked.starts.Goals as goal
 
-pub start-requires : goal.start-requires
-start-requires c =
-    let less = past_at past_declaration c.args.list.now c.loop-declaration.declaration-index c.declaration-item.result c.declaration-item.is c.loop-declaration-test.true in
-    omega (arith, less, c.requires, c.loop-declaration.invariant.many)
-
 pub loop-declaration-preserved : goal.loop-declaration-preserved
-loop-declaration-preserved c = record {
-  many = c.start.ensures.many ∙ c.loop-declaration.invariant.many;
-  adds = λ ts.
-      adds_more ts (declaration_parts ts) c.args.list.now c.args.self.now c.loop-declaration.self c.start.new.self c.loop-declaration.declaration-index c.declaration-item.result c.declaration-item.is c.loop-declaration-test.true (c.loop-declaration.invariant.adds ts)
-      (c.start.ensures.adds ts);
-}
+loop-declaration-preserved c = λ ts.
+    adds_more ts (declaration_parts ts) c.args.list.now c.args.self.now c.loop-declaration.self c.start.new.self c.loop-declaration.declaration-index c.declaration-item.result c.declaration-item.is c.loop-declaration-test.true (c.loop-declaration.invariant ts)
+    (c.start.ensures ts)
 
-pub returns-clause-adds : goal.returns-clause-adds
-returns-clause-adds c = λ ts. adds_all ts (declaration_parts ts) c.args.list.now c.args.self.now c.loop-declaration.self c.loop-declaration.declaration-index c.loop-declaration-test.false (c.loop-declaration.invariant.adds ts)
+pub returns : goal.returns
+returns c = λ ts. adds_all ts (declaration_parts ts) c.args.list.now c.args.self.now c.loop-declaration.self c.loop-declaration.declaration-index c.loop-declaration-test.false (c.loop-declaration.invariant ts)

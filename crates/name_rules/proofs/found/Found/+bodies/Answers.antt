@@ -1,12 +1,11 @@
 -- Proves that statements are looked at, in the order of the text.
-use Rattle.std.proofs.Common.{◌≡◌, ℕ, ◌+◌, ◌<◌, ◌≤◌, max, length, List, Vec, Global, take, refl, sym, ap, subst, ◌∙◌, arith}
+use Rattle.std.proofs.Common.{ℕ, List, Vec, Global, take, refl, sym, ap, subst, ◌∙◌, arith}
 use Rattle.std.proofs.lemmas.Result.{on_ok_weaker}
 use Rattle.tla_tree.proofs.PoolNumbers.{past_at}
 use Rattle.pcal_tree.specs.declared.algorithm.Bind.{Bind}
 use Rattle.pcal_tree.specs.declared.algorithm.Stmt.{Stmt}
-use Rattle.pcal_tree.specs.InMemory.{binds_at, statements_at, branches_at, past_stmt, past_binds, past_statements, past_branches}
+use Rattle.pcal_tree.specs.InMemory.{binds_at, statements_at, branches_at}
 use Rattle.pcal_tree.specs.OffencesNames.{in_body, in_branches}
-use Rattle.pcal_tree.proofs.InMemoryEach.{past_simple_in_list, past_if, past_either, past_with, past_while}
 use Rattle.pcal_tree.proofs.StatementHeights.{height, heights, branch_heights, if_height, either_height, with_height, while_height}
 use Rattle.name_rules.specs.declared.found.Found.{Found}
 use Rattle.name_rules.specs.Finding.{Tells}
@@ -14,23 +13,13 @@ use Rattle.name_rules.specs.Walking.{TellsBinds, TellsStmt}
 use Rattle.name_rules.proofs.BodyLaws.{label_tells, simple_tells, if_tells, either_tells, with_tells, while_tells, body_then, body_done, branches_then, branches_over}
 use Rattle.name_rules.proofs.found.Found.+bodies.Goals as goal
 
-first_within : (n a b k : ℕ) → n ≡ max a b → n ≤ k → a ≤ k
-first_within n a b k e l = omega (arith, e, l)
-
-second_within : (n a b k : ℕ) → n ≡ max a b → n ≤ k → b ≤ k
-second_within n a b k e l = omega (arith, e, l)
-
-number_within : (n e b k : ℕ) → n ≡ max (e + 1) b → n ≤ k → e < k
-number_within n e b k h l = omega (arith, h, l)
-
 pub body-loop-stmt-init : goal.body-loop-stmt-init
 body-loop-stmt-init t c = λ C ps m k g. g
 
 pub body-stmt-requires : goal.body-stmt-requires
 body-stmt-requires t c =
     let less = past_at height c.args.stmts.now c.loop-stmt.stmt-index c.stmt-item.result c.stmt-item.is c.loop-stmt-test.true in
-    let past = past_at past_stmt c.args.stmts.now c.loop-stmt.stmt-index c.stmt-item.result c.stmt-item.is c.loop-stmt-test.true in
-    (omega (arith, less, c.decreases), omega (arith, past, c.requires))
+    omega (arith, less, c.decreases)
 
 pub body-loop-stmt-preserved : goal.body-loop-stmt-preserved
 body-loop-stmt-preserved t c = λ C ps m k g.
@@ -45,8 +34,7 @@ branches-loop-i-init t c = λ C ps m k g. g
 pub branches-body-requires : goal.branches-body-requires
 branches-body-requires t c =
     let less = past_at (λ (b : Vec Stmt Global). heights b.items) c.args.list.now c.loop-i.i c.index-list-i.result c.index-list-i.is c.loop-i-test.true in
-    let past = past_at (λ (b : Vec Stmt Global). past_statements b.items) c.args.list.now c.loop-i.i c.index-list-i.result c.index-list-i.is c.loop-i-test.true in
-    (omega (arith, less, ap heights c.deref.ensures.value, c.decreases), omega (arith, past, ap past_statements c.deref.ensures.value, c.requires))
+    omega (arith, less, ap heights c.deref.ensures.value, c.decreases)
 
 pub branches-loop-i-preserved : goal.branches-loop-i-preserved
 branches-loop-i-preserved t c = λ C ps m k g.
@@ -58,10 +46,8 @@ pub branches-returns : goal.branches-returns
 branches-returns t c = λ C ps m. c.loop-i.invariant C ps m c.loop-i.self (branches_over C ps c.args.pool.now c.loop-i.self c.args.list.now c.loop-i.i c.loop-i-test.false)
 
 pub stmt-branches-requires : goal.stmt-branches-requires
-stmt-branches-requires t c = (
-  omega (arith, either_height c.in-Either.field-0 c.in-Either.list, ap branch_heights c.deref-in-Either.ensures.value, ap height c.in-Either.is, c.decreases),
-  omega (arith, past_either c.in-Either.field-0 c.in-Either.list, ap past_branches c.deref-in-Either.ensures.value, ap past_stmt c.in-Either.is, c.requires),
-)
+stmt-branches-requires t c =
+    omega (arith, either_height c.in-Either.field-0 c.in-Either.list, ap branch_heights c.deref-in-Either.ensures.value, ap height c.in-Either.is, c.decreases)
 
 pub stmt-returns-in-Label : goal.stmt-returns-in-Label
 stmt-returns-in-Label t c = λ C ps m.
@@ -112,44 +98,18 @@ stmt-returns-in_ok-expr-in-While t c =
     (while_tells C ps ts c.args.self.now c.expr-in-While.new.self c.body-in-While.new.self c.in-While.field-0 c.in-While.e c.in-While.body c.in_ok-expr-in-While.ensures
     (subst (λ (ys : List Stmt). Tells c.expr-in-While.new.self c.body-in-While.new.self (in_body C ps (statements_at ts ys))) c.deref-in-While.ensures.value (a C ps m)))) c.body-in-While.ensures
 
-pub stmt-simple-requires : goal.stmt-simple-requires
-stmt-simple-requires t c = subst (λ (n : ℕ). n ≤ length c.args.pool.now) (ap past_stmt c.in-Simple.is ∙ past_simple_in_list c.in-Simple.span c.in-Simple.simple) c.requires
-
-pub stmt-expr-requires : goal.stmt-expr-requires
-stmt-expr-requires t c = number_within _ _ _ _ (ap past_stmt c.in-If.is ∙ past_if c.in-If.field-0 c.in-If.e c.in-If.then c.in-If.otherwise) c.requires
-
 pub stmt-body-requires : goal.stmt-body-requires
 stmt-body-requires t c =
-    let past = ap past_stmt c.in-If.is ∙ past_if c.in-If.field-0 c.in-If.e c.in-If.then c.in-If.otherwise in (
-      omega (arith, if_height c.in-If.field-0 c.in-If.e c.in-If.then c.in-If.otherwise, ap heights c.deref.ensures.value, ap height c.in-If.is, c.decreases),
-      subst (λ (ys : List Stmt). past_statements ys ≤ length c.args.pool.now) (sym c.deref.ensures.value) (first_within _ _ _ _ refl (second_within _ _ _ _ past c.requires)),
-    )
+    omega (arith, if_height c.in-If.field-0 c.in-If.e c.in-If.then c.in-If.otherwise, ap heights c.deref.ensures.value, ap height c.in-If.is, c.decreases)
 
 pub stmt-body-requires-in-If : goal.stmt-body-requires-in-If
 stmt-body-requires-in-If t c =
-    let past = ap past_stmt c.in-If.is ∙ past_if c.in-If.field-0 c.in-If.e c.in-If.then c.in-If.otherwise in (
-      omega (arith, if_height c.in-If.field-0 c.in-If.e c.in-If.then c.in-If.otherwise, ap heights c.deref-in-If.ensures.value, ap height c.in-If.is, c.decreases),
-      subst (λ (ys : List Stmt). past_statements ys ≤ length c.args.pool.now) (sym c.deref-in-If.ensures.value) (second_within _ _ _ _ refl (second_within _ _ _ _ past c.requires)),
-    )
-
-pub stmt-binds-requires : goal.stmt-binds-requires
-stmt-binds-requires t c =
-    subst (λ (bs : List Bind). past_binds bs ≤ length c.args.pool.now) (sym c.deref-in-With.ensures.value)
-    (first_within _ _ _ _ (ap past_stmt c.in-With.is ∙ past_with c.in-With.field-0 c.in-With.binds c.in-With.body) c.requires)
+    omega (arith, if_height c.in-If.field-0 c.in-If.e c.in-If.then c.in-If.otherwise, ap heights c.deref-in-If.ensures.value, ap height c.in-If.is, c.decreases)
 
 pub stmt-body-requires-in-With : goal.stmt-body-requires-in-With
-stmt-body-requires-in-With t c = (
-  omega (arith, with_height c.in-With.field-0 c.in-With.binds c.in-With.body, ap heights c.deref-in-With-2.ensures.value, ap height c.in-With.is, c.decreases),
-  subst (λ (ys : List Stmt). past_statements ys ≤ length c.args.pool.now) (sym c.deref-in-With-2.ensures.value)
-      (second_within _ _ _ _ (ap past_stmt c.in-With.is ∙ past_with c.in-With.field-0 c.in-With.binds c.in-With.body) c.requires),
-)
-
-pub stmt-expr-requires-in-While : goal.stmt-expr-requires-in-While
-stmt-expr-requires-in-While t c = number_within _ _ _ _ (ap past_stmt c.in-While.is ∙ past_while c.in-While.field-0 c.in-While.e c.in-While.body) c.requires
+stmt-body-requires-in-With t c =
+    omega (arith, with_height c.in-With.field-0 c.in-With.binds c.in-With.body, ap heights c.deref-in-With-2.ensures.value, ap height c.in-With.is, c.decreases)
 
 pub stmt-body-requires-in-While : goal.stmt-body-requires-in-While
-stmt-body-requires-in-While t c = (
-  omega (arith, while_height c.in-While.field-0 c.in-While.e c.in-While.body, ap heights c.deref-in-While.ensures.value, ap height c.in-While.is, c.decreases),
-  subst (λ (ys : List Stmt). past_statements ys ≤ length c.args.pool.now) (sym c.deref-in-While.ensures.value)
-      (second_within _ _ _ _ (ap past_stmt c.in-While.is ∙ past_while c.in-While.field-0 c.in-While.e c.in-While.body) c.requires),
-)
+stmt-body-requires-in-While t c =
+    omega (arith, while_height c.in-While.field-0 c.in-While.e c.in-While.body, ap heights c.deref-in-While.ensures.value, ap height c.in-While.is, c.decreases)

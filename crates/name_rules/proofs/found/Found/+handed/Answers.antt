@@ -14,34 +14,34 @@ use Rattle.name_rules.proofs.found.Found.+handed.Goals as goal
 
 pub returns-then-is_subscripted : goal.returns-then-is_subscripted
 returns-then-is_subscripted t c =
-    let n = c.node-node.result.now in
+    let n = c.in-Some.node.now in
     let f = ap (λ (n : Entry). n.form) c.node.view_is in
     let parts = c.deref-parts.ensures.value ∙ ap (λ (n : Entry). n.parts) c.node.view_is in
     on_ok_weaker c.handed.result
     (λ a.
     subst (λ (o : Option Word). Tells c.args.self.now c.handed.new.self (handed_from o c.args.place))
     (ap (λ (is : List ℕ). root (at c.args.pool.now (slice_index_or is 0 0))) parts
-    ∙ deeper_root n c.args.pool.now c.args.e c.node-node.ensures.tree (sym (λ i. is_subscripted (f i) && nat_lt 0 (length (parts i))) ∙ sym c.is_subscripted.ensures ∙ c.if-is_subscripted.true)) a)
+    ∙ deeper_root n c.args.pool.now c.args.e c.in-Some.ensures.some (sym (λ i. is_subscripted (f i) && nat_lt 0 (length (parts i))) ∙ sym c.is_subscripted.ensures ∙ c.if-is_subscripted.true)) a)
     c.handed.ensures
 
 pub returns : goal.returns
 returns t c =
-    let n = c.node-node.result.now in
+    let n = c.in-Some.node.now in
     let f = ap (λ (n : Entry). n.form) c.node.view_is in
     let parts = c.deref-parts.ensures.value ∙ ap (λ (n : Entry). n.parts) c.node.view_is in
     on_ok_weaker c.handed_form.result
     (λ a.
     subst (λ (o : Option Word). Tells c.args.self.now c.handed_form.new.self (handed_from o c.args.place))
     (ap (λ (n : Entry). root_form n.form None) c.node.view_is
-    ∙ flat_root n c.args.pool.now c.args.e c.node-node.ensures.tree (sym (λ i. is_subscripted (f i) && nat_lt 0 (length (parts i))) ∙ sym c.is_subscripted.ensures ∙ c.if-is_subscripted.false)) a)
+    ∙ flat_root n c.args.pool.now c.args.e c.in-Some.ensures.some (sym (λ i. is_subscripted (f i) && nat_lt 0 (length (parts i))) ∙ sym c.is_subscripted.ensures ∙ c.if-is_subscripted.false)) a)
     c.handed_form.ensures
 
 pub handed-requires : goal.handed-requires
 handed-requires t c =
     let parts = c.deref-parts.ensures.value ∙ ap (λ (n : Entry). n.parts) c.node.view_is in
     let some = and_parts (is_subscripted (form_of c.node.inside.form)) (nat_lt 0 (length c.deref-parts.result.now)) (sym c.is_subscripted.ensures ∙ c.if-is_subscripted.true) in
-    let below = AllBelow-at c.args.e c.deref-parts.result.now 0 0 (subst (λ (is : List ℕ). AllBelow c.args.e is) (sym parts) c.node-node.ensures.older) (ltb-true 0 (length c.deref-parts.result.now) some.1) in
-    (omega (arith, below, c.decreases), omega (arith, below, c.requires))
+    let below = AllBelow-at c.args.e c.deref-parts.result.now 0 0 (subst (λ (is : List ℕ). AllBelow c.args.e is) (sym parts) c.in-Some.ensures.older) (ltb-true 0 (length c.deref-parts.result.now) some.1) in
+    omega (arith, below, c.decreases)
 
 pub bounds-parts-0 : goal.bounds-parts-0
 bounds-parts-0 t c =

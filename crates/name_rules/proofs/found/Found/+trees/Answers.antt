@@ -14,10 +14,10 @@ use Rattle.name_rules.proofs.found.Found.+trees.Goals as goal
 
 pub expr-returns : goal.expr-returns
 expr-returns t c =
-    let n = c.node-node.result.now in
+    let n = c.in-Some.node.now in
     let f = ap (λ (n : Entry). n.form) c.node.view_is in
     let parts = c.deref-parts.ensures.value ∙ ap (λ (n : Entry). n.parts) c.node.view_is in
-    node_met c.args.self.now c.form.new.self c.parts.new.self _ n c.args.pool.now c.args.e c.args.right c.node-node.ensures.tree
+    node_met c.args.self.now c.form.new.self c.parts.new.self _ n c.args.pool.now c.args.e c.args.right c.in-Some.ensures.some
     (subst (λ (k : ℕ). Tells c.args.self.now c.form.new.self (λ r. form_offences r c.args.right n.form k n.place)) (ap (λ (is : List ℕ). length is) parts)
     (subst (λ (k : Entry). Tells c.args.self.now c.form.new.self (λ r. form_offences r c.args.right k.form (length c.deref-parts.result.now) k.place)) c.node.view_is c.in_ok-form.ensures))
     (subst (λ (m : Form). TellsParts c.form.new.self c.parts.new.self (in_parts (seen_names m) (is_member m) (trees_at c.args.pool.now n.parts))) f
@@ -27,7 +27,7 @@ expr-returns t c =
 pub parts-expr-requires : goal.parts-expr-requires
 parts-expr-requires t c =
     let below = AllBelow-at c.args.past c.args.parts.now c.loop-i.i 0 c.requires.there c.loop-i-test.true in
-    (omega (arith, below, c.decreases), omega (arith, below, c.requires.inside))
+    omega (arith, below, c.decreases)
 
 pub parts-loop-i-preserved : goal.parts-loop-i-preserved
 parts-loop-i-preserved t c =
@@ -54,10 +54,7 @@ expr-parts-requires t c =
     let parts = c.deref-parts.ensures.value ∙ ap (λ (n : Entry). n.parts) c.node.view_is in (
       omega (arith, c.decreases),
       (
-        subst (λ (is : List ℕ). AllBelow c.args.e is) (sym parts) c.node-node.ensures.older,
-        (
-          omega (arith, c.requires),
-          subst (λ (is : List ℕ). Shaped (form_of c.node.inside.form) (length is)) (sym c.deref-parts.ensures.value) (subst (λ (k : Entry). Shaped k.form (length k.parts)) (sym c.node.view_is) c.node-node.ensures.shaped),
-        ),
+        subst (λ (is : List ℕ). AllBelow c.args.e is) (sym parts) c.in-Some.ensures.older,
+        subst (λ (is : List ℕ). Shaped (form_of c.node.inside.form) (length is)) (sym c.deref-parts.ensures.value) (subst (λ (k : Entry). Shaped k.form (length k.parts)) (sym c.node.view_is) c.in-Some.ensures.shaped),
       ),
     )

@@ -1,23 +1,16 @@
 -- Proves that all that a `with` names is looked at, and bound.
-use Rattle.std.proofs.Common.{ℕ, [], ◌∷◌, ◌∙◌, refl, subst, arith}
+use Rattle.std.proofs.Common.{ℕ, [], ◌∷◌, ◌∙◌, refl, subst}
 use Rattle.tla_tree.specs.Tree.{Name}
 use Rattle.tla_tree.specs.Pool.{at}
-use Rattle.tla_tree.proofs.PoolNumbers.{past_at}
-use Rattle.pcal_tree.specs.InMemory.{past_bind}
 use Rattle.pcal_tree.specs.OffencesNames.{in_whole}
 use Rattle.algorithm_limits.specs.DepthsIn.{Hides}
 use Rattle.name_rules.specs.declared.found.Found.{Found}
 use Rattle.name_rules.specs.Finding.{Tells}
-use Rattle.name_rules.proofs.BodyLaws.{past_number, bind_named, binds_then, binds_done}
+use Rattle.name_rules.proofs.BodyLaws.{bind_named, binds_then, binds_done}
 use Rattle.name_rules.proofs.found.Found.binds.Goals as goal
 
 pub loop-bind-init : goal.loop-bind-init
 loop-bind-init c = λ k g. g
-
-pub expr-requires : goal.expr-requires
-expr-requires c =
-    let less = past_at past_bind c.args.list.now c.loop-bind.bind-index c.bind-item.result c.bind-item.is c.loop-bind-test.true in
-    omega (arith, less, past_number c.bind-item.result, c.expression.ensures, c.requires)
 
 pub loop-bind-preserved : goal.loop-bind-preserved
 loop-bind-preserved c = λ k g.

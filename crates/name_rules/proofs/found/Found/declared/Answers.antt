@@ -1,16 +1,9 @@
 -- Proves that first values are looked at.
-use Rattle.std.proofs.Common.{arith}
-use Rattle.tla_tree.proofs.PoolNumbers.{past_at}
-use Rattle.pcal_tree.specs.InMemory.{past_declaration}
 use Rattle.name_rules.proofs.RoutineLaws.{declared_then, declared_done}
 use Rattle.name_rules.proofs.found.Found.declared.Goals as goal
 
 pub loop-i-init : goal.loop-i-init
 loop-i-init c = λ k g. g
-
-pub start-requires : goal.start-requires
-start-requires c =
-    let less = past_at past_declaration c.args.list.now c.loop-i.i c.index-list-i.result c.index-list-i.is c.loop-i-test.true in omega (arith, less, c.requires)
 
 pub loop-i-preserved : goal.loop-i-preserved
 loop-i-preserved c = λ k g.

@@ -1,16 +1,8 @@
 -- Proves that expressions are looked at, from one on.
-use Rattle.std.proofs.Common.{slice_index_or, arith}
+use Rattle.std.proofs.Common.{slice_index_or}
 use Rattle.std.proofs.lemmas.List.{get_or_default}
-use Rattle.tla_tree.proofs.PoolNumbers.{past_at}
-use Rattle.pcal_tree.specs.InMemory.{past_number}
 use Rattle.name_rules.proofs.TreeLaws.{each_then, each_done}
 use Rattle.name_rules.proofs.found.Found.exprs.Goals as goal
-
-pub expr-requires : goal.expr-requires
-expr-requires c =
-    let e = slice_index_or c.args.es.now c.loop-i.i 0 in
-    let less = past_at past_number c.args.es.now c.loop-i.i e (get_or_default c.args.es.now c.loop-i.i 0 e c.loop-i-test.true) c.loop-i-test.true in
-    omega (arith, less, c.requires)
 
 pub loop-i-preserved : goal.loop-i-preserved
 loop-i-preserved c = λ k g.

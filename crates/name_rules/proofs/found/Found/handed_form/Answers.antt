@@ -1,8 +1,6 @@
 -- Proves that an argument that begins with no name is no variable.
 use Rattle.std.proofs.Common.{Option, ap}
-use Rattle.tla_token.specs.declared.rule.Rule.TheVariants.{NotVariable}
 use Rattle.tla_tree.specs.Tree.{Word}
-use Rattle.pcal_tree.specs.Offences.{offence}
 use Rattle.name_rules.specs.Calling.{handed_from}
 use Rattle.name_rules.proofs.TellLaws.{tells_as}
 use Rattle.name_rules.proofs.CallLaws.{no_root}
@@ -10,5 +8,4 @@ use Rattle.name_rules.proofs.found.Found.handed_form.Goals as goal
 
 pub returns-in_default : goal.returns-in_default
 returns-in_default c =
-    tells_as c.args.self.now c.refuse.new.self _ _ (λ r. ap (λ (o : Option Word). handed_from o c.args.place r) (no_root c.args.form.now c.in_default.not-Name))
-    (c.refuse.ensures (offence NotVariable c.args.place) c.or_offence.ensures)
+    tells_as c.args.self.now c.not_variable.new.self _ _ (λ r. ap (λ (o : Option Word). handed_from o c.args.place r) (no_root c.args.form.now c.in_default.not-Name)) c.not_variable.ensures

@@ -1,9 +1,7 @@
 -- Proves that the first offence of definitions is found, and that they are known then.
-use Rattle.std.proofs.Common.{◌≡◌, ℕ, List, Some, length, get_or, sym, ap, ◌∙◌, subst, arith}
+use Rattle.std.proofs.Common.{◌≡◌, ℕ, List, Some, length, get_or, sym, ap, ◌∙◌, subst}
 use Rattle.tla_tree.specs.Tree.{Name}
-use Rattle.tla_tree.proofs.PoolNumbers.{past_at}
 use Rattle.pcal_tree.specs.declared.algorithm.Definition.{Definition}
-use Rattle.pcal_tree.specs.InMemory.{past_definition}
 use Rattle.pcal_tree.specs.NameUses as names
 use Rattle.name_rules.proofs.RoutineLaws.{defining_start, defining_step, defining_told, known_inside, inside_latest}
 use Rattle.declared_rules.proofs.SeenLaws.{sees_is, latest_all}
@@ -11,11 +9,6 @@ use Rattle.name_rules.proofs.found.Found.of_definitions.Goals as goal
 
 pub loop-i-init : goal.loop-i-init
 loop-i-init c = defining_start c.args.pool.now c.args.list.now c.args.sight.now
-
-pub whole-requires : goal.whole-requires
-whole-requires c =
-    let at_i = subst (λ (d : Definition). d ≡ get_or c.args.list.now c.loop-i.i d) (sym c.one.view_is) c.index-list-i.is in
-    let less = past_at past_definition c.args.list.now c.loop-i.i _ at_i c.loop-i-test.true in omega (arith, less, c.requires)
 
 pub loop-i-preserved : goal.loop-i-preserved
 loop-i-preserved c =

@@ -1,7 +1,6 @@
 -- Proves that the first offence of all is found.
-use Rattle.std.proofs.Common.{◌++◌, ap, ◌∙◌, arith}
-use Rattle.tla_tree.proofs.PoolNumbers.{past_at}
-use Rattle.pcal_tree.specs.InMemory.{declarations_at, statements_at, procedure_at, past_procedure, past_declarations, past_statements}
+use Rattle.std.proofs.Common.{◌++◌, ◌∙◌}
+use Rattle.pcal_tree.specs.InMemory.{declarations_at, statements_at, procedure_at}
 use Rattle.pcal_tree.specs.Offences.{first}
 use Rattle.pcal_tree.specs.OffencesNames.{in_procedure}
 use Rattle.name_rules.specs.Routines.{routine_offences}
@@ -17,11 +16,3 @@ loop-one-preserved c = λ C ps s m h.
 pub returns : goal.returns
 returns c = λ C ps s m h.
     each_done (in_procedure C ps s) (procedure_at c.args.pool.now) _ c.args.list.now c.loop-one.one-index c.loop-one.found c.loop-one-test.false (c.loop-one.invariant C ps s m h)
-
-pub routine-requires : goal.routine-requires
-routine-requires c =
-    let less = past_at past_procedure c.args.list.now c.loop-one.one-index c.one-item.result c.one-item.is c.loop-one-test.true in record {
-      params = omega (arith, less, ap past_declarations c.deref.ensures.value, c.requires);
-      variables = omega (arith, less, ap past_declarations c.deref-in-loop-one.ensures.value, c.requires);
-      body = omega (arith, less, ap past_statements c.deref-in-loop-one-2.ensures.value, c.requires);
-    }

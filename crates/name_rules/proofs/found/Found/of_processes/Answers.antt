@@ -1,8 +1,7 @@
 -- Proves that the first offence of all is found.
-use Rattle.std.proofs.Common.{sym, ap, ◌∙◌, arith}
+use Rattle.std.proofs.Common.{sym, ◌∙◌}
 use Rattle.tla_tree.specs.Pool.{at}
-use Rattle.tla_tree.proofs.PoolNumbers.{past_at}
-use Rattle.pcal_tree.specs.InMemory.{declarations_at, statements_at, process_at, past_process, past_declarations, past_statements}
+use Rattle.pcal_tree.specs.InMemory.{declarations_at, statements_at, process_at}
 use Rattle.pcal_tree.specs.Offences.{first}
 use Rattle.pcal_tree.specs.OffencesNames.{in_whole, in_process}
 use Rattle.algorithm_answer.specs.Joined.{joined}
@@ -24,15 +23,3 @@ loop-one-preserved c = λ C ps s m h.
 pub returns : goal.returns
 returns c = λ C ps s m h.
     each_done (in_process C ps s) (process_at c.args.pool.now) _ c.args.list.now c.loop-one.one-index c.loop-one.found c.loop-one-test.false (c.loop-one.invariant C ps s m h)
-
-pub whole-requires : goal.whole-requires
-whole-requires c =
-    let less = past_at past_process c.args.list.now c.loop-one.one-index c.one-item.result c.one-item.is c.loop-one-test.true in omega (arith, less, c.requires)
-
-pub routine-requires : goal.routine-requires
-routine-requires c =
-    let less = past_at past_process c.args.list.now c.loop-one.one-index c.one-item.result c.one-item.is c.loop-one-test.true in record {
-      params = omega (arith);
-      variables = omega (arith, less, ap past_declarations c.deref.ensures.value, c.requires);
-      body = omega (arith, less, ap past_statements c.deref-in-loop-one.ensures.value, c.requires);
-    }

@@ -1,11 +1,9 @@
 -- Proves that a use of a parameter is looked at as its argument, if it has one.
-use Rattle.std.proofs.Common.{slice_index_or, Some, ap, subst, arith}
+use Rattle.std.proofs.Common.{slice_index_or, Some, ap, subst}
 use Rattle.std.proofs.lemmas.List.{get_or_default}
 use Rattle.std.proofs.lemmas.Result.{on_ok_weaker}
 use Rattle.tla_token.specs.declared.place.Place.{Place}
-use Rattle.tla_tree.proofs.PoolNumbers.{past_at}
 use Rattle.tla_tree.specs.Pool.{at}
-use Rattle.pcal_tree.specs.InMemory.{past_number}
 use Rattle.pcal_tree.specs.NameUses.{Use, variable}
 use Rattle.pcal_tree.specs.laws.MacroUses.{offences_as}
 use Rattle.declared_rules.specs.UsesTold.{use_as, place_in}
@@ -14,12 +12,6 @@ use Rattle.name_rules.specs.Calling.{use_through}
 use Rattle.name_rules.proofs.TellLaws.{tells_as}
 use Rattle.name_rules.proofs.CallLaws.{through_first, through_none}
 use Rattle.name_rules.proofs.found.Found.parameter.Goals as goal
-
-pub argument-requires : goal.argument-requires
-argument-requires c =
-    let e = slice_index_or c.args.es.now c.args.number 0 in
-    let less = past_at past_number c.args.es.now c.args.number e (get_or_default c.args.es.now c.args.number 0 e c.if-number-es.true) c.if-number-es.true in
-    omega (arith, less, c.requires)
 
 pub returns-then-number-es : goal.returns-then-number-es
 returns-then-number-es c =

@@ -1,7 +1,5 @@
 -- Proves that calls offend what is kept of macros.
-use Rattle.std.proofs.Common.{refl, arith, take}
-use Rattle.tla_tree.proofs.PoolNumbers.{past_at}
-use Rattle.pcal_tree.specs.InMemory.{past_macro}
+use Rattle.std.proofs.Common.{refl, take}
 use Rattle.name_rules.specs.declared.macros.Callees.{Callees}
 use Rattle.name_rules.specs.Keeping.{procedures_at, calls_at}
 use Rattle.name_rules.proofs.KeepLaws.{macros_none, macros_more, macros_all}
@@ -12,10 +10,6 @@ loop-one-init c = λ e q.
     let ts = c.args.pool.now in
     let k : Callees = record { macros = c.args.self.now.macros; procedures = c.add_arities.new.arities } in
     macros_none k ts (procedures_at ts c.args.procedures.now) c.args.macros.now e (c.in_ok-add_arities.ensures q ts)
-
-pub add_macro-requires : goal.add_macro-requires
-add_macro-requires c =
-    let past = past_at past_macro c.args.macros.now c.loop-one.one-index c.one-item.result c.one-item.is c.loop-one-test.true in omega (arith, past, c.requires)
 
 pub loop-one-preserved : goal.loop-one-preserved
 loop-one-preserved c = λ e q.

@@ -1,11 +1,10 @@
 -- Proves that what definitions read is known besides.
-use Rattle.std.proofs.Common.{List, ◌+◌, refl, sym, ap, subst, ◌∙◌, arith, length, take, reverse, filter}
+use Rattle.std.proofs.Common.{List, ◌+◌, refl, sym, ap, subst, ◌∙◌, length, take, reverse, filter}
 use Rattle.std.proofs.lemmas.List.{take_all}
-use Rattle.tla_tree.proofs.PoolNumbers.{past_at}
 use Rattle.tla_tree.specs.Tree.{words}
 use Rattle.tla_tree.specs.Pool.{at}
 use Rattle.pcal_tree.specs.declared.algorithm.Definition.{Definition}
-use Rattle.pcal_tree.specs.InMemory.{definitions_at, past_definition}
+use Rattle.pcal_tree.specs.InMemory.{definitions_at}
 use Rattle.pcal_tree.specs.Reads.{Reading, among_looked_at, readings, used}
 use Rattle.algorithm_limits.specs.Numbers.{with_number}
 use Rattle.read_rules.specs.ReadsIn.{AreReads}
@@ -14,10 +13,6 @@ use Rattle.read_rules.proofs.definitions.Reads.add_definitions.Goals as goal
 
 pub loop-definition-init : goal.loop-definition-init
 loop-definition-init c = λ gs e n. n
-
-pub variables_of-requires : goal.variables_of-requires
-variables_of-requires c =
-    let less = past_at past_definition c.args.definitions.now c.loop-definition.definition-index c.definition-item.result c.definition-item.is c.loop-definition-test.true in omega (arith, less, c.requires)
 
 pub loop-definition-preserved : goal.loop-definition-preserved
 loop-definition-preserved c = λ gs e n.

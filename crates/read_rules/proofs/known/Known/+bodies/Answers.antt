@@ -7,9 +7,9 @@ use Rattle.tla_tree.specs.Pool.{at}
 use Rattle.pcal_tree.specs.declared.algorithm.Stmt.{Stmt}
 use Rattle.pcal_tree.specs.declared.algorithm.Stmt.TheVariants.{If, Either, With, While}
 use Rattle.pcal_tree.specs.Algorithm.{branch, either, with, while}
-use Rattle.pcal_tree.specs.InMemory.{binds_at, statements_at, branches_at, past_stmt, past_statements, past_branches}
+use Rattle.pcal_tree.specs.InMemory.{binds_at, statements_at, branches_at}
 use Rattle.pcal_tree.specs.laws.MacroSpots.{Use, uses_of_binds, Trail, Called, seen_in_call, seen_in_body, unlabelled}
-use Rattle.pcal_tree.proofs.InMemoryEach.{past_either, if_at, either_at, with_at, while_at}
+use Rattle.pcal_tree.proofs.InMemoryEach.{if_at, either_at, with_at, while_at}
 use Rattle.pcal_tree.proofs.StatementHeights.{height, heights, branch_heights, either_height}
 use Rattle.read_rules.specs.declared.uses.Use as memory
 use Rattle.read_rules.specs.declared.walk.Group.{Group}
@@ -27,8 +27,7 @@ body-loop-stmt-init t c = λ ms ps k w g. g
 pub body-stmt-requires : goal.body-stmt-requires
 body-stmt-requires t c =
     let less = past_at height c.args.stmts.now c.loop-stmt.stmt-index c.stmt-item.result c.stmt-item.is c.loop-stmt-test.true in
-    let past = past_at past_stmt c.args.stmts.now c.loop-stmt.stmt-index c.stmt-item.result c.stmt-item.is c.loop-stmt-test.true in
-    (omega (arith, less, c.decreases), omega (arith, past, c.requires))
+    omega (arith, less, c.decreases)
 
 pub body-loop-stmt-preserved : goal.body-loop-stmt-preserved
 body-loop-stmt-preserved t c = λ ms ps k w g.
@@ -59,10 +58,8 @@ stmt-returns-in-Simple t c =
     (simple_goes (seen_in_call ms) ps c.args.pool.now c.in-Simple.span c.in-Simple.simple c.args.ways.now c.simple.new.ways (done ms ps k))) c.simple.ensures
 
 pub stmt-either-requires : goal.stmt-either-requires
-stmt-either-requires t c = (
-  omega (arith, either_height c.in-Either.field-0 c.in-Either.list, ap branch_heights c.deref-in-Either.ensures.value, ap height c.in-Either.is, c.decreases),
-  omega (arith, past_either c.in-Either.field-0 c.in-Either.list, ap past_branches c.deref-in-Either.ensures.value, ap past_stmt c.in-Either.is, c.requires),
-)
+stmt-either-requires t c =
+    omega (arith, either_height c.in-Either.field-0 c.in-Either.list, ap branch_heights c.deref-in-Either.ensures.value, ap height c.in-Either.is, c.decreases)
 
 pub stmt-returns-in-If : goal.stmt-returns-in-If
 stmt-returns-in-If t c =
@@ -169,8 +166,7 @@ rounds-returns t c = λ ms ps p u r k.
 pub branches-fork-requires : goal.branches-fork-requires
 branches-fork-requires t c =
     let less = past_at (λ (b : Vec Stmt Global). heights b.items) c.args.list.now c.loop-i.i c.index-list-i.result c.index-list-i.is c.loop-i-test.true in
-    let past = past_at (λ (b : Vec Stmt Global). past_statements b.items) c.args.list.now c.loop-i.i c.index-list-i.result c.index-list-i.is c.loop-i-test.true in
-    (omega (arith, less, ap heights c.deref.ensures.value, c.decreases), omega (arith, past, ap past_statements c.deref.ensures.value, c.requires))
+    omega (arith, less, ap heights c.deref.ensures.value, c.decreases)
 
 pub branches-loop-i-init : goal.branches-loop-i-init
 branches-loop-i-init t c = λ ms ps k w e g. g

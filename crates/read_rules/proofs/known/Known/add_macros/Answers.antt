@@ -1,9 +1,8 @@
 -- Proves that macros are known besides.
-use Rattle.std.proofs.Common.{List, ◌+◌, length, refl, sym, ap, subst, ◌∙◌, arith, map, take, reverse}
+use Rattle.std.proofs.Common.{List, ◌+◌, length, refl, sym, ap, subst, ◌∙◌, map, take, reverse}
 use Rattle.std.proofs.lemmas.List.{take_all}
-use Rattle.tla_tree.proofs.PoolNumbers.{past_at}
 use Rattle.pcal_tree.specs.declared.algorithm.Macro.{Macro}
-use Rattle.pcal_tree.specs.InMemory.{macro_at, past_macro}
+use Rattle.pcal_tree.specs.InMemory.{macro_at}
 use Rattle.pcal_tree.specs.laws.MacroSpots.{MacroSeen}
 use Rattle.algorithm_limits.specs.Numbers.{with_number}
 use Rattle.read_rules.specs.KnownIn.{Knows}
@@ -15,10 +14,6 @@ use Rattle.read_rules.proofs.known.Known.add_macros.Goals as goal
 
 pub loop-one-init : goal.loop-one-init
 loop-one-init c = λ ps a. a
-
-pub summary-requires : goal.summary-requires
-summary-requires c =
-    let less = past_at past_macro c.args.macros.now c.loop-one.one-index c.one-item.result c.one-item.is c.loop-one-test.true in omega (arith, less, c.requires)
 
 pub loop-one-preserved : goal.loop-one-preserved
 loop-one-preserved c = λ ps a.

@@ -4,8 +4,7 @@ use Rattle.std.proofs.lemmas.Result.{on_ok_weaker}
 use Rattle.tla_tree.proofs.PoolNumbers.{past_at}
 use Rattle.pcal_tree.specs.declared.algorithm.Bind.{Bind}
 use Rattle.pcal_tree.specs.declared.algorithm.Stmt.{Stmt}
-use Rattle.pcal_tree.specs.InMemory.{statements_at, branches_at, past_stmt, past_statements, past_branches}
-use Rattle.pcal_tree.proofs.InMemoryEach.{past_either}
+use Rattle.pcal_tree.specs.InMemory.{statements_at, branches_at}
 use Rattle.pcal_tree.proofs.StatementHeights.{height, heights, branch_heights, either_height}
 use Rattle.read_rules.specs.BodyNames.{names_in, names_in_some}
 use Rattle.read_rules.specs.declared.used.Used.{Used}
@@ -20,8 +19,7 @@ body-loop-stmt-init t c = λ k g. g
 pub body-stmt-requires : goal.body-stmt-requires
 body-stmt-requires t c =
     let less = past_at height c.args.stmts.now c.loop-stmt.stmt-index c.stmt-item.result c.stmt-item.is c.loop-stmt-test.true in
-    let past = past_at past_stmt c.args.stmts.now c.loop-stmt.stmt-index c.stmt-item.result c.stmt-item.is c.loop-stmt-test.true in
-    (omega (arith, less, c.decreases), omega (arith, past, c.requires))
+    omega (arith, less, c.decreases)
 
 pub body-loop-stmt-preserved : goal.body-loop-stmt-preserved
 body-loop-stmt-preserved t c = λ k g.
@@ -36,8 +34,7 @@ branches-loop-i-init t c = λ k g. g
 pub branches-body-requires : goal.branches-body-requires
 branches-body-requires t c =
     let less = past_at (λ (b : Vec Stmt Global). heights b.items) c.args.list.now c.loop-i.i c.index-list-i.result c.index-list-i.is c.loop-i-test.true in
-    let past = past_at (λ (b : Vec Stmt Global). past_statements b.items) c.args.list.now c.loop-i.i c.index-list-i.result c.index-list-i.is c.loop-i-test.true in
-    (omega (arith, less, ap heights c.deref.ensures.value, c.decreases), omega (arith, past, ap past_statements c.deref.ensures.value, c.requires))
+    omega (arith, less, ap heights c.deref.ensures.value, c.decreases)
 
 pub branches-loop-i-preserved : goal.branches-loop-i-preserved
 branches-loop-i-preserved t c = λ k g.
@@ -49,10 +46,8 @@ pub branches-returns : goal.branches-returns
 branches-returns t c = c.loop-i.invariant c.loop-i.self (branches_over c.args.pool.now c.loop-i.self c.args.list.now c.loop-i.i c.loop-i-test.false)
 
 pub stmt-branches-requires : goal.stmt-branches-requires
-stmt-branches-requires t c = (
-  omega (arith, either_height c.in-Either.field-0 c.in-Either.list, ap branch_heights c.deref-in-Either.ensures.value, ap height c.in-Either.is, c.decreases),
-  omega (arith, past_either c.in-Either.field-0 c.in-Either.list, ap past_branches c.deref-in-Either.ensures.value, ap past_stmt c.in-Either.is, c.requires),
-)
+stmt-branches-requires t c =
+    omega (arith, either_height c.in-Either.field-0 c.in-Either.list, ap branch_heights c.deref-in-Either.ensures.value, ap height c.in-Either.is, c.decreases)
 
 pub stmt-returns-in-Label : goal.stmt-returns-in-Label
 stmt-returns-in-Label t c =

@@ -1,26 +1,12 @@
 -- Proves that the names of left and right sides are met.
-use Rattle.std.proofs.Common.{slice_index_or, arith}
+use Rattle.std.proofs.Common.{slice_index_or}
 use Rattle.std.proofs.lemmas.List.{get_or_default}
-use Rattle.tla_tree.proofs.PoolNumbers.{past_at}
 use Rattle.pcal_tree.specs.declared.algorithm.Assignment.{Assignment}
-use Rattle.pcal_tree.specs.InMemory.{past_assignment}
 use Rattle.read_rules.proofs.BodyLaws.{assigned_then, assigned_done}
 use Rattle.read_rules.proofs.used.Used.assignments.Goals as goal
 
 abbrev none : Assignment
 none = record { left = 0; right = 0 }
-
-pub expr-requires : goal.expr-requires
-expr-requires c =
-    let i = c.loop-assignment.assignment-index in
-    let m = slice_index_or c.args.list.now i none in
-    let less = past_at past_assignment c.args.list.now i m (get_or_default c.args.list.now i none m c.loop-assignment-test.true) c.loop-assignment-test.true in omega (arith, less, c.requires)
-
-pub expr-requires-in-loop-assignment : goal.expr-requires-in-loop-assignment
-expr-requires-in-loop-assignment c =
-    let i = c.loop-assignment.assignment-index in
-    let m = slice_index_or c.args.list.now i none in
-    let less = past_at past_assignment c.args.list.now i m (get_or_default c.args.list.now i none m c.loop-assignment-test.true) c.loop-assignment-test.true in omega (arith, less, c.requires)
 
 pub loop-assignment-preserved : goal.loop-assignment-preserved
 loop-assignment-preserved c = λ k g.

@@ -1,16 +1,9 @@
 -- Proves that the names of all that a `with` names are met.
-use Rattle.std.proofs.Common.{arith}
-use Rattle.tla_tree.proofs.PoolNumbers.{past_at}
-use Rattle.pcal_tree.specs.InMemory.{past_bind}
 use Rattle.read_rules.proofs.BodyLaws.{binds_start, binds_step, binds_done}
 use Rattle.read_rules.proofs.used.Used.binds.Goals as goal
 
 pub loop-bind-init : goal.loop-bind-init
 loop-bind-init c = binds_start c.args.pool.now c.args.list.now c.args.self.now
-
-pub bind-requires : goal.bind-requires
-bind-requires c =
-    let less = past_at past_bind c.args.list.now c.loop-bind.bind-index c.bind-item.result c.bind-item.is c.loop-bind-test.true in omega (arith, less, c.requires)
 
 pub loop-bind-preserved : goal.loop-bind-preserved
 loop-bind-preserved c =

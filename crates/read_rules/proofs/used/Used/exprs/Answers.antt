@@ -1,19 +1,11 @@
 -- Proves that the names of expressions are met.
-use Rattle.std.proofs.Common.{slice_index_or, arith}
+use Rattle.std.proofs.Common.{slice_index_or}
 use Rattle.std.proofs.lemmas.List.{get_or_default}
-use Rattle.tla_tree.proofs.PoolNumbers.{past_at}
-use Rattle.pcal_tree.specs.InMemory.{past_number}
 use Rattle.read_rules.proofs.BodyLaws.{trees_then, trees_done}
 use Rattle.read_rules.proofs.used.Used.exprs.Goals as goal
 
 pub loop-i-init : goal.loop-i-init
 loop-i-init c = λ k g. g
-
-pub expr-requires : goal.expr-requires
-expr-requires c =
-    let e = slice_index_or c.args.es.now c.loop-i.i 0 in
-    let less = past_at past_number c.args.es.now c.loop-i.i e (get_or_default c.args.es.now c.loop-i.i 0 e c.loop-i-test.true) c.loop-i-test.true in
-    omega (arith, less, c.requires)
 
 pub loop-i-preserved : goal.loop-i-preserved
 loop-i-preserved c = λ k g.
