@@ -5,6 +5,7 @@ ghost use Rattle.tla_token.specs.Limits.{past_text};
 
 use crate::scanning::{put_stop, put_text};
 use expr_nodes::quote::unquoted;
+use module_write::ways::sets;
 use std::alloc::{AllocError, Global};
 use tla_expr::laws::given_numbers_fit;
 use tla_expr::read_expr;
@@ -75,6 +76,25 @@ fn put_read(
         }
     }
     told.extend_from_slice(text.bytes())
+}
+
+/// Appends how many sets an expression has for so many processes.
+pub fn put_sets(
+    alloc: Global,
+    told: &mut Vec<u8>,
+    text: &[u8],
+    processes: usize,
+) -> Result<(), AllocError>
+    requires { length text.now < past_text }
+{
+    let mut pool = Pool::new(alloc);
+    match read(alloc, text, 0, &mut pool) {
+        Ok((e, _)) => {
+            let found = sets(alloc, &pool, processes, e)?.len();
+            put_text(told, format!(in alloc; "{found}")?)
+        }
+        Err(stop) => put_stop(alloc, told, stop),
+    }
 }
 
 /// Appends the text that bytes between quotes stand for.

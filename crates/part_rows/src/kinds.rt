@@ -1,10 +1,10 @@
 //! What a part asks, by its words: the call that is made on its text.
 
 use crate::algorithms::put_algorithm;
-use crate::expressions::{Told, put_expression, put_unquoted};
+use crate::expressions::{Told, put_expression, put_sets, put_unquoted};
 use crate::made::put_made;
 use crate::modules::{put_parts, put_translated};
-use crate::reads::put_module_read;
+use crate::reads::{put_module_read, put_written};
 use crate::scanning::{put_pieces, put_places, put_tokens, put_views};
 use crate::wording::put_command;
 use std::alloc::{AllocError, Global};
@@ -36,7 +36,9 @@ pub fn put_answer(
         "words" => put_command(alloc, told, text),
         "parts" => put_parts(alloc, told, text),
         "module" => put_module_read(alloc, told, text),
+        "sets" => put_sets(alloc, told, text, number(rest)),
         "translated" => put_translated(alloc, told, text, rest),
+        "written" => put_written(alloc, told, text),
         "made" => put_made(alloc, told, rest),
         _ => told.extend_from_slice(b"there is no such kind"),
     }
@@ -47,7 +49,7 @@ fn edge(word: &str) -> u32 {
     word.parse().unwrap_or(0)
 }
 
-// The number of a token; 0 where none stands there.
+// The number of a token or of processes; 0 where none stands there.
 fn number(word: &str) -> usize {
     word.parse().unwrap_or(0)
 }

@@ -1,7 +1,6 @@
 //! What is made in memory, since no text spells it: a case of each name.
 
 use crate::formulas::{put_functions, put_over_self};
-use crate::regions::{each_process_has_its_set, put_region};
 use crate::scanning::put_rules;
 use crate::{pools, values};
 use std::alloc::{AllocError, Global};
@@ -10,7 +9,6 @@ use std::alloc::{AllocError, Global};
 pub fn put_made(alloc: Global, told: &mut Vec<u8>, case: &str) -> Result<(), AllocError> {
     match case {
         "rules" => put_rules(alloc, told),
-        "region" => put_region(alloc, told),
         "formula over self" => put_over_self(alloc, told),
         "set of functions" => put_functions(alloc, told),
         "ranks" => pools::put_ranks(alloc, told),
@@ -21,7 +19,6 @@ pub fn put_made(alloc: Global, told: &mut Vec<u8>, case: &str) -> Result<(), All
 // Whether what a case says is so.
 fn is_so(alloc: Global, case: &str) -> Result<bool, AllocError> {
     match case {
-        "sets of processes" => each_process_has_its_set(alloc),
         "names" => pools::names_are_kept(alloc),
         "texts" => pools::texts_are_kept(alloc),
         "copy of a form" => pools::a_copy_of_a_form_has_the_same_groups(alloc),

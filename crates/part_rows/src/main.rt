@@ -10,7 +10,6 @@ mod made;
 mod modules;
 mod pools;
 mod reads;
-mod regions;
 mod scanning;
 mod values;
 mod wording;

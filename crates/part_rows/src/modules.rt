@@ -2,7 +2,6 @@
 
 ghost use Rattle.std.specs.Prelude.{◌<◌, ◌^◌, length};
 
-use crate::regions::put_module;
 use crate::scanning::{put_stop, put_text};
 use module_text::{Parts, split, with_translation};
 use std::alloc::{AllocError, Global};
@@ -34,7 +33,7 @@ fn put_split(alloc: Global, told: &mut Vec<u8>, parts: &Parts) -> Result<(), All
     put_text(told, format!(in alloc; " {before} {after}")?)
 }
 
-/// Appends a file with a line as its translation; or, where there is no line, with the translation of a sample in memory.
+/// Appends a file with a line as its translation.
 pub fn put_translated(
     alloc: Global,
     told: &mut Vec<u8>,
@@ -44,7 +43,6 @@ pub fn put_translated(
     requires { length text.now < 2 ^ 29 }
 {
     match split(alloc, text) {
-        Ok(parts) if line.is_empty() => put_module(alloc, told, &parts),
         Ok(parts) => {
             let region = format!(in alloc; "{line}\n")?;
             let written = with_translation(alloc, &parts, region.as_bytes())?;

@@ -1,11 +1,12 @@
-//! Modules, read back from their texts.
+//! Modules, read back from their texts, and written into them again.
 
 ghost use Rattle.std.specs.Prelude.{◌<◌, ◌^◌, length};
 
 use crate::scanning::{put_stop, put_text};
-use module_text::{Outside, read_module, write_region};
+use module_text::{Outside, read_module, split, write_module, write_region};
 use std::alloc::{AllocError, Global};
 use tla_pool::Pool;
+use tla_token::Stop;
 use tla_tree::{Name, Text};
 
 fn put_name(told: &mut Vec<u8>, name: &Name) -> Result<(), AllocError> {
@@ -46,4 +47,24 @@ pub fn put_module_read(alloc: Global, told: &mut Vec<u8>, text: &[u8]) -> Result
         }
         Err(stop) => put_stop(alloc, told, stop),
     }
+}
+
+/// Appends a file with the translation that it has, as it is written.
+pub fn put_written(alloc: Global, told: &mut Vec<u8>, text: &[u8]) -> Result<(), AllocError>
+    requires { length text.now < 2 ^ 29 }
+{
+    match file_written(alloc, text) {
+        Ok(file) => told.extend_from_slice(&file),
+        Err(stop) => put_stop(alloc, told, stop),
+    }
+}
+
+fn file_written(alloc: Global, text: &[u8]) -> Result<Vec<u8>, Stop>
+    requires { length text.now < 2 ^ 29 }
+{
+    let parts = split(alloc, text)?;
+    let mut pool = Pool::new(alloc);
+    let module = read_module(alloc, text, &mut pool)?;
+    let file = write_module(alloc, &pool, &parts, &module)?;
+    Ok(file)
 }
