@@ -2,8 +2,8 @@
 #![tactic(auto)]
 
 pub mod add;
-pub mod bodies;
-pub mod choose;
+mod bodies;
+mod choose;
 pub mod seen;
-pub mod typed;
-pub mod within;
+mod typed;
+mod within;

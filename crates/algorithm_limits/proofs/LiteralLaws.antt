@@ -1,4 +1,4 @@
--- What holds of each literal, and that a single part which is one is found.
+-- What holds of each literal.
 use Rattle.std.proofs.Common.{◌≡◌, ℕ, ◌+◌, Bool, true, false, ◌&&◌, List, [], ◌∷◌, length, drop, get_or, refl, sym, ap, ◌∙◌, arith}
 use Rattle.std.proofs.lemmas.List.{drop_more, drop_all}
 use Rattle.tla_token.specs.declared.place.Place.{Place}
@@ -39,16 +39,3 @@ more_literals t ts e = both (is_literal_tree t) (are_literals ts) e
     both : (a b : Bool) → (a && b) ≡ true → b ≡ true
     both true b e = e
     both false b e = cc
-
--- ---- a single part that is left
-
-pub one_left : (ts : List Tree) (ids : List ℕ) (i e : ℕ) (n : Entry) → length ids ≡ i + 2 → e ≡ get_or ids (i + 1) e → at ts e ≡ tree_in ts n → length n.parts ≡ 0 → is_literal n.form ≡ true
-    → are_literals (trees_at ts (drop (i + 1) ids)) ≡ true
-one_left ts ids i e n len is shape none lit =
-    ap (λ (js : List ℕ). are_literals (trees_at ts js))
-    (drop_more ids (i + 1) e (omega (arith, len)) ∙ ap (λ (js : List ℕ). get_or ids (i + 1) e ∷ js) (drop_all (i + 1 + 1) ids (omega (arith, len))) ∙ ap (λ (z : ℕ). z ∷ []) (sym is))
-    ∙ ap (λ (t : Tree). is_literal_tree t && true) shape ∙ ap (λ (b : Bool). b && true) (leaf n.parts none)
-  where
-    leaf : (is : List ℕ) → length is ≡ 0 → is_literal_tree (node n.form n.place (trees_at ts is)) ≡ true
-    leaf [] h = lit
-    leaf (j ∷ js) h = absurd (omega (arith, h))

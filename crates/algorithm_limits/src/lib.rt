@@ -2,16 +2,16 @@
 #![tactic(auto)]
 
 pub mod bound;
-pub mod chains;
-pub mod count;
+mod chains;
+mod count;
 pub mod labels;
-pub mod limits;
+mod limits;
 pub mod literal;
-pub mod names;
-pub mod nesting;
+mod names;
+mod nesting;
 pub mod order;
 pub mod table;
-pub mod tokens;
+mod tokens;
 
 pub use limits::{count_refusal, within_limits};
 pub use order::least;

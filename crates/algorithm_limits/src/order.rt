@@ -7,8 +7,8 @@ ghost use Rattle.algorithm_answer.specs.Joined.{joined};
 use tla_token::rule::number;
 use tla_token::{Place, Refusal, Rule};
 
-// Whether a place comes before another in the text.
-fn is_before(a: Place, b: Place) -> bool
+/// Whether a place comes before another in the text.
+pub fn is_before(a: Place, b: Place) -> bool
     ensures { result ≡ is_before a b }
 {
     a.line < b.line || (a.line == b.line && a.col < b.col)

@@ -2,22 +2,22 @@
 #![tactic(auto)]
 
 pub mod answer;
-pub mod arguments;
-pub mod assignments;
+mod arguments;
+mod assignments;
 pub mod binds;
 pub mod colon;
 pub mod definitions;
 pub mod expression;
 pub mod head;
-pub mod left;
-pub mod macros;
-pub mod names;
-pub mod parameters;
-pub mod procedures;
+mod left;
+mod macros;
+mod names;
+mod parameters;
+mod procedures;
 pub mod processes;
 pub mod simple;
 pub mod token_step;
-pub mod variables;
+mod variables;
 pub mod ways;
 pub mod whole_algorithm;
 pub mod words;

@@ -2,8 +2,8 @@
 #![tactic(auto)]
 
 pub mod check;
-pub mod labels;
-pub mod map;
+mod labels;
+mod map;
 
 pub use check::check_text;
 pub use map::map_text;

@@ -1,11 +1,11 @@
 -- What uses of names tell of a place: the first offence there, by what the names may be used as.
-use Rattle.std.specs.Prelude.{◌≡◌, ◌==◌, ℕ, List, [], Bool, Option, Some, None, cond}
+use Rattle.std.specs.Prelude.{◌≡◌, ◌==◌, ℕ, List, [], Bool, false, Option, Some, None, cond}
 use Rattle.std.specs.List.{list_any, flat_map}
 use Rattle.std.specs.Cmp.Lexicographic.{pointwise}
 use Rattle.tla_token.specs.declared.place.Place.{Place}
 use Rattle.tla_token.specs.declared.rule.Refusal.{Refusal}
 use Rattle.tla_tree.specs.Tree.{Word}
-use Rattle.pcal_tree.specs.Offences.{first}
+use Rattle.pcal_tree.specs.Offences.{first, is_before}
 use Rattle.tla_value.specs.StandardModules.{StandardName}
 use Rattle.pcal_tree.specs.NameUses as names
 use Rattle.pcal_tree.specs.NameUses.{takes, Sight, use_of}
@@ -41,6 +41,10 @@ use_as kind.Handed x at = pure.handed x at
 
 abbrev pub place_in : NameUse → Place
 place_in v = record { line = v.line; col = v.col }
+
+-- it is the same use of this name, and no later than this place
+abbrev pub IsEarlier : NameUse → Kind → Word → Place → Type 0
+IsEarlier v k x at = (v.kind ≡ k) × (v.name ≡ x) × (is_before at (place_in v) ≡ false)
 
 -- what a use of a name offends where these names are known
 abbrev pub used : Kind → Word → Place → Sight → List Refusal

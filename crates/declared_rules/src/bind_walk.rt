@@ -1,13 +1,14 @@
 //! What was found in a text that was gone through: the first offence, and what may offend where the text is put in.
 
-ghost use Rattle.std.specs.Prelude.{IsTrue, ◌∷◌, [], Bool, map, cond, OnOk};
+ghost use Rattle.std.specs.Prelude.{IsTrue, ℕ, ◌<◌, ◌∷◌, [], Bool, map, length, slice_index_or, cond, OnOk};
 ghost use Rattle.std.specs.List.{flat_map};
 ghost use Rattle.tla_token.specs.declared.rule.Rule.TheVariants as rule;
 ghost use Rattle.tla_tree.specs.Tree.{Word};
 ghost use Rattle.pcal_tree.specs.Offences.{offence_if};
 ghost use Rattle.pcal_tree.specs.OffencesRebind.{naming, brought, rebound, rebound_all};
 ghost use Rattle.pcal_tree.specs.laws.MacroBindings.{beneath, offences_where};
-ghost use Rattle.declared_rules.specs.Telling.{binding_of, IsNew, Gains, Adds};
+ghost use Rattle.declared_rules.specs.declared.binding.Binding.{Binding as PureBinding};
+ghost use Rattle.declared_rules.specs.Telling.{binding_of, IsEarlier, IsNew, Gains, Adds};
 
 use crate::binding::Binding;
 use crate::sight::Sight;
@@ -59,7 +60,8 @@ impl Walk {
 
     // Whether one of the first names that are kept is the same, bound no later: where this one offends, that one does.
     fn is_told(&self, name: &PlacedName) -> bool
-        ensures { IsTrue result → Gains self.now self.now (λ ms s. rebound ms s name.now) }
+        ensures tells { IsTrue result → Gains self.now self.now (λ ms s. rebound ms s name.now) }
+        ensures looks { (k : ℕ) (d : PureBinding) → k < 16 → k < length self.now.free.keys → IsEarlier (slice_index_or self.now.free.keys k d) name.now → IsTrue result }
     {
         let list = self.free.as_slice();
         for i in 0..list.len() {

@@ -1,8 +1,9 @@
 //! What may offend where a macro is called: names that are bound in it, and names for which other text may be put in.
 
-ghost use Rattle.std.specs.Prelude.{IsTrue};
+ghost use Rattle.std.specs.Prelude.{IsTrue, ◌↔◌};
 ghost use Rattle.declared_rules.specs.Telling.{IsEarlier};
 
+use algorithm_limits::order::is_before;
 use std::hash::{Hash, Hasher};
 use tla_tree::{Name, PlacedName};
 
@@ -20,17 +21,10 @@ pub enum Binding {
 impl Binding {
     /// Whether it is this name, bound no later.
     pub fn is_earlier(&self, name: &PlacedName) -> bool
-        ensures { IsTrue result → IsEarlier self.now name.now }
+        ensures { IsTrue result ↔ IsEarlier self.now name.now }
     {
         match self {
-            Binding::Bound(one) => {
-                if name.place.line < one.place.line
-                    || (name.place.line == one.place.line && name.place.col < one.place.col)
-                {
-                    return false;
-                }
-                one.name.is(&name.name)
-            }
+            Binding::Bound(one) => one.name.is(&name.name) && !is_before(name.place, one.place),
             _ => false,
         }
     }

@@ -2,28 +2,28 @@
 //! names may be used as.
 #![tactic(auto)]
 
-pub mod bind_walk;
-pub mod binding;
+mod bind_walk;
+mod binding;
 pub mod bodies;
-pub mod exprs;
-pub mod found;
-pub mod kept;
+mod exprs;
+mod found;
+mod kept;
 pub mod macros;
-pub mod met;
-pub mod names;
-pub mod outside;
-pub mod outside_words;
-pub mod own;
-pub mod pieces;
-pub mod processes;
-pub mod put;
-pub mod rebinds;
+mod met;
+mod names;
+mod outside;
+mod outside_words;
+mod own;
+mod pieces;
+mod processes;
+mod put;
+mod rebinds;
 pub mod refusal;
-pub mod sight;
-pub mod sweep;
-pub mod units;
+mod sight;
+mod sweep;
+mod units;
 pub mod use_sight;
 pub mod using;
-pub mod walk;
+mod walk;
 
 pub use rebinds::rebind_refusal;

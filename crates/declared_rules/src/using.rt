@@ -1,13 +1,13 @@
 //! Uses of names, what names may be used as, and what a use offends.
 
-ghost use Rattle.std.specs.Prelude.{◌≡◌, ◌&&◌, not, false, Some, IsTrue};
+ghost use Rattle.std.specs.Prelude.{◌≡◌, ◌&&◌, not, Some, IsTrue, ◌↔◌};
 ghost use Rattle.tla_tree.specs.Tree.{Word};
-ghost use Rattle.pcal_tree.specs.Offences.{first, is_before};
+ghost use Rattle.pcal_tree.specs.Offences.{first};
 ghost use Rattle.pcal_tree.specs.NameUses.{applied_offences, left_offences, handed_use};
 ghost use Rattle.pcal_tree.specs.laws.MacroUses.{offences_as};
-ghost use Rattle.declared_rules.specs.UsesTold.{use_seen, use_as, place_in};
+ghost use Rattle.declared_rules.specs.UsesTold.{use_seen, use_as, IsEarlier};
 
-use algorithm_limits::order::or_offence;
+use algorithm_limits::order::{is_before, or_offence};
 use tla_token::{Place, Refusal, Rule};
 use tla_tree::Name;
 
@@ -44,15 +44,9 @@ impl NameUse {
 
     /// Whether it is the same use of the same name, and no later than this place.
     pub fn is_earlier(&self, name: &Name, kind: Kind, place: Place) -> bool
-        ensures { IsTrue result → (self.now.kind ≡ kind) × (self.now.name ≡ name.now) × (is_before place (place_in self.now) ≡ false) }
+        ensures { IsTrue result ↔ IsEarlier self.now kind name.now place }
     {
-        if place.line < self.line || (place.line == self.line && place.col < self.col) {
-            return false;
-        }
-        if self.kind == kind {
-            return self.name.is(name);
-        }
-        false
+        self.kind == kind && self.name.is(name) && !is_before(place, self.place())
     }
 }
 

@@ -1,7 +1,7 @@
 //! An algorithm in memory with all that its translation is written from.
 #![tactic(auto)]
 
-pub mod draft;
+mod draft;
 pub mod variables;
 
 pub use draft::Draft;

@@ -2,7 +2,7 @@
 #![tactic(auto)]
 
 pub mod member;
-pub mod operands;
+mod operands;
 pub mod standard;
 pub mod strict;
 pub mod tests;

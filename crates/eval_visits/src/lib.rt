@@ -2,6 +2,6 @@
 #![tactic(auto)]
 
 pub mod gathered;
-pub mod keys;
+mod keys;
 pub mod visits;
 pub mod walk;

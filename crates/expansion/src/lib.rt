@@ -1,9 +1,9 @@
 //! Algorithms with their macro calls written out.
 #![tactic(auto)]
 
-pub mod algorithm;
+mod algorithm;
 pub mod bodies;
-pub mod macros;
-pub mod parts;
+mod macros;
+mod parts;
 
 pub use algorithm::expand;

@@ -1,10 +1,10 @@
 //! Traces explained: the text of their states, and why one stops before its end.
 #![tactic(auto)]
 
-pub mod befores;
-pub mod explaining;
-pub mod judge;
-pub mod pairs;
-pub mod verdicts;
+mod befores;
+mod explaining;
+mod judge;
+mod pairs;
+mod verdicts;
 
 pub use explaining::{Explained, Halt, explain};

@@ -1,7 +1,7 @@
 //! Reading names with their sets and the forms over them, sets in braces and of functions, and `IF`.
 #![tactic(auto)]
 
-pub mod read_bind;
+mod read_bind;
 pub mod read_brace;
 pub mod read_choice;
 pub mod read_function;

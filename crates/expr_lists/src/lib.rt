@@ -2,11 +2,11 @@
 #![tactic(auto)]
 
 pub mod read_arms;
-pub mod read_behind;
+mod read_behind;
 pub mod read_bullets;
 pub mod read_except;
-pub mod read_field;
+mod read_field;
 pub mod read_locals;
-pub mod read_path;
+mod read_path;
 pub mod read_record;
-pub mod read_setting;
+mod read_setting;

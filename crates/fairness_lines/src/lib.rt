@@ -1,13 +1,13 @@
 //! What Spec demands of fair steps: a formula for each demand, and its obligations.
 #![tactic(auto)]
 
-pub mod calls;
-pub mod demands;
-pub mod lines;
-pub mod numbers;
-pub mod obligations;
-pub mod reach;
-pub mod table;
+mod calls;
+mod demands;
+mod lines;
+mod numbers;
+mod obligations;
+mod reach;
+mod table;
 
 pub use lines::spec_of;
 pub use obligations::Obligation;

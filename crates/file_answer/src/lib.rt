@@ -2,4 +2,4 @@
 #![tactic(auto)]
 
 pub mod laws;
-pub mod one_tree;
+mod one_tree;

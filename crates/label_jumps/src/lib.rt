@@ -1,7 +1,7 @@
 //! Labels, jumps and calls where none may be, and second labels: where an algorithm is refused by them.
 #![tactic(auto)]
 
-pub mod bodies;
+mod bodies;
 pub mod jumps;
 pub mod labels;
 pub mod laws;

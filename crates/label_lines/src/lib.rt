@@ -3,7 +3,7 @@
 
 pub mod line;
 pub mod lines;
-pub mod walk;
+mod walk;
 
 pub use line::Line;
 pub use lines::map;

@@ -3,17 +3,17 @@
 
 pub mod around;
 pub mod due;
-pub mod gathered;
-pub mod general;
+mod gathered;
+mod general;
 pub mod known;
 pub mod labels;
 pub mod laws;
 pub mod macros;
-pub mod params;
+mod params;
 pub mod path;
-pub mod put;
+mod put;
 pub mod sides;
-pub mod steps;
+mod steps;
 pub mod truths;
 pub mod twice;
 pub mod walk;

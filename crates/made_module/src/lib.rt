@@ -1,9 +1,9 @@
 //! The module that `make` writes, and the counts that it tells, in code.
 #![tactic(auto)]
 
-pub mod counts;
-pub mod labels;
-pub mod text;
+mod counts;
+mod labels;
+mod text;
 
 pub use counts::count_lines;
 pub use labels::labels_in;

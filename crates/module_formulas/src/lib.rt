@@ -3,14 +3,14 @@
 #![tactic(auto)]
 
 pub mod done;
-pub mod forms;
+mod forms;
 pub mod init;
-pub mod labels;
+mod labels;
 pub mod model_values;
 pub mod names;
 pub mod next;
 pub mod numbers;
 pub mod process_sets;
-pub mod starts;
+mod starts;
 pub mod takers;
 pub mod ways;

@@ -2,17 +2,17 @@
 #![tactic(auto)]
 
 pub mod body;
-pub mod declared;
+mod declared;
 pub mod definition;
 pub mod depth;
-pub mod found;
-pub mod fresh;
+mod found;
+mod fresh;
 pub mod front;
 pub mod kept;
 pub mod modules;
-pub mod names;
+mod names;
 pub mod outside;
 pub mod passed;
-pub mod sight;
+mod sight;
 pub mod standard;
 pub mod unit;

@@ -2,8 +2,8 @@
 #![tactic(auto)]
 
 pub mod laws;
-pub mod outside;
+mod outside;
 pub mod read;
-pub mod refusal;
-pub mod translation;
-pub mod units;
+mod refusal;
+mod translation;
+mod units;

@@ -1,9 +1,9 @@
 //! A file in its parts: the walk over its bytes, what is read off it, and the rule by which a file is refused before its algorithm is read.
 #![tactic(auto)]
 
-pub mod algorithm;
-pub mod bars;
-pub mod beginning;
+mod algorithm;
+mod bars;
+mod beginning;
 pub mod line;
 pub mod offence;
 pub mod seek;

@@ -2,9 +2,9 @@
 #![tactic(auto)]
 
 pub mod formulas;
-pub mod lines;
+mod lines;
 pub mod module;
 pub mod ways;
-pub mod write_action;
+mod write_action;
 pub mod write_file;
 pub mod write_units;

@@ -1,8 +1,8 @@
 //! Sets of names as bits: the names of a fixed order, of which each has a number, and the numbers that are in.
 #![tactic(auto)]
 
-pub mod bits;
-pub mod order;
+mod bits;
+mod order;
 
 pub use bits::Bits;
 pub use order::Order;

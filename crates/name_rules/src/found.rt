@@ -1,6 +1,6 @@
 //! What was found: the first offence that rests on no name around, and the uses of names that are not bound.
 
-ghost use Rattle.std.specs.Prelude.{◌≡◌, List, length, drop, IsTrue, OnOk};
+ghost use Rattle.std.specs.Prelude.{◌≡◌, ◌<◌, ℕ, List, length, drop, slice_index_or, IsTrue, OnOk};
 ghost use Rattle.tla_token.specs.declared.rule.Refusal.{Refusal as PureRefusal};
 ghost use Rattle.tla_tree.specs.Tree.{seen_names};
 ghost use Rattle.tla_tree.specs.Shapes.{Shaped};
@@ -11,7 +11,8 @@ ghost use Rattle.pcal_tree.specs.Offences.{first};
 ghost use Rattle.pcal_tree.specs.NameUses.{Sight};
 ghost use Rattle.algorithm_answer.specs.Joined.{joined};
 ghost use Rattle.pcal_tree.specs.OffencesNames.{form_offences, root_offences, in_tree, in_parts, in_each, in_left};
-ghost use Rattle.declared_rules.specs.UsesTold.{used};
+ghost use Rattle.declared_rules.specs.declared.using.NameUse.{NameUse as PureUse};
+ghost use Rattle.declared_rules.specs.UsesTold.{used, IsEarlier};
 ghost use Rattle.name_rules.specs.Finding.{told, IsNew, Tells, TellsParts};
 
 use algorithm_limits::bound::Bound;
@@ -68,7 +69,8 @@ impl Found {
 
     // Whether one of the first uses that are kept is the same, and no later: whatever this use offends, that one does.
     fn is_told(&self, name: &Name, kind: Kind, place: Place) -> bool
-        ensures { IsTrue result → (s : Sight) → joined (told self.now s) (first (used kind name.now place s)) ≡ told self.now s }
+        ensures tells { IsTrue result → (s : Sight) → joined (told self.now s) (first (used kind name.now place s)) ≡ told self.now s }
+        ensures looks { (k : ℕ) (d : PureUse) → k < 16 → k < length self.now.free.keys → IsEarlier (slice_index_or self.now.free.keys k d) kind name.now place → IsTrue result }
     {
         let uses = self.free.as_slice();
         for i in 0..uses.len() {

@@ -59,6 +59,7 @@ pub fn put_written(alloc: Global, told: &mut Vec<u8>, text: &[u8]) -> Result<(),
     }
 }
 
+// A file with the translation that it has: read, and written into it again.
 fn file_written(alloc: Global, text: &[u8]) -> Result<Vec<u8>, Stop>
     requires { length text.now < 2 ^ 29 }
 {

@@ -4,6 +4,6 @@
 pub mod algorithm;
 pub mod laws;
 pub mod mark;
-pub mod syntax;
+mod syntax;
 
 pub use syntax::Syntax;

@@ -2,7 +2,7 @@
 #![tactic(auto)]
 
 pub mod localising;
-pub mod priming;
+mod priming;
 
 pub use localising::{Local, Own, localise, with_names, with_own};
 pub use priming::prime;

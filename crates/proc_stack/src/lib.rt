@@ -1,10 +1,10 @@
 //! The assignments of jumps, calls and returns, put in a pool.
 #![tactic(auto)]
 
-pub mod callee;
-pub mod calls;
-pub mod frame;
-pub mod moves;
+mod callee;
+mod calls;
+mod frame;
+mod moves;
 mod pieces;
 mod saving;
 

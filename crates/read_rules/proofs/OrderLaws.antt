@@ -4,8 +4,7 @@ use Rattle.std.proofs.lemmas.List.{drop_more, drop_all, take_all}
 use Rattle.std.proofs.lemmas.List.Folds.{list_any-append}
 use Rattle.tla_token.specs.declared.rule.Refusal.{Refusal}
 use Rattle.tla_token.specs.Signs.{is_among}
-use Rattle.tla_tree.specs.Tree.{Word, Tree, root_place}
-use Rattle.tla_tree.specs.Pool.{Entry, at, tree_in}
+use Rattle.tla_tree.specs.Tree.{Word, Tree}
 use Rattle.pcal_tree.specs.declared.algorithm.Declaration.{Declaration}
 use Rattle.pcal_tree.specs.InMemory.{start_at, declarations_at}
 use Rattle.pcal_tree.specs.Offences.{first}
@@ -21,11 +20,6 @@ use Rattle.read_rules.specs.declared.order.Known.{Known}
 use Rattle.read_rules.specs.NumbersIn.{declared_in, AreLevels}
 use Rattle.read_rules.specs.Order.{Knows, behind}
 use Rattle.read_rules.proofs.NumberLaws.{declared_more}
-
--- ---- an expression's place
-
-pub place_told : (ts : List Tree) (e : ℕ) (n : Entry) → at ts e ≡ tree_in ts n → n.place ≡ root_place (at ts e)
-place_told ts e n is = ap root_place (sym is)
 
 -- ---- words that are declared one after another
 

@@ -2,7 +2,7 @@
 #![tactic(auto)]
 
 pub mod bulleted;
-pub mod calls;
-pub mod fairness;
+mod calls;
+mod fairness;
 pub mod order;
 pub mod titles;

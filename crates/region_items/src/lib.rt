@@ -5,4 +5,4 @@ pub mod items;
 pub mod names;
 pub mod opening;
 pub mod operands;
-pub mod plain_items;
+mod plain_items;

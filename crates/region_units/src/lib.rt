@@ -1,7 +1,7 @@
 //! The units of a translation, each read by its first token.
 #![tactic(auto)]
 
-pub mod defined;
-pub mod own;
+mod defined;
+mod own;
 pub mod units;
-pub mod words;
+mod words;

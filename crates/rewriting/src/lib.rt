@@ -1,8 +1,8 @@
 //! Rewriting a file's algorithm in the other syntax: the algorithm read of its file, and the file that a rewriting gives.
 #![tactic(auto)]
 
-pub mod read_file;
-pub mod write_file;
+mod read_file;
+mod write_file;
 
 pub use read_file::{read_parts, rewrite_text};
 pub use write_file::rewritten;

@@ -1,15 +1,15 @@
 //! What a run reads beside its module, in code: files of constants, scripts, and traces.
 #![tactic(auto)]
 
-pub mod config;
-pub mod items;
-pub mod lines;
-pub mod parts;
-pub mod scan;
+mod config;
+mod items;
+mod lines;
+mod parts;
+mod scan;
 pub mod script;
 pub mod state;
 pub mod stops;
-pub mod trace;
+mod trace;
 
 pub use config::read_config;
 pub use script::{Script, Turn, read_script};

@@ -1,30 +1,30 @@
 //! Runs of whole files: a module, the values of its constants, and a script.
 #![tactic(auto)]
 
-pub mod answer;
+mod answer;
 pub mod beside;
-pub mod command;
-pub mod constants;
-pub mod declarations;
-pub mod definitions;
-pub mod files;
-pub mod following;
-pub mod grafts;
+mod command;
+mod constants;
+mod declarations;
+mod definitions;
+mod files;
+mod following;
+mod grafts;
 pub mod laws;
-pub mod locals;
-pub mod made;
-pub mod making;
-pub mod parts;
-pub mod places;
-pub mod preparing;
-pub mod program;
+mod locals;
+mod made;
+mod making;
+mod parts;
+mod places;
+mod preparing;
+mod program;
 pub mod reading;
 pub mod source;
-pub mod standing;
-pub mod statements;
-pub mod whole;
+mod standing;
+mod statements;
+mod whole;
 pub mod words;
-pub mod writing;
+mod writing;
 
 pub use answer::{Ended, Names, RunAnswer};
 pub use command::run_out;

@@ -3,6 +3,6 @@
 
 pub mod members;
 pub mod record_sets;
-pub mod rows;
+mod rows;
 pub mod spaces;
 pub mod subsets;

@@ -1,10 +1,10 @@
 //! The statements of one step, by a list of choices.
 #![tactic(auto)]
 
-pub mod binds;
+mod binds;
 pub mod going;
-pub mod simple;
-pub mod statements;
+mod simple;
+mod statements;
 
 pub use going::{End, Going};
 pub use statements::statements as flow;

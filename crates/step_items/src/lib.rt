@@ -2,11 +2,11 @@
 #![tactic(auto)]
 
 pub mod desk;
-pub mod expressions;
-pub mod moves;
+mod expressions;
+mod moves;
 pub mod partner;
-pub mod simple;
-pub mod statements;
+mod simple;
+mod statements;
 pub mod step;
 
 pub use desk::Desk;

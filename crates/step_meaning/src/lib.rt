@@ -1,19 +1,19 @@
 //! One step of a run: a process goes from the label that its `pc` names to a next one, by a list of choices.
 #![tactic(auto)]
 
-pub mod globals;
-pub mod halt;
+mod globals;
+mod halt;
 pub mod identified;
-pub mod locals;
-pub mod origin;
-pub mod puts;
-pub mod ready;
+mod locals;
+mod origin;
+mod puts;
+mod ready;
 pub mod routines;
 pub mod spread;
-pub mod stage;
+mod stage;
 pub mod stands;
-pub mod starting;
-pub mod taking;
+mod starting;
+mod taking;
 pub mod values;
 
 pub use halt::Halt;

@@ -1,28 +1,28 @@
 //! What a run stands on, and what a step does with a state: expressions, assignments, jumps, calls and returns.
 #![tactic(auto)]
 
-pub mod actor;
-pub mod apart;
-pub mod assign;
-pub mod calls;
-pub mod definitions;
-pub mod entries;
+mod actor;
+mod apart;
+mod assign;
+mod calls;
+mod definitions;
+mod entries;
 pub mod frames;
-pub mod gather;
-pub mod identity;
+mod gather;
+mod identity;
 pub mod jumps;
 pub mod laws;
-pub mod parts;
-pub mod processes;
-pub mod program;
+mod parts;
+mod processes;
+mod program;
 pub mod reads;
-pub mod returns;
-pub mod runner;
-pub mod setting;
-pub mod settings;
-pub mod sight;
+mod returns;
+mod runner;
+mod setting;
+mod settings;
+mod sight;
 pub mod state_laws;
-pub mod values;
+mod values;
 
 pub use actor::{Actor, Named};
 pub use assign::assigned;

@@ -2,7 +2,7 @@
 #![tactic(auto)]
 
 pub mod laws;
-pub mod routine;
+mod routine;
 pub mod target;
 pub mod walk;
 

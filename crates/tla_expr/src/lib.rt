@@ -2,14 +2,14 @@
 #![tactic(auto)]
 
 pub mod laws;
-pub mod read_braces;
-pub mod read_expression;
-pub mod read_first;
-pub mod read_knot;
-pub mod read_listed;
-pub mod read_member;
+mod read_braces;
+mod read_expression;
+mod read_first;
+mod read_knot;
+mod read_listed;
+mod read_member;
 pub mod read_parts;
-pub mod read_squares;
+mod read_squares;
 
 pub use read_expression::read_expr;
 pub use read_parts::{read_expression_at, read_expressions_at};

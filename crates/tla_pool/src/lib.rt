@@ -4,9 +4,9 @@
 mod done;
 pub mod form;
 pub mod graft;
-pub mod node;
-pub mod pool;
-pub mod seen;
+mod node;
+mod pool;
+mod seen;
 
 pub use node::Node;
 pub use pool::Pool;

@@ -3,14 +3,14 @@
 
 pub mod bytes;
 pub mod fault;
-pub mod feeding;
-pub mod kind;
+mod feeding;
+mod kind;
 pub mod laws;
 pub mod own;
-pub mod part;
+mod part;
 pub mod place;
 pub mod rule;
-pub mod scan;
+mod scan;
 pub mod sign;
 pub mod token;
 pub mod word;

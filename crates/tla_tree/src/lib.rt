@@ -2,8 +2,8 @@
 #![tactic(auto)]
 
 pub mod laws;
-pub mod name;
-pub mod op;
+mod name;
+mod op;
 
 pub use name::{Name, NameList, PlacedName, Text};
 pub use op::{Binder, Op, rank};

@@ -19,7 +19,6 @@ mod ValueRows
 mod RowsSeen
 mod RowsDefs
 mod RowsStandard
-pub mod StateLaws
 pub mod DefsGrown
 pub mod Facts
 pub mod Relations

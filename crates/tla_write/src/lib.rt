@@ -1,6 +1,6 @@
 //! The text of expressions, written from a pool.
 #![tactic(auto)]
 
-pub mod write;
+mod write;
 
 pub use write::{append_expr, append_operand, write_expr, write_operand};

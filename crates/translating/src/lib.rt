@@ -1,11 +1,11 @@
 //! A module with the translation of its algorithm.
 #![tactic(auto)]
 
-pub mod counts;
+mod counts;
 pub mod options;
-pub mod placed;
-pub mod region_text;
-pub mod text;
+mod placed;
+mod region_text;
+mod text;
 
 pub use counts::{Counts, counts_of};
 pub use options::Options;

@@ -2,7 +2,7 @@
 #![tactic(auto)]
 
 pub mod give;
-pub mod giver;
+mod giver;
 pub mod naming;
-pub mod units;
-pub mod words;
+mod units;
+mod words;

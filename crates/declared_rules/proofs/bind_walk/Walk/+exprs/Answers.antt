@@ -55,4 +55,4 @@ pub parts-returns-then-ends_in_literal : goal.parts-returns-then-ends_in_literal
 parts-returns-then-ends_in_literal t c = λ K.
     let e = slice_index_or c.args.parts.now c.loop-i.i 0 in
     parts_cut c.args.sight.now K c.args.self.now c.loop-i.self c.expr.new.self (form_of c.args.form.now) c.args.pool.now c.args.parts.now c.loop-i.i e (get_or_default c.args.parts.now c.loop-i.i 0 e c.loop-i-test.true) c.loop-i-test.true
-    c.requires.shaped (c.in_ok-expr.ensures K) (c.ends_in_literal.ensures c.if-ends_in_literal.true) (c.loop-i.invariant K)
+    c.requires.shaped (c.in_ok-expr.ensures K) (c.ends_in_literal.ensures.0 c.if-ends_in_literal.true).1 (c.loop-i.invariant K)

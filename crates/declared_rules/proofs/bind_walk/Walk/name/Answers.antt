@@ -14,7 +14,7 @@ returns-then-is_told c = λ K.
     let n : Name = record { word = c.name.inside.name; place = c.name.inside.place } in
     subst (λ (n : Name). Adds g K c.args.self.now k (λ ms r. rebound ms r n)) c.name.view_is
     (name_adds g K c.args.self.now k k n c.has-bound.result c.rebinds.result c.has-bound.ensures c.rebinds.ensures c.offence.ensures
-    (subst (λ (m : Name). Gains k k (λ ms s. rebound ms s m)) (sym c.name.view_is) (c.is_told.ensures c.if-is_told.true)))
+    (subst (λ (m : Name). Gains k k (λ ms s. rebound ms s m)) (sym c.name.view_is) (c.is_told.ensures.tells c.if-is_told.true)))
 
 pub returns : goal.returns
 returns c =

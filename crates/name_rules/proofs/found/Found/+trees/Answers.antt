@@ -41,7 +41,7 @@ parts-returns-then-ends_in_literal t c =
     let e = slice_index_or c.args.parts.now c.loop-i.i 0 in
     parts_cut c.args.self.now c.loop-i.self c.expr.new.self (form_of c.args.form.now) c.args.pool.now c.args.parts.now c.loop-i.i e c.is_last_of_member-right.result
     (get_or_default c.args.parts.now c.loop-i.i 0 e c.loop-i-test.true) c.loop-i-test.true
-    c.requires.shaped c.is_last_of_member-right.ensures c.in_ok-expr.ensures (c.ends_in_literal.ensures c.if-ends_in_literal.true) c.loop-i.invariant
+    c.requires.shaped c.is_last_of_member-right.ensures c.in_ok-expr.ensures (c.ends_in_literal.ensures.0 c.if-ends_in_literal.true).1 c.loop-i.invariant
 
 pub parts-loop-i-init : goal.parts-loop-i-init
 parts-loop-i-init t c = parts_start c.args.self.now (form_of c.args.form.now) c.args.pool.now c.args.parts.now

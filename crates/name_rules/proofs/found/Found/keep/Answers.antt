@@ -21,7 +21,7 @@ returns-then-has c =
 
 pub returns-then-is_told : goal.returns-then-is_told
 returns-then-is_told c =
-    tells_again c.args.self.now c.args.kind c.args.name.now c.args.place (sym c.has.ensures ∙ c.if-has.false) (c.is_told.ensures c.if-is_told.true)
+    tells_again c.args.self.now c.args.kind c.args.name.now c.args.place (sym c.has.ensures ∙ c.if-has.false) (c.is_told.ensures.tells c.if-is_told.true)
 
 pub returns : goal.returns
 returns c =
